@@ -1,0 +1,83 @@
+-- What the tests over lists and numbers decide, so that a conjunction of tests is read as a list of facts. Assumes nothing.
+use mathlib.Core.Path.{_≡_, refl, sym, _∙_}
+use mathlib.Core.Logic.{_↔_, _⊎_, inl, inr}
+use mathlib.Core.Bool.{Bool, true, false, not, _&&_, _||_, true≢false, false≢true}
+use mathlib.Core.List.{List, [], _∷_, List·Memᴰ·head, List·Memᴰ·tail, List·Memᴰ·not-nil}
+use Prim.Native.Nat.{ℕ, _≤_, _<_}
+use lib.Dec.{eqb, leb, ltb}
+use borrow.Author.Tests.{eqb-true, eq-eqb, leb-true, le-leb, ltb-true, lt-ltb}
+use Rattle.lists.specs.Lists.{Mem, every, any, distinct, Distinct}
+
+-- a test decides a fact
+abbrev pub Decides : Bool → Type 0 → Type 0
+Decides t P = (t ≡ true) ↔ P
+
+pub number-is : (a b : ℕ) → Decides (eqb a b) (a ≡ b)
+number-is a b = (eqb-true a b, eq-eqb a b)
+
+pub at-most : (a b : ℕ) → Decides (leb a b) (a ≤ b)
+at-most a b = (leb-true a b, le-leb a b)
+
+pub less : (a b : ℕ) → Decides (ltb a b) (a < b)
+less a b = (ltb-true a b, lt-ltb a b)
+
+module _ {P Q : Type 0} where
+  pub meaning : {t : Bool} → Decides t P → (P → Q) → (Q → P) → Decides t Q
+  meaning d f g = (λ h. f (d .0 h), λ q. d .1 (g q))
+
+  pub both : {s t : Bool} → Decides s P → Decides t Q → Decides (s && t) (P × Q)
+  both {s} {t} = go s t
+    where
+      go : (s t : Bool) → Decides s P → Decides t Q → Decides (s && t) (P × Q)
+      go true true d e = (λ h. (d .0 refl, e .0 refl), λ h. refl)
+      go true false d e = (λ h. absurd (false≢true h), λ h. e .1 (h .1))
+      go false t d e = (λ h. absurd (false≢true h), λ h. d .1 (h .0))
+
+  pub if-then : {s t : Bool} → Decides s P → Decides t Q → Decides (not s || t) (P → Q)
+  if-then {s} {t} = go s t
+    where
+      go : (s t : Bool) → Decides s P → Decides t Q → Decides (not s || t) (P → Q)
+      go true t d e = (λ h p. e .0 h, λ f. e .1 (f (d .0 refl)))
+      go false t d e = (λ h p. absurd (false≢true (d .1 p)), λ f. refl)
+
+pub denied : {t : Bool} {P : Type 0} → Decides t P → Decides (not t) (P → ⊥)
+denied {t} {P} = go t
+  where
+    go : (t : Bool) → Decides t P → Decides (not t) (P → ⊥)
+    go true d = (λ h p. false≢true h, λ f. absurd (f (d .0 refl)))
+    go false d = (λ h p. false≢true (d .1 p), λ f. refl)
+
+module _ {A : Type 0} {P : A → Type 0} {p : A → Bool} where
+  -- a test holds of every member
+  pub for-each : ((x : A) → Decides (p x) (P x)) → (xs : List A) → Decides (every p xs) ((x : A) → Mem x xs → P x)
+  for-each d [] = (λ h x m. absurd (List·Memᴰ·not-nil m), λ f. refl)
+  for-each d (x ∷ xs) =
+      meaning (both (d x) (for-each d xs)) (λ h. apart (h .0) (h .1)) (λ f. (f x (List·Memᴰ·head refl), λ y m. f y (List·Memᴰ·tail m)))
+    where
+      apart : P x → ((y : A) → Mem y xs → P y) → (y : A) → Mem y (x ∷ xs) → P y
+      apart here rest y (List·Memᴰ·head e) = rw e here
+      apart here rest y (List·Memᴰ·tail m) = rest y m
+
+  -- a test holds of some member
+  pub for-some : ((x : A) → Decides (p x) (P x)) → (xs : List A) → Decides (any p xs) ((x : A) × Mem x xs × P x)
+  for-some d [] = (λ h. absurd (false≢true h), λ f. absurd (List·Memᴰ·not-nil (f .1)))
+  for-some d (x ∷ xs) = go (p x) (d x) (for-some d xs)
+    where
+      found : (y : A) → Mem y (x ∷ xs) → P y → P x ⊎ ((z : A) × Mem z xs × P z)
+      found y (List·Memᴰ·head e) q = inl (rw e at q)
+      found y (List·Memᴰ·tail m) q = inr (y, m, q)
+
+      go : (t : Bool) → Decides t (P x) → Decides (any p xs) ((y : A) × Mem y xs × P y)
+          → Decides (t || any p xs) ((y : A) × Mem y (x ∷ xs) × P y)
+      go true e r = (λ h. (x, List·Memᴰ·head refl, e .0 refl), λ f. refl)
+      go false e r =
+          (λ h. let s = r .0 h in (s .0, List·Memᴰ·tail (s .1), s .2),
+            λ f. elim (found (f .0) (f .1) (f .2)) [ inl q ↦ absurd (false≢true (e .1 q)) | inr s ↦ r .1 s ])
+
+pub is-member : (c : ℕ) (xs : List ℕ) → Decides (any (eqb c) xs) (Mem c xs)
+is-member c xs =
+    meaning (for-some (λ x. number-is c x) xs) (λ s. rw (s .2) (s .1)) (λ m. (c, m, refl))
+
+pub once : (xs : List ℕ) → Decides (distinct xs) (Distinct xs)
+once [] = (λ h. tt, λ u. refl)
+once (x ∷ xs) = both (denied (is-member x xs)) (once xs)

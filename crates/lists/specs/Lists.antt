@@ -1,0 +1,60 @@
+-- The words about lists in which the rules are written. Nothing here knows of a heap.
+use mathlib.Core.Bool.{Bool, true, false, not, _&&_, _||_, cond}
+use mathlib.Core.List.{List, [], _∷_, List·Memᴰ}
+use Prim.Native.Nat.{ℕ, _+_}
+use lib.Dec.{eqb}
+
+module _ {A : Type 0} where
+  abbrev pub Mem : A → List A → Type 0
+  Mem x xs = List·Memᴰ x xs
+
+  -- the first and the last, or d of an empty list
+  abbrev pub headOr : A → List A → A
+  headOr d [] = d
+  headOr d (x ∷ xs) = x
+
+  abbrev pub lastOr : A → List A → A
+  lastOr d [] = d
+  lastOr d (x ∷ xs) = lastOr x xs
+
+  -- all but the last
+  abbrev pub butLast : List A → List A
+  butLast [] = []
+  butLast (x ∷ []) = []
+  butLast (x ∷ y ∷ ys) = x ∷ butLast (y ∷ ys)
+
+  abbrev pub every : (A → Bool) → List A → Bool
+  every p [] = true
+  every p (x ∷ xs) = p x && every p xs
+
+  abbrev pub any : (A → Bool) → List A → Bool
+  any p [] = false
+  any p (x ∷ xs) = p x || any p xs
+
+  -- those for which the test holds, in their order
+  abbrev pub keep : (A → Bool) → List A → List A
+  keep p [] = []
+  keep p (x ∷ xs) = cond (p x) (x ∷ keep p xs) (keep p xs)
+
+  -- the sum of a figure over a list
+  abbrev pub total : (A → ℕ) → List A → ℕ
+  total f [] = 0
+  total f (x ∷ xs) = f x + total f xs
+
+  -- what stands before and after the first for which the test holds
+  abbrev pub upTo : (A → Bool) → List A → List A
+  upTo p [] = []
+  upTo p (x ∷ xs) = cond (p x) [] (x ∷ upTo p xs)
+
+  abbrev pub past : (A → Bool) → List A → List A
+  past p [] = []
+  past p (x ∷ xs) = cond (p x) xs (past p xs)
+
+  -- no member stands twice
+  abbrev pub Distinct : List A → Type 0
+  Distinct [] = Unit {0}
+  Distinct (x ∷ xs) = (Mem x xs → ⊥) × Distinct xs
+
+abbrev pub distinct : List ℕ → Bool
+distinct [] = true
+distinct (x ∷ xs) = not (any (eqb x) xs) && distinct xs

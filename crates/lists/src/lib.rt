@@ -1,0 +1,1 @@
+// No code: the list vocabulary of the rules (specs/) and its laws (proofs/).

@@ -1,0 +1,82 @@
+-- `table::valid` is the test of a table, size by size. Assumes nothing.
+use Prim.Native.Nat.{ℕ, suc, _+_, _≤_, _<_, _-_}
+use native.Mathlib.Omega.{arith}
+use native.Mathlib.Numerals.{add-one}
+use mathlib.Core.Path.{_≡_, refl, sym, _∙_}
+use borrow.Author.Needs.{needs}
+use lib.ListN.{length, getD, drop}
+use Rattle.record.specs.Table.{goesUp}
+use Rattle.record.proofs.TableSteps.{valid-none, valid-long, valid-first, valid-rest, up-uneven, up-falls, up-goes, up-ends}
+use Rattle.record.proofs.table.valid.Statement.{statement}
+use Rattle.record.proofs.table.valid.Tie as tie
+
+abbrev Inv-loop : tie.InvT-loop
+Inv-loop table before₀ i₀ before i = goesUp before (drop i table) ≡ goesUp 24 (drop 1 table)
+
+abbrev μ-loop : tie.MeasureT-loop
+μ-loop table before₀ i₀ before i = length table - i
+
+returns : tie.Need-returns Inv-loop μ-loop
+returns c = sym (valid-none (c .before .args .table .now) (c .if1 .taken))
+
+returns-2 : tie.Need-returns-2 Inv-loop μ-loop
+returns-2 c = sym (valid-long (c .before .before .args .table .now) (omega arith) (c .if2 .taken))
+
+returns-3 : tie.Need-returns-3 Inv-loop μ-loop
+returns-3 c =
+    sym (valid-first (c .before .before .before .before .args .table .now) (omega arith) (omega arith) (c .if3 .taken))
+
+returns-4 : tie.Need-returns-4 Inv-loop μ-loop
+returns-4 c =
+    let l = c .before .before .before in
+    let t = l .before .before .before .before .before .args .table .now in
+    sym
+    (valid-rest t (omega arith) (omega arith) (l .before .if3 .left)
+      ∙ sym (l .loop .inv)
+      ∙ up-uneven t (l .loop .i) (l .loop .before) (c .before .before .loop-test .taken) (c .if4 .taken))
+
+returns-5 : tie.Need-returns-5 Inv-loop μ-loop
+returns-5 c =
+    let l = c .before .before .before .before in
+    let t = l .before .before .before .before .before .args .table .now in
+    sym
+    (valid-rest t (omega arith) (omega arith) (l .before .if3 .left)
+      ∙ sym (l .loop .inv)
+      ∙ up-falls t (l .loop .i) (l .loop .before) (c .before .before .before .loop-test .taken) (c .before .if4 .left) (c .if5 .taken))
+
+loop-again : tie.Need-loop-again Inv-loop μ-loop
+loop-again c =
+    let l = c .before .before .before .before in
+    let t = l .before .before .before .before .before .args .table .now in
+    rw add-one
+    (sym (up-goes t (l .loop .i) (l .loop .before) (c .before .before .before .loop-test .taken) (c .before .if4 .left) (c .if5 .left))
+      ∙ l .loop .inv)
+
+returns-6 : tie.Need-returns-6 Inv-loop μ-loop
+returns-6 c =
+    let l = c .before in
+    let t = l .before .before .before .before .before .args .table .now in
+    sym
+    (valid-rest t (omega arith) (omega arith) (l .before .if3 .left)
+      ∙ sym (l .loop .inv)
+      ∙ up-ends t (l .loop .i) (l .loop .before) (c .loop-test .left))
+
+pub valid-spec : {M : Type 1} → statement M
+valid-spec =
+    tie.close
+    (tie.spec
+    Inv-loop
+    μ-loop
+    returns
+    returns-2
+    (λ c. omega arith)
+    returns-3
+    (λ c. refl)
+    (λ c. search needs)
+    (λ c. omega arith)
+    returns-4
+    returns-5
+    (λ c. omega arith)
+    (λ c. omega arith)
+    loop-again
+    returns-6)

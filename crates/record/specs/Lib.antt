@@ -1,0 +1,3 @@
+pub mod Heap
+pub mod Answers
+pub mod Table

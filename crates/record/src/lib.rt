@@ -1,0 +1,5 @@
+// The record of a heap, what calls answer, and the bin table: each in its own file.
+// No word of the region is read or written here.
+pub mod answers;
+pub mod heap;
+pub mod table;

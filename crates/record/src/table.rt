@@ -1,0 +1,80 @@
+// The bin table, lent as a slice: whether it is valid, how many bins the small array has, and the bin of a size.
+// Which chunks are in a bin is not known here.
+ghost use mathlib.Core.Path.{_≡_};
+ghost use Rattle.record.specs.Table.{validTable, smallBins, small, TakenBy};
+
+// The bin of a size, or none where every bin is for larger ones.
+pub enum Binned {
+    Bin(usize),
+    NoBin,
+}
+
+pub fn valid(table: &[u32]) -> bool
+    ensures { λ r. ⌜ r ≡ validTable (now (table .entry)) ⌝ }
+{
+    if table.len() == 0 {
+        return false;
+    }
+    if 32 < table.len() {
+        return false;
+    }
+    if table[0] != 24 {
+        return false;
+    }
+    let mut before = 24;
+    let mut i = 1;
+    while i < table.len() {
+        let size = table[i];
+        if size % 8 != 0 {
+            return false;
+        }
+        if size <= before {
+            return false;
+        }
+        before = size;
+        i += 1;
+    }
+    true
+}
+
+// m: the bins 24, 32, 40 and so on without a gap, the last of them left out.
+pub fn small_bins(table: &[u32]) -> usize
+    ensures { λ r. ⌜ r ≡ smallBins (now (table .entry)) ⌝ }
+{
+    let mut next: u64 = 32;
+    let mut i = 1;
+    while i < table.len() {
+        if table[i] as u64 != next {
+            return i - 1;
+        }
+        next += 8;
+        i += 1;
+    }
+    i - 1
+}
+
+// Whether the size is one of the small array's.
+pub fn is_small(table: &[u32], size: u32) -> bool
+    ensures { λ r. ⌜ r ≡ small (now (table .entry)) size ⌝ }
+{
+    let m = small_bins(table);
+    let eights = (size / 8) as usize;
+    if eights < 3 {
+        return true;
+    }
+    eights - 3 < m
+}
+
+// The last bin whose size is not above this one, found from the top of the table down.
+pub fn bin_of(table: &[u32], size: u32) -> Binned
+    ensures { λ r. ⌜ TakenBy (now (table .entry)) size r ⌝ }
+{
+    let mut i = table.len();
+    while 0 < i {
+        i -= 1;
+        if table[i] <= size {
+            return Binned::Bin(i);
+        }
+    }
+    Binned::NoBin
+}
