@@ -3,10 +3,14 @@ use mathlib.Core.Path.{_≡_, refl, sym, _∙_}
 use mathlib.Core.Logic.{_↔_, _⊎_, inl, inr}
 use mathlib.Core.Bool.{Bool, true, false, not, _&&_, _||_, true≢false, false≢true}
 use mathlib.Core.List.{List, [], _∷_, List·Memᴰ·head, List·Memᴰ·tail, List·Memᴰ·not-nil}
-use Prim.Native.Nat.{ℕ, _≤_, _<_}
+use Prim.Native.Nat.{ℕ, zero, suc, _+_, _≤_, _<_}
+use native.Mathlib.Decide.{ℕ-discrete}
+use native.Mathlib.Omega.{arith}
 use lib.Dec.{eqb, leb, ltb}
 use borrow.Author.Tests.{eqb-true, eq-eqb, leb-true, le-leb, ltb-true, lt-ltb}
-use Rattle.lists.specs.Lists.{Mem, every, any, distinct, Distinct}
+use lib.ListN.{drop, getD}
+use lib.Seq.{drop-nil}
+use Rattle.lists.specs.Lists.{Mem, every, any, distinct, Distinct, numbersFrom}
 
 -- a test decides a fact
 abbrev pub Decides : Bool → Type 0 → Type 0
@@ -47,6 +51,14 @@ denied {t} {P} = go t
     go true d = (λ h p. false≢true h, λ f. absurd (f (d .0 refl)))
     go false d = (λ h p. false≢true (d .1 p), λ f. refl)
 
+-- what does not hold fails its test
+pub not-so : {t : Bool} {P : Type 0} → Decides t P → (P → ⊥) → t ≡ false
+not-so {t} {P} = go t
+  where
+    go : (t : Bool) → Decides t P → (P → ⊥) → t ≡ false
+    go true d n = absurd (n (d .0 refl))
+    go false d n = refl
+
 module _ {A : Type 0} {P : A → Type 0} {p : A → Bool} where
   -- a test holds of every member
   pub for-each : ((x : A) → Decides (p x) (P x)) → (xs : List A) → Decides (every p xs) ((x : A) → Mem x xs → P x)
@@ -70,9 +82,10 @@ module _ {A : Type 0} {P : A → Type 0} {p : A → Bool} where
       go : (t : Bool) → Decides t (P x) → Decides (any p xs) ((y : A) × Mem y xs × P y)
           → Decides (t || any p xs) ((y : A) × Mem y (x ∷ xs) × P y)
       go true e r = (λ h. (x, List·Memᴰ·head refl, e .0 refl), λ f. refl)
-      go false e r =
-          (λ h. let s = r .0 h in (s .0, List·Memᴰ·tail (s .1), s .2),
-            λ f. elim (found (f .0) (f .1) (f .2)) [ inl q ↦ absurd (false≢true (e .1 q)) | inr s ↦ r .1 s ])
+      go false e r = (
+        λ h. let s = r .0 h in (s .0, List·Memᴰ·tail (s .1), s .2),
+        λ f. elim (found (f .0) (f .1) (f .2)) [ inl q ↦ absurd (false≢true (e .1 q)) | inr s ↦ r .1 s ],
+      )
 
 pub is-member : (c : ℕ) (xs : List ℕ) → Decides (any (eqb c) xs) (Mem c xs)
 is-member c xs =
@@ -81,3 +94,44 @@ is-member c xs =
 pub once : (xs : List ℕ) → Decides (distinct xs) (Distinct xs)
 once [] = (λ h. tt, λ u. refl)
 once (x ∷ xs) = both (denied (is-member x xs)) (once xs)
+
+pub itself : (t : Bool) → Decides t (t ≡ true)
+itself t = (λ h. h, λ h. h)
+
+-- a test holds of each of the n numbers from i on
+module _ {P : ℕ → Type 0} {p : ℕ → Bool} (d : (j : ℕ) → Decides (p j) (P j)) where
+  for-numbers : (n i : ℕ) → Decides (every p (numbersFrom i n)) ((j : ℕ) → i ≤ j → j < i + n → P j)
+  for-numbers zero i = (λ h j lo hi. absurd (omega arith), λ f. refl)
+  for-numbers (suc n) i =
+      meaning (both (d i) (for-numbers n (suc i)))
+      (λ h j lo hi. from (h .0) (h .1) j (ℕ-discrete j i) lo hi)
+      (λ f. (f i (omega arith) (omega arith), λ j lo hi. f j (omega arith) (omega arith)))
+    where
+      from : P i → ((j : ℕ) → suc i ≤ j → j < suc i + n → P j) → (j : ℕ) → Dec (j ≡ i) → i ≤ j → j < i + suc n → P j
+      from here rest j (yes e) lo hi = rw e here
+      from here rest j (no ne) lo hi = rest j (omega arith) (omega arith)
+
+  pub for-below : (n : ℕ) → Decides (every p (numbersFrom 0 n)) ((j : ℕ) → j < n → P j)
+  for-below n =
+      meaning (for-numbers n 0) (λ f j h. f j (omega arith) (omega arith)) (λ f j lo hi. f j (omega arith))
+
+-- from place n of a list on there is nothing but 0
+pub zeros-from : (n : ℕ) (l : List ℕ)
+    → Decides (every (λ v. eqb v 0) (drop n l)) ((i : ℕ) → n ≤ i → getD l i 0 ≡ 0)
+zeros-from n [] = meaning (for-each (λ v. number-is v 0) (drop n [])) (λ f i h. refl) (λ f v m. none m)
+  where
+    none : {v : ℕ} → Mem v (drop n []) → v ≡ 0
+    none m = absurd (List·Memᴰ·not-nil (rw drop-nil at m))
+zeros-from zero (v ∷ l) =
+    meaning (both (number-is v 0) (zeros-from 0 l)) (λ h. at (h .0) (h .1))
+    (λ f. (f 0 (omega arith), λ i h. f (suc i) (omega arith)))
+  where
+    at : v ≡ 0 → ((i : ℕ) → 0 ≤ i → getD l i 0 ≡ 0) → (i : ℕ) → 0 ≤ i → getD (v ∷ l) i 0 ≡ 0
+    at here rest zero h = here
+    at here rest (suc i) h = rest i (omega arith)
+zeros-from (suc n) (v ∷ l) =
+    meaning (zeros-from n l) at (λ f i h. f (suc i) (omega arith))
+  where
+    at : ((i : ℕ) → n ≤ i → getD l i 0 ≡ 0) → (i : ℕ) → suc n ≤ i → getD (v ∷ l) i 0 ≡ 0
+    at rest zero h = absurd (omega arith)
+    at rest (suc i) h = rest i (omega arith)

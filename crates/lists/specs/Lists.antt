@@ -1,7 +1,7 @@
 -- The words about lists in which the rules are written. Nothing here knows of a heap.
 use mathlib.Core.Bool.{Bool, true, false, not, _&&_, _||_, cond}
-use mathlib.Core.List.{List, [], _∷_, List·Memᴰ}
-use Prim.Native.Nat.{ℕ, _+_}
+use mathlib.Core.List.{List, [], _∷_, _++_, List·Memᴰ}
+use Prim.Native.Nat.{ℕ, zero, suc, _+_}
 use lib.Dec.{eqb}
 
 module _ {A : Type 0} where
@@ -58,3 +58,13 @@ module _ {A : Type 0} where
 abbrev pub distinct : List ℕ → Bool
 distinct [] = true
 distinct (x ∷ xs) = not (any (eqb x) xs) && distinct xs
+
+-- the n numbers from i on
+abbrev pub numbersFrom : ℕ → ℕ → List ℕ
+numbersFrom i zero = []
+numbersFrom i (suc n) = i ∷ numbersFrom (suc i) n
+
+-- the lists at the numbers of `is`, one after the other
+abbrev pub gathered : (ℕ → List ℕ) → List ℕ → List ℕ
+gathered lists [] = []
+gathered lists (i ∷ is) = lists i ++ gathered lists is

@@ -36,22 +36,23 @@ goes-up b [] =
     (λ h. record { eights = λ i l. absurd (omega arith); ascends = λ i l. absurd (omega arith) }, λ f. refl)
 goes-up b (c ∷ cs) =
     meaning (both (both (number-is (c % 8) 0) (less b c)) (goes-up c cs))
-      (λ h. follow-on (h .0 .0) (h .0 .1) (h .1))
-      (λ f.
-        ((f .eights 0 (omega arith), f .ascends 0 (omega arith)),
-          record {
-            eights = λ i l. f .eights (suc i) (omega arith);
-            ascends = λ i l. f .ascends (suc i) (omega arith)
-          }))
+    (λ h. follow-on (h .0 .0) (h .0 .1) (h .1))
+    (λ f. (
+      (f .eights 0 (omega arith), f .ascends 0 (omega arith)),
+      record {
+        eights = λ i l. f .eights (suc i) (omega arith);
+        ascends = λ i l. f .ascends (suc i) (omega arith);
+      },
+    ))
 
 -- the test of a table decides its validity
 pub valid-iff : (t : List ℕ) → Decides (validTable t) (ValidTable t)
 unfolding validTable
 valid-iff t =
     meaning
-      (both (both (both (at-most 1 (length t)) (at-most (length t) 32)) (number-is (sizeAt t 0) 24)) (goes-up 24 (drop 1 t)))
-      (λ h. made t (h .0 .0 .0) (h .0 .0 .1) (h .0 .1) (h .1))
-      (λ v. (((v .some, v .few), v .first), rest t v))
+    (both (both (both (at-most 1 (length t)) (at-most (length t) 32)) (number-is (sizeAt t 0) 24)) (goes-up 24 (drop 1 t)))
+    (λ h. made t (h .0 .0 .0) (h .0 .0 .1) (h .0 .1) (h .1))
+    (λ v. (((v .some, v .few), v .first), rest t v))
   where
     made : (t : List ℕ) → 1 ≤ length t → length t ≤ 32 → sizeAt t 0 ≡ 24 → Follow 24 (drop 1 t) → ValidTable t
     made [] some few first f = absurd (omega arith)

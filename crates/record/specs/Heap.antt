@@ -28,7 +28,7 @@ empty =
       donor = at 0;
       top = at 0;
       merge = false;
-      used = 0
+      used = 0;
     }
 
 -- the record with what a call may change; every setter is made of it, so that a new field is added here alone
@@ -43,7 +43,7 @@ with h heads tails donor top merge used =
       donor = at donor;
       top = at top;
       merge = merge;
-      used = used
+      used = used;
     }
 
 abbrev pub withEnds : Heap → List ℕ → List ℕ → Heap

@@ -6,14 +6,20 @@ ghost use Rattle.region.specs.Words.{word, store};
 
 // A chunk's place and a block's place, both byte offsets: eight bytes apart, and never mixed.
 pub struct Chunk(pub u32);
+
 pub struct Block(pub u32);
 
 // The words of a header by number. A chunk in use has the first two alone.
 pub const FORWARD: u32 = 0;
+
 pub const BACKWARD: u32 = 1;
+
 pub const SIZE: u32 = 2;
+
 pub const NEXT_IN_BIN: u32 = 3;
+
 pub const PREVIOUS_IN_BIN: u32 = 4;
+
 pub const BIN: u32 = 5;
 
 // Of the last seven numbers no block starts eight bytes up: they give 2^32 - 1, at which none can start.

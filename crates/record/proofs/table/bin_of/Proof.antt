@@ -26,7 +26,7 @@ returns c =
     record {
       inside = omega arith;
       notAbove = c .if1 .taken;
-      last = λ j lo hi. l .inv .1 j (omega arith) hi
+      last = λ j lo hi. l .inv .1 j (omega arith) hi;
     }
 
 loop-again : tie.Need-loop-again Inv-loop μ-loop

@@ -32,8 +32,8 @@ returns-4 c =
     let t = l .before .before .before .before .before .args .table .now in
     sym
     (valid-rest t (omega arith) (omega arith) (l .before .if3 .left)
-      ∙ sym (l .loop .inv)
-      ∙ up-uneven t (l .loop .i) (l .loop .before) (c .before .before .loop-test .taken) (c .if4 .taken))
+    ∙ sym (l .loop .inv)
+    ∙ up-uneven t (l .loop .i) (l .loop .before) (c .before .before .loop-test .taken) (c .if4 .taken))
 
 returns-5 : tie.Need-returns-5 Inv-loop μ-loop
 returns-5 c =
@@ -41,8 +41,8 @@ returns-5 c =
     let t = l .before .before .before .before .before .args .table .now in
     sym
     (valid-rest t (omega arith) (omega arith) (l .before .if3 .left)
-      ∙ sym (l .loop .inv)
-      ∙ up-falls t (l .loop .i) (l .loop .before) (c .before .before .before .loop-test .taken) (c .before .if4 .left) (c .if5 .taken))
+    ∙ sym (l .loop .inv)
+    ∙ up-falls t (l .loop .i) (l .loop .before) (c .before .before .before .loop-test .taken) (c .before .if4 .left) (c .if5 .taken))
 
 loop-again : tie.Need-loop-again Inv-loop μ-loop
 loop-again c =
@@ -50,7 +50,7 @@ loop-again c =
     let t = l .before .before .before .before .before .args .table .now in
     rw add-one
     (sym (up-goes t (l .loop .i) (l .loop .before) (c .before .before .before .loop-test .taken) (c .before .if4 .left) (c .if5 .left))
-      ∙ l .loop .inv)
+    ∙ l .loop .inv)
 
 returns-6 : tie.Need-returns-6 Inv-loop μ-loop
 returns-6 c =
@@ -58,8 +58,8 @@ returns-6 c =
     let t = l .before .before .before .before .before .args .table .now in
     sym
     (valid-rest t (omega arith) (omega arith) (l .before .if3 .left)
-      ∙ sym (l .loop .inv)
-      ∙ up-ends t (l .loop .i) (l .loop .before) (c .loop-test .left))
+    ∙ sym (l .loop .inv)
+    ∙ up-ends t (l .loop .i) (l .loop .before) (c .loop-test .left))
 
 pub valid-spec : {M : Type 1} → statement M
 valid-spec =

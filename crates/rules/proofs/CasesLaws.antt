@@ -1,0 +1,31 @@
+-- The fourteen marked cases hold: computed by the checker. Assumes nothing.
+use mathlib.Core.Path.{_≡_, refl}
+use mathlib.Core.Bool.{true}
+use Prim.Native.Nat.{ℕ}
+use Rattle.lists.specs.Lists.{every}
+use Rattle.region.specs.Words.{word, store}
+use Rattle.record.specs.Table.{validTable}
+use Rattle.rules.specs.Shape.{shape, members}
+use Rattle.rules.specs.Kinds.{inUse, kindOf}
+use Rattle.rules.specs.Check.{passesAs, passes}
+use Rattle.rules.specs.Serve.{chosen}
+use Rattle.rules.specs.Draft.{asRead, leave, putBetween, putInto, leaveBin, putInBin, settle, relink}
+use Rattle.rules.specs.Cut.{cut, grantAt, grantFrom}
+use Rattle.rules.specs.Join.{joining, release}
+use Rattle.rules.specs.Setup.{setup}
+use Rattle.rules.specs.Allocate.{allocate, allocateCleared}
+use Rattle.rules.specs.Free.{freeBlock, free}
+use Rattle.rules.specs.Reallocate.{resized, resize, reallocate}
+use Rattle.rules.specs.Merge.{setMerge, check}
+use Rattle.rules.specs.Ask.{askChunk, askBin}
+use Rattle.rules.specs.Calls.{step, next}
+use Rattle.rules.specs.Cases.{cases, caseHolds}
+
+-- opens all that a call's outcome is computed by: `unfolding computes`
+unfoldable pub computes : ℕ
+unfolding word store validTable shape members inUse kindOf passesAs passes chosen asRead leave putBetween putInto leaveBin putInBin settle relink cut grantAt grantFrom joining release setup allocate allocateCleared freeBlock free resized resize reallocate setMerge check askChunk askBin step next
+computes = 0
+
+pub marked-cases : every caseHolds cases ≡ true
+unfolding computes caseHolds
+marked-cases = refl

@@ -1,0 +1,3 @@
+pub mod ShapeLaws
+pub mod CheckLaws
+pub mod CasesLaws

@@ -1,0 +1,83 @@
+-- The readings follow links with no bound that shows: how the chain's reading goes on, and which list a bin's reading is. Assumes nothing.
+use mathlib.Core.Path.{_≡_, refl, sym, ap, _∙_}
+use mathlib.Core.Bool.{Bool, true, false, _&&_}
+use mathlib.Core.List.{List, [], _∷_}
+use Prim.Native.Nat.{ℕ, zero, suc, _+_, _-_, _≤_, _<_}
+use native.Mathlib.Omega.{arith}
+use lib.Dec.{ltb}
+use lib.ListN.{length}
+use borrow.Author.Tests.{ne-eqb}
+use Rattle.lists.specs.Lists.{headOr}
+use Rattle.lists.proofs.ListsLaws.{Decides, less, both, not-so}
+use Rattle.region.specs.Words.{word, forward, nextInBin}
+use Rattle.rules.specs.Shape.{Entry, entry, flagsAt, shapeFrom, shape, membersFrom}
+
+module _ (ws : List ℕ) (bytes : ℕ) where
+  -- the forward link of c goes up and stays inside the heap
+  abbrev pub Up : ℕ → Type 0
+  Up c = (c < word ws c forward) × (word ws c forward < bytes)
+
+  abbrev up : ℕ → Bool
+  up c = ltb c (word ws c forward) && ltb (word ws c forward) bytes
+
+  up-iff : (c : ℕ) → Decides (up c) (Up c)
+  up-iff c = both (less c (word ws c forward)) (less (word ws c forward) bytes)
+
+  abbrev pub lastEntry : ℕ → Entry
+  lastEntry c = entry c (bytes - c) (flagsAt ws c)
+
+  abbrev pub upEntry : ℕ → Entry
+  upEntry c = entry c (word ws c forward - c) (flagsAt ws c)
+
+  stops : (k c : ℕ) → (Up c → ⊥) → shapeFrom k ws bytes c ≡ lastEntry c ∷ []
+  stops zero c n = refl
+  stops (suc k) c n = rw (not-so (up-iff c) n, shapeFrom)
+
+  goes : (k c : ℕ) → Up c → shapeFrom (suc k) ws bytes c ≡ upEntry c ∷ shapeFrom k ws bytes (word ws c forward)
+  goes k c u = rw (up-iff c .1 u, shapeFrom)
+
+  -- two numbers of steps that both suffice read the same chain
+  pub shape-steps : (j k c : ℕ) → bytes ≤ c + j → bytes ≤ c + k → shapeFrom j ws bytes c ≡ shapeFrom k ws bytes c
+  shape-steps zero k c hj hk = sym (stops k c (λ u. omega arith))
+  shape-steps (suc j) zero c hj hk = stops (suc j) c (λ u. omega arith)
+  shape-steps (suc j) (suc k) c hj hk =
+      by (up c) refl (λ u. shape-steps j k (word ws c forward) (omega (arith, u .0)) (omega (arith, u .0)))
+    where
+      by : (t : Bool) → up c ≡ t
+          → (Up c → shapeFrom j ws bytes (word ws c forward) ≡ shapeFrom k ws bytes (word ws c forward))
+          → shapeFrom (suc j) ws bytes c ≡ shapeFrom (suc k) ws bytes c
+      by true e f =
+          let u = up-iff c .0 e in
+          goes j c u ∙ ap (λ (es : List Entry). upEntry c ∷ es) (f u) ∙ sym (goes k c u)
+      by false e f = rw (e, shapeFrom)
+
+  -- the reading of the chain from c on, as long as links go up, and where they don't
+  pub chainFrom : ℕ → List Entry
+  chainFrom c = shapeFrom bytes ws bytes c
+
+  pub shape-goes : (c : ℕ) → Up c → chainFrom c ≡ upEntry c ∷ chainFrom (word ws c forward)
+  unfolding chainFrom
+  shape-goes c u =
+      shape-steps bytes (suc bytes) c (omega arith) (omega arith) ∙ goes bytes c u
+
+  pub shape-stops : (c : ℕ) → (Up c → ⊥) → chainFrom c ≡ lastEntry c ∷ []
+  unfolding chainFrom
+  shape-stops c n = stops bytes c n
+
+  pub shape-is : shape ws bytes ≡ chainFrom 0
+  unfolding shape chainFrom
+  shape-is = refl
+
+-- forward bin links lead along the list, from each member to the next, and from the last to 0
+abbrev pub Leads : List ℕ → List ℕ → Type 0
+Leads ws [] = Unit {0}
+Leads ws (c ∷ cs) = (0 < c) × (word ws c nextInBin ≡ headOr 0 cs) × Leads ws cs
+
+-- a list along which the links lead is read, if the heap has at least as many bytes as the list has members
+pub members-steps : (k : ℕ) (ws cs : List ℕ) → length cs ≤ k → Leads ws cs → membersFrom k ws (headOr 0 cs) ≡ cs
+members-steps zero ws [] h l = refl
+members-steps zero ws (c ∷ cs) h l = absurd (omega arith)
+members-steps (suc k) ws [] h l = refl
+members-steps (suc k) ws (c ∷ cs) h l =
+    rw (ne-eqb c 0 (omega (arith, l .0)), membersFrom, l .1)
+    (ap (λ (ds : List ℕ). c ∷ ds) (members-steps k ws cs (omega arith) (l .2)))

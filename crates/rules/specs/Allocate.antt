@@ -1,0 +1,48 @@
+-- Allocate and cleared allocate (document 01, "The calls"); refusals 4, 5, 7, 9.
+use mathlib.Core.Bool.{Bool, true, false, not}
+use mathlib.Core.List.{List, [], _∷_, map}
+use Prim.Native.Nat.{ℕ, _*_}
+use Rattle.lists.specs.Lists.{numbersFrom}
+use Rattle.record.specs.declared.answers.Refusal.the-variants.{BlockSize, NoRoom, NoBinTakes}
+use Rattle.record.specs.declared.heap.Heap.{Heap}
+use Rattle.region.specs.Words.{Store, put}
+use Rattle.rules.specs.Shape.{Entry}
+use Rattle.rules.specs.Kinds.{overhead, blockOf, blockWords}
+use Rattle.rules.specs.Serve.{need, permitted, chosen, nowhere, Source}
+use Rattle.rules.specs.Draft.{Draft, asRead, alsoWrites}
+use Rattle.rules.specs.Cut.{Grant, grantFrom}
+use Rattle.rules.specs.Outcome.{Outcome, judged, heapFails, made, grants}
+
+abbrev pub sourceOf : ℕ → Draft → Source
+sourceOf n d = chosen (d .heap) (d .chain) (d .lists) n
+
+-- n bytes from the first of the four sources that has them
+abbrev pub grant : ℕ → Draft → Grant
+grant n d = grantFrom (sourceOf n d) n d
+
+-- what is written into a granted block besides: nothing, or zeros to the chunk's end
+abbrev pub asFound : Entry → List Store
+asFound e = []
+
+abbrev pub cleared : Entry → List Store
+cleared e = map (λ k. put (blockOf e) k 0) (numbersFrom 0 (blockWords e))
+
+abbrev pub allocateWith : (Entry → List Store) → List ℕ → Heap → ℕ → Outcome
+allocateWith fill ws h z =
+    let n = need overhead z in
+    let before = asRead ws h in
+    let g = grant n before in
+    judged h
+    (heapFails ws h
+    ∷ (not (permitted z), BlockSize)
+    ∷ (nowhere (sourceOf n before), NoRoom)
+    ∷ (g .draft .homeless, NoBinTakes)
+    ∷ [])
+    (made (grants 0 (g .granted)) (alsoWrites (fill (g .granted)) (g .draft)))
+
+unfoldable pub allocate : List ℕ → Heap → ℕ → Outcome
+allocate ws h z = allocateWith asFound ws h z
+
+-- the exact product of count and element size, and every word of the granted block 0
+unfoldable pub allocateCleared : List ℕ → Heap → ℕ → ℕ → Outcome
+allocateCleared ws h count elementSize = allocateWith cleared ws h (count * elementSize)

@@ -1,0 +1,108 @@
+-- Questions about a chunk and about a bin (document 01, "The calls": Questions); refusals 4, then 8.
+use mathlib.Core.Bool.{Bool, true, false, not, cond, _&&_, _||_}
+use mathlib.Core.List.{List, [], _∷_, map}
+use mathlib.Core.Option.{Option, some, none}
+use Prim.Native.Nat.{ℕ, _-_}
+use lib.Dec.{eqb, leb, ltb}
+use lib.ListN.{length, getD}
+use Rattle.lists.specs.Lists.{headOr, lastOr, any, upTo, past}
+use Rattle.record.specs.declared.answers.Answer.the-variants.{Told}
+use Rattle.record.specs.declared.answers.Refusal.the-variants.{NotThere}
+use Rattle.record.specs.declared.heap.Heap.{Heap}
+use Rattle.record.specs.declared.table.Binned.{Binned}
+use Rattle.record.specs.declared.table.Binned.the-variants.{Bin, NoBin}
+use Rattle.record.specs.Heap.{tableOf}
+use Rattle.record.specs.Table.{binOf}
+use Rattle.rules.specs.Shape.{Entry}
+use Rattle.rules.specs.Kinds.{Kind, Start, InUse, Ordinary, Donor, Top, End, kindOf, ordinary, live, blockOf, isAt, outside}
+use Rattle.rules.specs.Draft.{Draft, asRead, Spot, spot}
+use Rattle.rules.specs.Outcome.{Outcome, judged, heapFails, unchanged}
+use Rattle.rules.specs.Free.{isLive, blockSpot}
+
+-- none is shown as 0
+abbrev pub shown : Option ℕ → ℕ
+shown none = 0
+shown (some v) = v
+
+abbrev pub onlyIf : Bool → ℕ → Option ℕ
+onlyIf true v = some v
+onlyIf false v = none
+
+abbrev pub firstOf : List ℕ → Option ℕ
+firstOf [] = none
+firstOf (c ∷ cs) = some c
+
+abbrev pub lastOf : List ℕ → Option ℕ
+lastOf [] = none
+lastOf (c ∷ cs) = some (lastOr c cs)
+
+abbrev pub numberOf : Binned → Option ℕ
+numberOf (Bin i) = some i
+numberOf NoBin = none
+
+abbrev pub listOf : Draft → Binned → List ℕ
+listOf d (Bin i) = d .lists i
+listOf d NoBin = []
+
+-- the bin of a chunk; not of one in use, donor or top
+abbrev pub binOfChunk : Draft → Entry → Binned
+binOfChunk d e = cond (ordinary (d .heap) e) (binOf (tableOf (d .heap)) (e .size)) NoBin
+
+-- what stands before and after a chunk in its bin's list
+abbrev pub beforeInBin : Draft → Entry → List ℕ
+beforeInBin d e = upTo (eqb (e .place)) (listOf d (binOfChunk d e))
+
+abbrev pub afterInBin : Draft → Entry → List ℕ
+afterInBin d e = past (eqb (e .place)) (listOf d (binOfChunk d e))
+
+abbrev pub placesOf : List Entry → List ℕ
+placesOf es = map (λ (e : Entry). e .place) es
+
+-- the answers, from question 1 on: bin number; block (not of a free chunk, start or end); chunk of a live block;
+-- next (not of the end); next in bin; previous (not of the start); previous in bin; size; type (free 0, in use 1)
+abbrev pub chunkAnswers : Draft → Spot → List (Option ℕ)
+chunkAnswers d s =
+    let e = s .here in
+    numberOf (binOfChunk d e)
+    ∷ onlyIf (live (d .heap) e) (blockOf e)
+    ∷ some (e .place)
+    ∷ firstOf (placesOf (s .high))
+    ∷ firstOf (afterInBin d e)
+    ∷ lastOf (placesOf (s .low))
+    ∷ lastOf (beforeInBin d e)
+    ∷ some (e .size)
+    ∷ some (e .flags)
+    ∷ []
+
+-- the same of a bin's list: count of chunks, first, last
+abbrev pub binAnswers : List ℕ → List (Option ℕ)
+binAnswers cs = some (length cs) ∷ firstOf cs ∷ lastOf cs ∷ []
+
+-- question 3 is asked of a live block, every other of a chunk
+abbrev pub askedSpot : Draft → ℕ → ℕ → Spot
+askedSpot d q p = cond (eqb q 3) (blockSpot d p) (spot (isAt p) (d .chain))
+
+abbrev pub isThere : Draft → ℕ → ℕ → Bool
+isThere d q p = cond (eqb q 3) (isLive d p) (any (isAt p) (d .chain))
+
+-- question q has an answer in a list of them
+abbrev pub isAsked : ℕ → List (Option ℕ) → Bool
+isAsked q answers = leb 1 q && leb q (length answers)
+
+abbrev pub answerTo : ℕ → List (Option ℕ) → ℕ
+answerTo q answers = shown (getD answers (q - 1) none)
+
+unfoldable pub askChunk : List ℕ → Heap → ℕ → ℕ → Outcome
+askChunk ws h q p =
+    let d = asRead ws h in
+    let answers = chunkAnswers d (askedSpot d q p) in
+    judged h
+    (heapFails ws h ∷ (not (isAsked q answers) || not (isThere d q p), NotThere) ∷ [])
+    (unchanged h (Told (answerTo q answers)))
+
+unfoldable pub askBin : List ℕ → Heap → ℕ → ℕ → Outcome
+askBin ws h q i =
+    let answers = binAnswers (asRead ws h .lists i) in
+    judged h
+    (heapFails ws h ∷ (not (isAsked q answers) || not (ltb i (h .bins)), NotThere) ∷ [])
+    (unchanged h (Told (answerTo q answers)))

@@ -1,0 +1,165 @@
+-- The fourteen marked cases (document 01, "The demonstration" and "Both sides") as one table over the rules:
+-- the region, the calls before, the call, and every fact that the document states of it.
+use mathlib.Core.Bool.{Bool, true, false, cond, _&&_}
+use mathlib.Core.List.{List, [], _∷_, _++_}
+use Prim.Native.Nat.{ℕ, suc, _+_, _-_}
+use lib.Dec.{eqb}
+use lib.IntN.{ℤ, pos, negsuc}
+use lib.ListN.{length, replicate, take, getD}
+use Rattle.lists.specs.Lists.{headOr, any, every}
+use Rattle.record.specs.declared.answers.Answer.{Answer}
+use Rattle.record.specs.declared.heap.Heap.{Heap}
+use Rattle.record.specs.Answers.{Figures, figures, noCounts, figuresOf}
+use Rattle.record.specs.Heap.{empty}
+use Rattle.region.specs.Words.{written, word}
+use Rattle.rules.specs.Shape.{Entry, shape, binList}
+use Rattle.rules.specs.Kinds.{Kind, Start, InUse, Ordinary, Donor, Top, End, kindOf}
+use Rattle.rules.specs.Check.{passes}
+use Rattle.rules.specs.Outcome.{Outcome}
+use Rattle.rules.specs.Calls.{Call, Setup, Allocate, Free, Reallocate, step, State, run}
+
+pub data Fact : Type 0 where
+  -- accepted: offset, change
+  Gives : ℕ → ℤ → Fact
+  -- refused with this number, all other figures 0, no word and no field changed
+  Refuses : ℕ → Fact
+  -- the same of setup, whose record is then empty
+  RefusesSetup : ℕ → Fact
+  -- the heap passes the check
+  Sound : Fact
+  -- heap bytes, bin count, used bytes
+  Record : ℕ → ℕ → ℕ → Fact
+  -- the chain has a chunk at this place, of this size and kind
+  Chunk : ℕ → ℕ → Kind → Fact
+  -- the chain has so many chunks
+  Chunks : ℕ → Fact
+  -- the list of this bin
+  Bin : ℕ → List ℕ → Fact
+  -- the word at this byte offset
+  Word : ℕ → ℕ → Fact
+
+pub record Case : Type 0 where
+  pub words : ℕ
+  pub before : List Call
+  pub call : Call
+  pub facts : List Fact
+
+abbrev pub given : ℕ → List Call → Call → List Fact → Case
+given words before call facts = record { words = words; before = before; call = call; facts = facts }
+
+-- the demonstration: 64 words, a donor of 64 bytes, merging on, and eleven calls
+abbrev pub opening : Call
+opening = Setup (24 ∷ 32 ∷ 40 ∷ 128 ∷ []) 64 true
+
+abbrev pub turns : List Call
+turns =
+    Allocate 16 ∷ Allocate 17 ∷ Allocate 40 ∷ Allocate 64 ∷ Allocate 16 ∷ Free 80 ∷ Free 112 ∷ Free 112
+    ∷ Allocate 16 ∷ Reallocate 160 40 ∷ Reallocate 16 32 ∷ []
+
+-- call number k of the eleven
+abbrev pub turn : ℕ → List Fact → Case
+turn k facts = given 64 (opening ∷ take (k - 1) turns) (getD turns (k - 1) opening) facts
+
+abbrev pub cases : List Case
+cases =
+    turn 1 (Gives 16 (pos 24) ∷ Chunk 8 24 InUse ∷ Chunk 32 40 Donor ∷ Sound ∷ [])
+    ∷ turn 2 (Gives 80 (pos 32) ∷ Chunk 72 32 InUse ∷ Chunk 104 144 Top ∷ Sound ∷ [])
+    ∷ turn 3 (Gives 112 (pos 48) ∷ Chunk 104 48 InUse ∷ Chunk 152 96 Top ∷ Sound ∷ [])
+    ∷ turn 4 (Gives 160 (pos 72) ∷ Chunk 152 72 InUse ∷ Chunk 224 24 Top ∷ Sound ∷ [])
+    ∷ turn 5 (Refuses 7 ∷ [])
+    ∷ turn 6 (Gives 0 (negsuc 31) ∷ Chunk 72 32 Ordinary ∷ Bin 1 (72 ∷ []) ∷ Sound ∷ [])
+    ∷ turn 7
+    (Gives 0 (negsuc 47) ∷ Chunk 72 80 Ordinary ∷ Bin 1 [] ∷ Bin 2 (72 ∷ []) ∷ Word 108 73 ∷ Sound ∷ [])
+    ∷ turn 8 (Refuses 6 ∷ Word 108 73 ∷ [])
+    ∷ turn 9
+    (Gives 80 (pos 24)
+    ∷ Record 256 4 120
+    ∷ Chunk 0 8 Start
+    ∷ Chunk 8 24 InUse
+    ∷ Chunk 32 40 Donor
+    ∷ Chunk 72 24 InUse
+    ∷ Chunk 96 56 Ordinary
+    ∷ Bin 2 (96 ∷ [])
+    ∷ Chunk 152 72 InUse
+    ∷ Chunk 224 24 Top
+    ∷ Chunk 248 8 End
+    ∷ Chunks 8
+    ∷ Sound
+    ∷ [])
+    ∷ turn 10 (Gives 160 (negsuc 23) ∷ Chunk 152 48 InUse ∷ Chunk 200 48 Top ∷ Sound ∷ [])
+    ∷ turn 11 (Gives 104 (pos 32) ∷ Chunk 96 56 InUse ∷ Bin 2 [] ∷ Chunk 8 64 Donor ∷ Sound ∷ [])
+    ∷ given 9 [] (Setup (24 ∷ 32 ∷ 40 ∷ 128 ∷ []) 0 true) (RefusesSetup 1 ∷ [])
+    ∷ given 10 [] (Setup (24 ∷ 32 ∷ 40 ∷ 128 ∷ []) 0 true)
+    (Gives 0 (pos 0) ∷ Record 40 4 0 ∷ Chunk 0 8 Start ∷ Chunk 8 24 Top ∷ Chunk 32 8 End ∷ Chunks 3 ∷ Sound ∷ [])
+    ∷ given 64 (opening ∷ []) (Allocate 65489) (Refuses 5 ∷ [])
+    ∷ []
+
+-- How a fact is tested.
+
+abbrev sameInt : ℤ → ℤ → Bool
+sameInt (pos a) (pos b) = eqb a b
+sameInt (pos a) (negsuc b) = false
+sameInt (negsuc a) (pos b) = false
+sameInt (negsuc a) (negsuc b) = eqb a b
+
+abbrev sameList : List ℕ → List ℕ → Bool
+sameList [] [] = true
+sameList [] (b ∷ bs) = false
+sameList (a ∷ al) [] = false
+sameList (a ∷ al) (b ∷ bs) = eqb a b && sameList al bs
+
+abbrev sameBool : Bool → Bool → Bool
+sameBool a b = cond a b (cond b false true)
+
+abbrev kindNumber : Kind → ℕ
+kindNumber Start = 0
+kindNumber InUse = 1
+kindNumber Ordinary = 2
+kindNumber Donor = 3
+kindNumber Top = 4
+kindNumber End = 5
+
+abbrev sameHeap : Heap → Heap → Bool
+sameHeap g h =
+    eqb (g .bytes) (h .bytes) && eqb (g .bins) (h .bins)
+    && sameList (g .sizes) (h .sizes) && sameList (g .heads) (h .heads) && sameList (g .tails) (h .tails)
+    && eqb (g .donor .0) (h .donor .0) && eqb (g .top .0) (h .top .0)
+    && sameBool (g .merge) (h .merge) && eqb (g .used) (h .used)
+
+abbrev sameFigures : Figures → Figures → Bool
+sameFigures f g =
+    eqb (f .refusal) (g .refusal) && eqb (f .offset) (g .offset) && eqb (f .value) (g .value)
+    && sameInt (f .change) (g .change)
+    && eqb (f .counts .chunks) (g .counts .chunks) && eqb (f .counts .ordinary) (g .counts .ordinary)
+    && eqb (f .counts .used) (g .counts .used) && eqb (f .counts .free) (g .counts .free)
+
+abbrev refuses : ℕ → Heap → Outcome → Bool
+refuses r h o =
+    sameFigures (figuresOf (o .answer)) (figures r 0 0 (pos 0) noCounts)
+    && sameHeap (o .heap) h && eqb (length (o .stores)) 0
+
+abbrev holds : State → Outcome → Fact → Bool
+holds s o (Gives offset change) =
+    sameFigures (figuresOf (o .answer)) (figures 0 offset 0 change noCounts)
+holds s o (Refuses r) = refuses r (s .heap) o
+holds s o (RefusesSetup r) = refuses r empty o
+holds s o Sound = passes (written (s .words) (o .stores)) (o .heap)
+holds s o (Record bytes bins used) =
+    eqb (o .heap .bytes) bytes && eqb (o .heap .bins) bins && eqb (o .heap .used) used
+holds s o (Chunk place size kind) =
+    any
+    (λ e. eqb (e .place) place && eqb (e .size) size && eqb (kindNumber (kindOf (o .heap) e)) (kindNumber kind))
+    (shape (written (s .words) (o .stores)) (o .heap .bytes))
+holds s o (Chunks n) = eqb (length (shape (written (s .words) (o .stores)) (o .heap .bytes))) n
+holds s o (Bin i cs) = sameList (binList (written (s .words) (o .stores)) (o .heap) i) cs
+holds s o (Word offset value) = eqb (word (written (s .words) (o .stores)) offset 0) value
+
+-- the lent region holds anything: here every bit of it is set
+abbrev lent : ℕ → State
+lent n = record { words = replicate n 4294967295; heap = empty }
+
+unfoldable pub caseHolds : Case → Bool
+caseHolds c =
+    let s = run (c .before) (lent (c .words)) in
+    let o = step (c .call) (s .words) (s .heap) in
+    every (holds s o) (c .facts)

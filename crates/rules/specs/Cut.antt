@@ -1,0 +1,62 @@
+-- Cutting a chunk to grant a part of it (document 01, "The calls": Allocate).
+use mathlib.Core.Bool.{Bool, true, false, not, cond}
+use mathlib.Core.List.{List, [], _∷_}
+use Prim.Native.Nat.{ℕ, _+_, _-_}
+use lib.Dec.{eqb, leb}
+use Rattle.lists.specs.Lists.{keep}
+use Rattle.record.specs.Table.{least}
+use Rattle.rules.specs.Shape.{Entry, entry}
+use Rattle.rules.specs.Kinds.{Kind, Start, InUse, Ordinary, Donor, Top, End, unused, used, isAt, outside}
+use Rattle.rules.specs.Serve.{Source, FromBin, FromDonor, FromTop, Nowhere}
+use Rattle.rules.specs.Draft.{Draft, Spot, spot, leaveBin, relink, settle, nowUses}
+
+-- the parts of a cut chunk: what stays below the granted part, the granted part, what stays above it
+pub record Parts : Type 0 where
+  pub below : Entry
+  pub granted : Entry
+  pub above : Entry
+
+-- n bytes are granted from `skip` bytes up; where less than 24 would be left above them, those too
+unfoldable pub cut : Entry → ℕ → ℕ → Parts
+cut e skip n =
+    let room = e .size - skip in
+    let given = cond (leb (n + least) room) n room in
+    record {
+      below = entry (e .place) skip unused;
+      granted = entry (e .place + skip) given used;
+      above = entry (e .place + skip + given) (room - given) unused;
+    }
+
+-- the parts that are there
+abbrev pub chunksOf : Parts → List Entry
+chunksOf p = keep (λ e. not (eqb (e .size) 0)) (p .below ∷ p .granted ∷ p .above ∷ [])
+
+-- an ordinary chunk leaves its bin; donor and top are in none
+abbrev pub leaveAs : Kind → Entry → Draft → Draft
+leaveAs Ordinary e d = leaveBin e d
+leaveAs Donor e d = d
+leaveAs Top e d = d
+leaveAs Start e d = d
+leaveAs InUse e d = d
+leaveAs End e d = d
+
+-- what was granted, and the heap after it
+pub record Grant : Type 0 where
+  pub granted : Entry
+  pub draft : Draft
+
+-- the lowest n bytes of a chunk of this kind are granted; what is left above them is of its kind again
+unfoldable pub grantAt : Kind → Spot → ℕ → Draft → Grant
+grantAt kind s n d =
+    let parts = cut (s .here) 0 n in
+    let cutUp = relink (s .low) (chunksOf parts) (s .high) (leaveAs kind (s .here) d) in
+    let rest = parts .above in
+    let settled = cond (eqb (rest .size) 0) cutUp (settle kind rest cutUp) in
+    record { granted = parts .granted; draft = nowUses 0 (parts .granted .size) settled }
+
+-- n bytes from the source that was chosen
+unfoldable pub grantFrom : Source → ℕ → Draft → Grant
+grantFrom (FromBin c) n d = grantAt Ordinary (spot (isAt c) (d .chain)) n d
+grantFrom FromDonor n d = grantAt Donor (spot (isAt (d .heap .donor .0)) (d .chain)) n d
+grantFrom FromTop n d = grantAt Top (spot (isAt (d .heap .top .0)) (d .chain)) n d
+grantFrom Nowhere n d = record { granted = outside; draft = d }

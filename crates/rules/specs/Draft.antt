@@ -1,0 +1,162 @@
+-- A heap in the making: the record, the chain, the bins' lists and the words to be written, all of which a step changes together.
+-- The steps here are those on lists (document 01, "The calls": leaving a bin, putting into one) and on links of the chain.
+use mathlib.Core.Bool.{Bool, true, false, cond}
+use mathlib.Core.List.{List, [], _∷_, _++_}
+use Prim.Native.Nat.{ℕ, _+_, _*_, _-_}
+use lib.Dec.{eqb, ltb}
+use lib.ListN.{set}
+use Rattle.lists.specs.Lists.{headOr, lastOr, keep, upTo, past}
+use Rattle.record.specs.declared.heap.Heap.{Heap}
+use Rattle.record.specs.declared.table.Binned.{Binned}
+use Rattle.record.specs.declared.table.Binned.the-variants.{Bin, NoBin}
+use Rattle.record.specs.Heap.{tableOf, withEnds, withDonor, withTop, withUsed}
+use Rattle.record.specs.Table.{smallBins, binOf}
+use Rattle.region.specs.Words.{Store, put, forward, backward, size, nextInBin, previousInBin, bin}
+use Rattle.rules.specs.Shape.{Entry, entry, shape, binList}
+use Rattle.rules.specs.Kinds.{Kind, Start, InUse, Ordinary, Donor, Top, End, unused, blockEnd, isAt, outside}
+
+pub record Draft : Type 0 where
+  pub heap : Heap
+  pub chain : List Entry
+  pub lists : ℕ → List ℕ
+  pub stores : List Store
+  -- a chunk was to be put, and no bin takes its size
+  pub homeless : Bool
+
+-- the heap as it is read, nothing written yet
+unfoldable pub asRead : List ℕ → Heap → Draft
+asRead ws h =
+    record { heap = h; chain = shape ws (h .bytes); lists = binList ws h; stores = []; homeless = false }
+
+abbrev pub alsoWrites : List Store → Draft → Draft
+alsoWrites ss d =
+    record {
+      heap = d .heap;
+      chain = d .chain;
+      lists = d .lists;
+      stores = d .stores ++ ss;
+      homeless = d .homeless;
+    }
+
+abbrev pub withHeap : Heap → Draft → Draft
+withHeap h d =
+    record {
+      heap = h;
+      chain = d .chain;
+      lists = d .lists;
+      stores = d .stores;
+      homeless = d .homeless;
+    }
+
+-- used bytes, where one block of `before` bytes in all becomes one of `after`
+abbrev pub nowUses : ℕ → ℕ → Draft → Draft
+nowUses before after d = withHeap (withUsed (d .heap) (d .heap .used + after - before)) d
+
+-- where two parts of a list meet: the last of xs is followed by the first of ys, and the first of ys preceded by the last of xs
+abbrev pub followedBy : List ℕ → ℕ → List Store
+followedBy [] v = []
+followedBy (x ∷ xs) v = put (lastOr x xs) nextInBin v ∷ []
+
+abbrev pub precededBy : List ℕ → ℕ → List Store
+precededBy [] v = []
+precededBy (y ∷ ys) v = put y previousInBin v ∷ []
+
+abbrev pub meet : List ℕ → List ℕ → List Store
+meet xs ys = followedBy xs (headOr 0 ys) ++ precededBy ys (lastOr 0 xs)
+
+-- bin i has the list cs from now on; head and tail are its first and last, 0 if it is empty
+abbrev pub relist : ℕ → List ℕ → List Store → Draft → Draft
+relist i cs ss d =
+    record {
+      heap = withEnds (d .heap) (set (d .heap .heads) i (headOr 0 cs)) (set (d .heap .tails) i (lastOr 0 cs));
+      chain = d .chain;
+      lists = λ j. cond (eqb j i) cs (d .lists j);
+      stores = d .stores ++ ss;
+      homeless = d .homeless;
+    }
+
+-- the chunk at c leaves bin i: what stood before it and after it meet
+unfoldable pub leave : ℕ → ℕ → Draft → Draft
+leave i c d =
+    let xs = upTo (eqb c) (d .lists i) in
+    let ys = past (eqb c) (d .lists i) in
+    relist i (xs ++ ys) (meet xs ys) d
+
+-- the chunk at c is put into bin i between xs and ys; its bin word is 8 times the bin's number
+unfoldable pub putBetween : ℕ → List ℕ → ℕ → List ℕ → Draft → Draft
+putBetween i xs c ys d =
+    relist i (xs ++ c ∷ ys) (meet xs (c ∷ []) ++ meet (c ∷ []) ys ++ put c bin (8 * i) ∷ []) d
+
+-- at the head in a bin of the small array, at the tail in any other
+unfoldable pub putInto : ℕ → ℕ → Draft → Draft
+putInto i c d =
+    cond (ltb i (smallBins (tableOf (d .heap))))
+    (putBetween i [] c (d .lists i) d)
+    (putBetween i (d .lists i) c [] d)
+
+abbrev pub leaves : Entry → Binned → Draft → Draft
+leaves e (Bin i) d = leave i (e .place) d
+leaves e NoBin d = d
+
+-- an ordinary chunk leaves its bin, which is that of its size
+unfoldable pub leaveBin : Entry → Draft → Draft
+leaveBin e d = leaves e (binOf (tableOf (d .heap)) (e .size)) d
+
+abbrev pub isPut : Entry → Binned → Draft → Draft
+isPut e (Bin i) d = putInto i (e .place) d
+isPut e NoBin d =
+    record { heap = d .heap; chain = d .chain; lists = d .lists; stores = d .stores; homeless = true }
+
+-- a free chunk is put into the bin of its size
+unfoldable pub putInBin : Entry → Draft → Draft
+putInBin e d = isPut e (binOf (tableOf (d .heap)) (e .size)) d
+
+-- the bin words of a chunk that is in no bin
+abbrev pub noBinWords : ℕ → List Store
+noBinWords c = put c nextInBin 0 ∷ put c previousInBin 0 ∷ put c bin 0 ∷ []
+
+-- a free chunk takes its place: as the donor or the top, out of bins, or else in its bin
+unfoldable pub settle : Kind → Entry → Draft → Draft
+settle Donor e d = alsoWrites (noBinWords (e .place)) (withHeap (withDonor (d .heap) (e .place)) d)
+settle Top e d = alsoWrites (noBinWords (e .place)) (withHeap (withTop (d .heap) (e .place)) d)
+settle Ordinary e d = putInBin e d
+settle Start e d = d
+settle InUse e d = d
+settle End e d = d
+
+-- the size word, which only a free chunk has
+abbrev pub sizeStores : Entry → Bool → List Store
+sizeStores e true = put (e .place) size (e .size) ∷ []
+sizeStores e false = []
+
+-- the links of neighbouring chunks es, the first of which follows a chunk at p; a free one has its size word too
+abbrev pub headers : ℕ → List Entry → List Store
+headers p [] = []
+headers p (e ∷ es) =
+    put (e .place) forward (blockEnd e) ∷ put (e .place) backward (p + e .flags)
+    ∷ sizeStores e (eqb (e .flags) unused) ++ headers (e .place) es
+
+-- the chain is `low`, then the new chunks es, then `high`: their headers are written, and the backward link of the chunk above them
+unfoldable pub relink : List Entry → List Entry → List Entry → Draft → Draft
+relink low es high d =
+    let below = lastOr outside low in
+    let above = headOr outside high in
+    record {
+      heap = d .heap;
+      chain = low ++ es ++ high;
+      lists = d .lists;
+      stores =
+          d .stores ++ headers (below .place) es
+          ++ put (above .place) backward (lastOr below es .place + above .flags) ∷ [];
+      homeless = d .homeless;
+    }
+
+-- the chain at one of its chunks: what is below it, the chunk, what is above it
+pub record Spot : Type 0 where
+  pub low : List Entry
+  pub here : Entry
+  pub high : List Entry
+
+abbrev pub spot : (Entry → Bool) → List Entry → Spot
+spot p es =
+    record { low = upTo p es; here = headOr outside (keep p es); high = past p es }

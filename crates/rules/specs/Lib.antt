@@ -1,0 +1,16 @@
+pub mod Shape
+pub mod Kinds
+pub mod Check
+pub mod Serve
+pub mod Draft
+pub mod Cut
+pub mod Join
+pub mod Outcome
+pub mod Setup
+pub mod Allocate
+pub mod Free
+pub mod Reallocate
+pub mod Merge
+pub mod Ask
+pub mod Calls
+pub mod Cases

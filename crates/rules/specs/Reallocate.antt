@@ -1,0 +1,70 @@
+-- Reallocate (document 01, "The calls"); refusals 4, 5, 6, 7, 9.
+use mathlib.Core.Bool.{Bool, true, false, not, cond, _&&_}
+use mathlib.Core.List.{List, [], _∷_, _++_, map}
+use Prim.Native.Nat.{ℕ, _+_, _-_}
+use lib.Dec.{eqb, leb, ltb}
+use Rattle.lists.specs.Lists.{numbersFrom}
+use Rattle.record.specs.declared.answers.Refusal.the-variants.{BlockSize, NotLive, NoRoom, NoBinTakes}
+use Rattle.record.specs.declared.heap.Heap.{Heap}
+use Rattle.record.specs.Table.{least}
+use Rattle.region.specs.Words.{Store, put, word, forward}
+use Rattle.rules.specs.Shape.{Entry, entry}
+use Rattle.rules.specs.Kinds.{overhead, blockOf, blockEnd, blockWords, used}
+use Rattle.rules.specs.Serve.{need, permitted, nowhere}
+use Rattle.rules.specs.Draft.{Draft, asRead, alsoWrites, Spot, nowUses}
+use Rattle.rules.specs.Cut.{Grant}
+use Rattle.rules.specs.Join.{release}
+use Rattle.rules.specs.Outcome.{Outcome, judged, heapFails, made, grants}
+use Rattle.rules.specs.Allocate.{allocate, sourceOf, grant}
+use Rattle.rules.specs.Free.{isLive, blockSpot, freeBlock}
+
+-- the whole old block, copied to the start of the new one
+abbrev pub copied : List ℕ → Entry → Entry → List Store
+copied ws old new =
+    map (λ k. put (blockOf new) k (word ws (blockOf old) k)) (numbersFrom 0 (blockWords old))
+
+-- the chunk keeps n bytes; the tail above them is split off and given back. The kept chunk's forward link is written
+abbrev pub shrunk : Spot → ℕ → Draft → Grant
+shrunk s n d =
+    let e = s .here in
+    let kept = entry (e .place) n used in
+    let tail = entry (e .place + n) (e .size - n) used in
+    let split = alsoWrites (put (kept .place) forward (blockEnd kept) ∷ []) d in
+    record {
+      granted = kept;
+      draft = nowUses (e .size) n (release (s .low ++ kept ∷ []) tail (s .high) split);
+    }
+
+-- a new block is granted, the old one copied to its start and given back
+abbrev pub moved : List ℕ → Spot → ℕ → Draft → Grant
+moved ws s n d =
+    let g = grant n d in
+    record {
+      granted = g .granted;
+      draft = freeBlock (blockOf (s .here)) (alsoWrites (copied ws (s .here) (g .granted)) (g .draft));
+    }
+
+-- a chunk that has n bytes loses a tail of 24 or more and else stays as it is; one that has not is moved
+unfoldable pub resized : List ℕ → Spot → ℕ → Draft → Grant
+resized ws s n d =
+    cond (ltb (s .here .size) n) (moved ws s n d)
+    (cond (leb (n + least) (s .here .size)) (shrunk s n d) (record { granted = s .here; draft = d }))
+
+unfoldable pub resize : List ℕ → Heap → ℕ → ℕ → Outcome
+resize ws h b z =
+    let n = need overhead z in
+    let before = asRead ws h in
+    let s = blockSpot before b in
+    let g = resized ws s n before in
+    judged h
+    (heapFails ws h
+    ∷ (not (permitted z), BlockSize)
+    ∷ (not (isLive before b), NotLive)
+    ∷ (ltb (s .here .size) n && nowhere (sourceOf n before), NoRoom)
+    ∷ (g .draft .homeless, NoBinTakes)
+    ∷ [])
+    (made (grants (s .here .size) (g .granted)) (g .draft))
+
+-- block 0: as allocate
+unfoldable pub reallocate : List ℕ → Heap → ℕ → ℕ → Outcome
+reallocate ws h b z = cond (eqb b 0) (allocate ws h z) (resize ws h b z)

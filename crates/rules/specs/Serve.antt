@@ -1,0 +1,90 @@
+-- Need, "can serve", and from where a need is met (document 01, "The calls": Allocate).
+use mathlib.Core.Bool.{Bool, true, false, not, cond, _&&_}
+use mathlib.Core.List.{List, [], _∷_}
+use Prim.Native.Nat.{ℕ, suc, _+_, _*_, _-_, _/_, max}
+use lib.Dec.{eqb, leb}
+use Rattle.lists.specs.Lists.{headOr, keep, numbersFrom, gathered}
+use Rattle.record.specs.declared.heap.Heap.{Heap}
+use Rattle.record.specs.declared.table.Binned.{Binned}
+use Rattle.record.specs.declared.table.Binned.the-variants.{Bin, NoBin}
+use Rattle.record.specs.Heap.{tableOf}
+use Rattle.record.specs.Table.{least, small, binOf}
+use Rattle.rules.specs.Shape.{Entry}
+use Rattle.rules.specs.Kinds.{inUse, isAt, outside}
+
+abbrev pub upToEight : ℕ → ℕ
+upToEight n = (n + 7) / 8 * 8
+
+-- the need of z bytes in a chunk that has `above` bytes before its block: up to a multiple of 8, at least 24
+abbrev pub need : ℕ → ℕ → ℕ
+need above z = max least (upToEight (z + above))
+
+-- a permitted size
+abbrev pub mostBytes : ℕ
+mostBytes = 65488
+
+abbrev pub permitted : ℕ → Bool
+permitted z = leb 1 z && leb z mostBytes
+
+-- The chunk e can serve n: ordinary with at least n bytes, the top with at least n + 24, the donor with as many if n is small.
+-- An entry of the chain, the table and the places of donor and top decide it, and nothing else.
+unfoldable pub serves : List ℕ → ℕ → ℕ → ℕ → Entry → Bool
+serves table donor top n e =
+    not (inUse e)
+    && cond (eqb (e .place) top) (leb (n + least) (e .size))
+    (cond (eqb (e .place) donor) (leb (n + least) (e .size) && small table n)
+    (leb n (e .size)))
+
+-- from where a need is met
+pub data Source : Type 0 where
+  FromBin : ℕ → Source
+  FromDonor FromTop Nowhere : Source
+
+-- the chunk at the place c of a bin's list; there is none at 0
+abbrev pub fromBin : ℕ → Source
+fromBin c = cond (eqb c 0) Nowhere (FromBin c)
+
+abbrev pub sizeOn : List Entry → ℕ → ℕ
+sizeOn es c = headOr outside (keep (isAt c) es) .size
+
+-- the first chunk of a list, in list order, that has at least n bytes
+abbrev pub firstFit : List Entry → ℕ → List ℕ → Source
+firstFit es n cs = fromBin (headOr 0 (keep (λ c. leb n (sizeOn es c)) cs))
+
+-- try 1: the bin of n
+abbrev pub ownBin : List Entry → (ℕ → List ℕ) → ℕ → Binned → Source
+ownBin es lists n (Bin i) = firstFit es n (lists i)
+ownBin es lists n NoBin = Nowhere
+
+-- try 2: for small n the donor, if it has at least n + 24 bytes
+abbrev pub tryDonor : Heap → List Entry → ℕ → Source
+tryDonor h es n =
+    cond (small (tableOf h) n && not (eqb (h .donor .0) 0) && leb (n + least) (sizeOn es (h .donor .0))) FromDonor Nowhere
+
+-- try 3: the first chunk of the next larger bin that has one
+abbrev pub largerBin : Heap → (ℕ → List ℕ) → Binned → Source
+largerBin h lists (Bin i) = fromBin (headOr 0 (gathered lists (numbersFrom (suc i) (h .bins - suc i))))
+largerBin h lists NoBin = Nowhere
+
+-- try 4: the top, if it has at least n + 24 bytes
+abbrev pub tryTop : Heap → List Entry → ℕ → Source
+tryTop h es n = cond (leb (n + least) (sizeOn es (h .top .0))) FromTop Nowhere
+
+-- the first try that finds something
+abbrev pub firstOf : List Source → Source
+firstOf [] = Nowhere
+firstOf (FromBin c ∷ ss) = FromBin c
+firstOf (FromDonor ∷ ss) = FromDonor
+firstOf (FromTop ∷ ss) = FromTop
+firstOf (Nowhere ∷ ss) = firstOf ss
+
+unfoldable pub chosen : Heap → List Entry → (ℕ → List ℕ) → ℕ → Source
+chosen h es lists n =
+    let own = binOf (tableOf h) n in
+    firstOf (ownBin es lists n own ∷ tryDonor h es n ∷ largerBin h lists own ∷ tryTop h es n ∷ [])
+
+abbrev pub nowhere : Source → Bool
+nowhere (FromBin c) = false
+nowhere FromDonor = false
+nowhere FromTop = false
+nowhere Nowhere = true

@@ -1,0 +1,70 @@
+-- Setup (document 01, "The calls"): on any region; refusals 1, 2, 3.
+use mathlib.Core.Bool.{Bool, true, false, not, cond, _&&_, _||_}
+use mathlib.Core.List.{List, [], _∷_, _++_}
+use Prim.Native.Nat.{ℕ, _+_, _-_, _%_}
+use lib.Dec.{eqb, leb, ltb}
+use lib.ListN.{length, replicate}
+use Rattle.record.specs.declared.answers.Answer.the-variants.{Done}
+use Rattle.record.specs.declared.answers.Refusal.the-variants.{RegionLength, BadTable, DonorSize}
+use Rattle.record.specs.declared.heap.Heap.{Heap}
+use Rattle.record.specs.Heap.{places, at, zeros, empty}
+use Rattle.record.specs.Table.{least, validTable}
+use Rattle.region.specs.Words.{Store, put, forward, backward}
+use Rattle.rules.specs.Shape.{Entry, entry, heapBytes}
+use Rattle.rules.specs.Kinds.{unused, used, endSize}
+use Rattle.rules.specs.Check.{fewestWords, mostWords}
+use Rattle.rules.specs.Draft.{headers, noBinWords}
+use Rattle.rules.specs.Outcome.{Outcome, judged}
+
+-- bytes that are no donor's: the ends and a top chunk of the least size
+abbrev pub kept : ℕ
+kept = 40
+
+abbrev pub donorFits : ℕ → ℕ → Bool
+donorFits bytes donor =
+    eqb donor 0 || (leb least donor && eqb (donor % 8) 0 && leb donor (bytes - kept))
+
+-- where the top chunk starts: above the start chunk, and above the donor if there is one
+abbrev pub firstTop : ℕ → ℕ
+firstTop donor = endSize + donor
+
+-- the record of a fresh heap
+abbrev pub fresh : ℕ → List ℕ → ℕ → Bool → Heap
+fresh bytes table donor merge =
+    record {
+      bytes = bytes;
+      bins = length table;
+      sizes = table ++ replicate (places - length table) 0;
+      heads = zeros;
+      tails = zeros;
+      donor = at (cond (eqb donor 0) 0 endSize);
+      top = at (firstTop donor);
+      merge = merge;
+      used = 0;
+    }
+
+-- the donor, if its size is not 0, with its bin words
+abbrev pub donorChunk : ℕ → List Entry
+donorChunk donor = cond (eqb donor 0) [] (entry endSize donor unused ∷ [])
+
+abbrev pub donorBinWords : ℕ → List Store
+donorBinWords donor = cond (eqb donor 0) [] (noBinWords endSize)
+
+-- the headers of start, donor, top and end, and no other word
+abbrev pub firstHeaders : ℕ → ℕ → List Store
+firstHeaders bytes donor =
+    let top = firstTop donor in
+    let end = bytes - endSize in
+    headers 0 (entry 0 endSize used ∷ donorChunk donor ++ entry top (end - top) unused ∷ [])
+    ++ donorBinWords donor ++ noBinWords top
+    ++ put end forward 0 ∷ put end backward (top + used) ∷ []
+
+unfoldable pub setup : List ℕ → List ℕ → ℕ → Bool → Outcome
+setup ws table donor merge =
+    let bytes = heapBytes (length ws) in
+    judged empty
+    ((ltb (length ws) fewestWords || ltb mostWords (length ws), RegionLength)
+    ∷ (not (validTable table), BadTable)
+    ∷ (not (donorFits bytes donor), DonorSize)
+    ∷ [])
+    (record { answer = Done; heap = fresh bytes table donor merge; stores = firstHeaders bytes donor })
