@@ -6,7 +6,7 @@ use Rattle.lists.specs.Lists.{every}
 use Rattle.region.specs.Words.{word, store}
 use Rattle.record.specs.Table.{validTable}
 use Rattle.rules.specs.Shape.{shape, members}
-use Rattle.rules.specs.Kinds.{inUse, kindOf}
+use Rattle.rules.specs.Kinds.{inUse, kindAt}
 use Rattle.rules.specs.Check.{passesAs, passes}
 use Rattle.rules.specs.Serve.{chosen}
 use Rattle.rules.specs.Draft.{asRead, leave, putBetween, putInto, leaveBin, putInBin, settle, relink}
@@ -23,7 +23,7 @@ use Rattle.rules.specs.Cases.{cases, caseHolds}
 
 -- opens all that a call's outcome is computed by: `unfolding computes`
 unfoldable pub computes : ℕ
-unfolding word store validTable shape members inUse kindOf passesAs passes chosen asRead leave putBetween putInto leaveBin putInBin settle relink cut grantAt grantFrom joining release setup allocate allocateCleared freeBlock free resized resize reallocate setMerge check askChunk askBin step next
+unfolding word store validTable shape members inUse kindAt passesAs passes chosen asRead leave putBetween putInto leaveBin putInBin settle relink cut grantAt grantFrom joining release setup allocate allocateCleared freeBlock free resized resize reallocate setMerge check askChunk askBin step next
 computes = 0
 
 pub marked-cases : every caseHolds cases ≡ true

@@ -13,8 +13,10 @@ use Rattle.record.specs.declared.table.Binned.{Binned}
 use Rattle.record.specs.declared.table.Binned.the-variants.{Bin, NoBin}
 use Rattle.record.specs.Heap.{tableOf}
 use Rattle.record.specs.Table.{binOf}
+use Rattle.record.specs.declared.kinds.Kind.{Kind}
+use Rattle.record.specs.declared.kinds.Kind.the-variants.{Start, InUse, Ordinary, Donor, Top, End}
 use Rattle.rules.specs.Shape.{Entry}
-use Rattle.rules.specs.Kinds.{Kind, Start, InUse, Ordinary, Donor, Top, End, kindOf, ordinary, live, blockOf, isAt, outside}
+use Rattle.rules.specs.Kinds.{kindOf, ordinary, live, blockOf, isAt, outside}
 use Rattle.rules.specs.Draft.{Draft, asRead, Spot, spot}
 use Rattle.rules.specs.Outcome.{Outcome, judged, heapFails, unchanged}
 use Rattle.rules.specs.Free.{isLive, blockSpot}

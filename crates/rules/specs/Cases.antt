@@ -12,8 +12,10 @@ use Rattle.record.specs.declared.heap.Heap.{Heap}
 use Rattle.record.specs.Answers.{Figures, figures, noCounts, figuresOf}
 use Rattle.record.specs.Heap.{empty}
 use Rattle.region.specs.Words.{written, word}
+use Rattle.record.specs.declared.kinds.Kind.{Kind}
+use Rattle.record.specs.declared.kinds.Kind.the-variants.{Start, InUse, Ordinary, Donor, Top, End}
 use Rattle.rules.specs.Shape.{Entry, shape, binList}
-use Rattle.rules.specs.Kinds.{Kind, Start, InUse, Ordinary, Donor, Top, End, kindOf}
+use Rattle.rules.specs.Kinds.{kindOf}
 use Rattle.rules.specs.Check.{passes}
 use Rattle.rules.specs.Outcome.{Outcome}
 use Rattle.rules.specs.Calls.{Call, Setup, Allocate, Free, Reallocate, step, State, run}

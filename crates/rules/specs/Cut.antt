@@ -5,8 +5,10 @@ use Prim.Native.Nat.{ℕ, _+_, _-_}
 use lib.Dec.{eqb, leb}
 use Rattle.lists.specs.Lists.{keep}
 use Rattle.record.specs.Table.{least}
+use Rattle.record.specs.declared.kinds.Kind.{Kind}
+use Rattle.record.specs.declared.kinds.Kind.the-variants.{Start, InUse, Ordinary, Donor, Top, End}
 use Rattle.rules.specs.Shape.{Entry, entry}
-use Rattle.rules.specs.Kinds.{Kind, Start, InUse, Ordinary, Donor, Top, End, unused, used, isAt, outside}
+use Rattle.rules.specs.Kinds.{unused, used, isAt, outside}
 use Rattle.rules.specs.Serve.{Source, FromBin, FromDonor, FromTop, Nowhere}
 use Rattle.rules.specs.Draft.{Draft, Spot, spot, leaveBin, relink, settle, nowUses}
 

@@ -5,8 +5,10 @@ use Prim.Native.Nat.{ℕ, _+_, _-_}
 use lib.ListN.{drop}
 use Rattle.lists.specs.Lists.{headOr, lastOr, butLast}
 use Rattle.record.specs.declared.heap.Heap.{Heap}
+use Rattle.record.specs.declared.kinds.Kind.{Kind}
+use Rattle.record.specs.declared.kinds.Kind.the-variants.{Start, InUse, Ordinary, Donor, Top, End}
 use Rattle.rules.specs.Shape.{Entry, entry}
-use Rattle.rules.specs.Kinds.{Kind, Start, InUse, Ordinary, Donor, Top, End, kindOf, ordinaryKind, freeKind, unused, blockEnd, outside}
+use Rattle.rules.specs.Kinds.{kindOf, ordinaryKind, freeKind, unused, blockEnd, outside}
 use Rattle.rules.specs.Draft.{Draft, leaveBin, relink, settle}
 
 -- a chunk to be freed, joined with its neighbours: the chain below, the joined chunk and what it becomes, the chain above,

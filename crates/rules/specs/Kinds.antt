@@ -6,6 +6,8 @@ use Prim.Native.Nat.{ℕ, _+_, _-_, _/_, _%_}
 use lib.Dec.{eqb}
 use Rattle.lists.specs.Lists.{keep}
 use Rattle.record.specs.declared.heap.Heap.{Heap}
+use Rattle.record.specs.declared.kinds.Kind.{Kind}
+use Rattle.record.specs.declared.kinds.Kind.the-variants.{Start, InUse, Ordinary, Donor, Top, End}
 use Rattle.rules.specs.Shape.{Entry, entry}
 
 -- flags of a free chunk and of one in use
@@ -19,20 +21,20 @@ used = 1
 abbrev pub endSize : ℕ
 endSize = 8
 
-pub data Kind : Type 0 where
-  Start InUse Ordinary Donor Top End : Kind
-
 unfoldable pub inUse : Entry → Bool
 inUse e = eqb (e .flags % 2) 1
 
 -- the ends by their places, a chunk in use by its flag, top and donor by the record; all other free chunks are ordinary
-unfoldable pub kindOf : Heap → Entry → Kind
-kindOf h e =
+unfoldable pub kindAt : ℕ → ℕ → ℕ → Entry → Kind
+kindAt bytes donor top e =
     cond (eqb (e .place) 0) Start
-    (cond (eqb (e .place + endSize) (h .bytes)) End
+    (cond (eqb (e .place + endSize) bytes) End
     (cond (inUse e) InUse
-    (cond (eqb (e .place) (h .top .0)) Top
-    (cond (eqb (e .place) (h .donor .0)) Donor Ordinary))))
+    (cond (eqb (e .place) top) Top
+    (cond (eqb (e .place) donor) Donor Ordinary))))
+
+abbrev pub kindOf : Heap → Entry → Kind
+kindOf h e = kindAt (h .bytes) (h .donor .0) (h .top .0) e
 
 abbrev pub ordinaryKind : Kind → Bool
 ordinaryKind Start = false

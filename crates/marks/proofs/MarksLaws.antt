@@ -1,0 +1,73 @@
+-- Marks after one is turned over, and in a clear bitmap. Assumes nothing.
+-- What a flip does rests on one law of bits, `bit-flipped`.
+use mathlib.Core.Path.{_≡_, refl}
+use mathlib.Core.Bool.{Bool, true, false, not, cond}
+use mathlib.Core.List.{List}
+use Prim.Native.Nat.{ℕ, zero, suc, _+_, _-_, _/_, _%_, _^_, _<_}
+use native.Mathlib.Decide.{ℕ-discrete, decLt}
+use native.Mathlib.Nat.{mod-lt, zero-div, div-self, div-eq-of-lt, pow-suc, mul-mod-left}
+use native.Mathlib.Omega.{arith}
+use lib.Bits.{bitXor, xor-shr, xor-mod}
+use lib.Dec.{eqb}
+use lib.ListN.{length, getD, length-set, set, replicate, length-replicate, getD-replicate, List·getD-eq-default}
+use lib.Pow.{pow-pos, pow-lt, pow-add, shl-shr}
+use lib.Seq.{getD-set-same, getD-set-other, set-out}
+use borrow.Author.Tests.{eq-eqb, ne-eqb}
+use Rattle.marks.specs.Marks.{marked, flipped}
+
+-- the power of two by its bits: bit k alone
+power-bit : (k j : ℕ) → 2 ^ k / 2 ^ j % 2 ≡ cond (eqb j k) 1 0
+power-bit k j = go (ℕ-discrete j k) (decLt j k)
+  where
+    go : Dec (j ≡ k) → Dec (j < k) → 2 ^ k / 2 ^ j % 2 ≡ cond (eqb j k) 1 0
+    go (yes e) _ = rw (e, eq-eqb k k refl, div-self (pow-pos k))
+    go (no ne) (yes l) =
+        let e : k ≡ suc (k - suc j) + j = omega arith in
+        rw (ne-eqb j k ne, e, pow-add, shl-shr, pow-suc, mul-mod-left)
+    go (no ne) (no g) = let l : k < j = omega arith in rw (ne-eqb j k ne, div-eq-of-lt (pow-lt l))
+
+-- whether bit j of w is set
+abbrev bit : ℕ → ℕ → Bool
+bit w j = eqb (w / 2 ^ j % 2) 1
+
+-- w xor 2 ^ k is w with bit k turned over and every other bit kept
+bit-flipped : (w k j : ℕ) → bit (bitXor w (2 ^ k)) j ≡ cond (eqb j k) (not (bit w j)) (bit w j)
+bit-flipped w k j =
+    rw (xor-shr, xor-mod (w / 2 ^ j) (2 ^ k / 2 ^ j) 1, power-bit) (go (eqb j k) (w / 2 ^ j % 2) (mod-lt _ (omega arith)))
+  where
+    go : (t : Bool) (x : ℕ) → x < 2 → eqb (bitXor x (cond t 1 0)) 1 ≡ cond t (not (eqb x 1)) (eqb x 1)
+    go true zero h = refl
+    go true (suc zero) h = refl
+    go false zero h = refl
+    go false (suc zero) h = refl
+    go t (suc (suc x)) h = absurd (omega arith)
+
+pub length-flipped : (ms : List ℕ) (c : ℕ) → length (flipped ms c) ≡ length ms
+unfolding flipped
+length-flipped ms c = length-set ms (c / 256) _
+
+pub flip-same : (ms : List ℕ) (c : ℕ) → c / 256 < length ms → marked (flipped ms c) c ≡ not (marked ms c)
+unfolding marked flipped
+flip-same ms c h =
+    rw (getD-set-same, bit-flipped (getD ms (c / 256) 0), eq-eqb (c / 8 % 32) (c / 8 % 32) refl)
+
+pub flip-other : (ms : List ℕ) (c d : ℕ) → (c / 8 ≡ d / 8 → ⊥) → marked (flipped ms c) d ≡ marked ms d
+unfolding marked flipped
+flip-other ms c d ne =
+    kept (c / 256) (c / 8 % 32) (d / 256) (d / 8 % 32) (ℕ-discrete (d / 256) (c / 256)) (decLt (c / 256) (length ms))
+    (λ e f. omega arith)
+  where
+    kept : (i k h j : ℕ) → Dec (h ≡ i) → Dec (i < length ms) → (h ≡ i → j ≡ k → ⊥)
+        → bit (getD (set ms i (bitXor (getD ms i 0) (2 ^ k))) h 0) j ≡ bit (getD ms h 0) j
+    kept i k h j (no other) _ _ = rw (getD-set-other ms i h _ 0 other)
+    kept i k h j (yes e) (yes l) n =
+        rw (e, getD-set-same ms i _ 0 l, bit-flipped (getD ms i 0) k j, ne-eqb j k (n e))
+    kept i k h j (yes e) (no g) _ = rw (set-out ms i _ (omega arith))
+
+pub clear-marks : (n c : ℕ) → marked (replicate n 0) c ≡ false
+unfolding marked
+clear-marks n c = rw (go (decLt (c / 256) n), zero-div)
+  where
+    go : Dec (c / 256 < n) → _≡_ {A = ℕ} (getD (replicate n 0) (c / 256) 0) 0
+    go (yes l) = getD-replicate n (c / 256) 0 0 l
+    go (no g) = List·getD-eq-default (replicate n 0) 0 (rw length-replicate (omega arith))

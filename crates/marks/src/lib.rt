@@ -1,0 +1,27 @@
+// The bitmap of chunks: a mark for each multiple of 8, one bit of a word of 32 bits.
+// What a mark means is not known here.
+use region::Chunk;
+ghost use mathlib.Core.Path.{_≡_};
+ghost use Rattle.marks.specs.Marks.{marked, flipped};
+
+// Past the bitmap nothing is marked.
+pub fn is_marked(marks: &[u32], chunk: Chunk) -> bool
+    ensures { λ r. ⌜ r ≡ marked (now (marks .entry)) (chunk .0) ⌝ }
+{
+    let i = (chunk.0 / 256) as usize;
+    if i < marks.len() {
+        (marks[i] >> (chunk.0 / 8 % 32)) % 2 == 1
+    } else {
+        false
+    }
+}
+
+// Turns the mark over: sets it where it is clear, clears it where it is set. Past the bitmap nothing is written.
+pub fn flip(marks: &mut [u32], chunk: Chunk)
+    ensures { λ _. ⌜ now (marks .exit) ≡ flipped (now (marks .entry)) (chunk .0) ⌝ }
+{
+    let i = (chunk.0 / 256) as usize;
+    if i < marks.len() {
+        marks[i] ^= 1 << (chunk.0 / 8 % 32);
+    }
+}
