@@ -135,3 +135,18 @@ zeros-from (suc n) (v ∷ l) =
     at : ((i : ℕ) → n ≤ i → getD l i 0 ≡ 0) → (i : ℕ) → suc n ≤ i → getD (v ∷ l) i 0 ≡ 0
     at rest zero h = absurd (omega arith)
     at rest (suc i) h = rest i (omega arith)
+
+-- a conjunction that is tested part by part: where a part fails, and where it holds and the rest is s
+pub stops-at : {a t : Bool} (b : Bool) → t ≡ a → not t ≡ true → false ≡ (a && b)
+stops-at {a} {t} b e h = rw (← e) (go t h)
+  where
+    go : (t : Bool) → not t ≡ true → false ≡ (t && b)
+    go true h = absurd (false≢true h)
+    go false h = refl
+
+pub goes-on : {a b t s : Bool} → t ≡ a → not t ≡ false → s ≡ b → s ≡ (a && b)
+goes-on {a} {b} {t} {s} e h k = rw (← e) (go t h)
+  where
+    go : (t : Bool) → not t ≡ false → s ≡ (t && b)
+    go true h = k
+    go false h = absurd (true≢false h)

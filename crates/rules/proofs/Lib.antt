@@ -1,3 +1,4 @@
 pub mod ShapeLaws
+pub mod KindsLaws
 pub mod CheckLaws
 pub mod CasesLaws

@@ -1,6 +1,6 @@
 -- The readings follow links with no bound that shows: how the chain's reading goes on, and which list a bin's reading is. Assumes nothing.
 use mathlib.Core.Path.{_≡_, refl, sym, ap, _∙_}
-use mathlib.Core.Bool.{Bool, true, false, _&&_}
+use mathlib.Core.Bool.{Bool, true, false, _&&_, false≢true}
 use mathlib.Core.List.{List, [], _∷_}
 use Prim.Native.Nat.{ℕ, zero, suc, _+_, _-_, _≤_, _<_}
 use native.Mathlib.Omega.{arith}
@@ -22,6 +22,13 @@ module _ (ws : List ℕ) (bytes : ℕ) where
 
   up-iff : (c : ℕ) → Decides (up c) (Up c)
   up-iff c = both (less c (word ws c forward)) (less (word ws c forward) bytes)
+
+  pub up? : (c : ℕ) → Dec (Up c)
+  up? c = by (up c) refl
+    where
+      by : (t : Bool) → up c ≡ t → Dec (Up c)
+      by true e = yes (up-iff c .0 e)
+      by false e = no (λ u. false≢true (sym e ∙ up-iff c .1 u))
 
   abbrev pub lastEntry : ℕ → Entry
   lastEntry c = entry c (bytes - c) (flagsAt ws c)
@@ -67,6 +74,23 @@ module _ (ws : List ℕ) (bytes : ℕ) where
   pub shape-is : shape ws bytes ≡ chainFrom 0
   unfolding shape chainFrom
   shape-is = refl
+
+  -- a fact about the reading from each place on holds if it holds where links end and is handed down where they go up
+  module _ (P : ℕ → List Entry → Type 0) (last : (c : ℕ) → (Up c → ⊥) → P c (lastEntry c ∷ []))
+      (more : (c : ℕ) (es : List Entry) → Up c → P (word ws c forward) es → P c (upEntry c ∷ es)) where
+    along : (k c : ℕ) → bytes ≤ c + k → P c (shapeFrom k ws bytes c)
+    along zero c h = last c (λ u. omega arith)
+    along (suc k) c h = by (up c) refl (λ u. along k (word ws c forward) (omega (arith, u .0)))
+      where
+        by : (t : Bool) → up c ≡ t → (Up c → P (word ws c forward) (shapeFrom k ws bytes (word ws c forward)))
+            → P c (shapeFrom (suc k) ws bytes c)
+        by true e f = let u = up-iff c .0 e in rw (goes k c u) (more c _ u (f u))
+        by false e f =
+            let n : Up c → ⊥ = λ u. false≢true (sym e ∙ up-iff c .1 u) in rw (stops (suc k) c n) (last c n)
+
+    pub chain-by : (c : ℕ) → P c (chainFrom c)
+    unfolding chainFrom
+    chain-by c = along bytes c (omega arith)
 
 -- forward bin links lead along the list, from each member to the next, and from the last to 0
 abbrev pub Leads : List ℕ → List ℕ → Type 0

@@ -13,4 +13,5 @@ pub mod Reallocate
 pub mod Merge
 pub mod Ask
 pub mod Calls
+pub mod Statements
 pub mod Cases

@@ -1,0 +1,88 @@
+-- `survey::walk` examines, counts and marks the whole chain. The invariant: what is done and what is left come to the whole.
+-- The measure is what is left of the heap bytes. Assumes nothing.
+use Prim.Native.Nat.{_-_}
+use native.Mathlib.Omega.{arith}
+use mathlib.Core.Path.{_≡_, refl, sym, _∙_, ap}
+use borrow.Author.Needs.{needs}
+use lib.ListN.{length}
+use Rattle.audit.proofs.SurveyLaws.{Onward, begins, past-end, walk-breaks, walk-ends, walk-goes}
+use Rattle.audit.proofs.survey.walk.Statement.{statement}
+use Rattle.audit.proofs.survey.walk.Tie as tie
+
+abbrev Inv-loop : tie.InvT-loop
+Inv-loop region bytes donor top marks₀ tally₀ before₀ at₀ marks tally before at =
+    Onward region bytes (donor .0) (top .0) marks₀ marks tally before at × (length marks ≡ length marks₀)
+
+abbrev μ-loop : tie.MeasureT-loop
+μ-loop region bytes donor top marks₀ tally₀ before₀ at₀ marks tally before at = bytes - at
+
+loop-holds : tie.Need-loop-holds Inv-loop μ-loop
+loop-holds c = (begins _ _ _ _ _, refl)
+
+sub-size : tie.Need-sub-size Inv-loop μ-loop
+sub-size c =
+    past-end _ _ _ _ _ (c .before .word .ensures) (c .end-of .ensures) (c .before .before .loop .inv .0 .inside)
+
+same-length : tie.Need-same-length Inv-loop μ-loop
+same-length c = search needs
+
+returns : tie.Need-returns Inv-loop μ-loop
+returns c =
+    let l = c .before .before .before .before .before in
+    walk-breaks _ _ _ _ _ _ _ _ _ (c .before .before .before .before .word .ensures)
+    (c .before .before .before .end-of .ensures) (c .before .before .examine .ensures) (omega arith) _ _ _ (l .loop .inv .0)
+    (c .enum-told .given .1)
+
+same-length-2 : tie.Need-same-length-2 Inv-loop μ-loop
+same-length-2 c = search needs
+
+returns-2 : tie.Need-returns-2 Inv-loop μ-loop
+returns-2 c =
+    let l = c .before .before .before .before .before .before .before .before .before .before .before .before .before in
+    let s = c .before .before .before .before .before .before .before .before in
+    walk-ends _ _ _ _ _ _ _ _ _ (c .before .before .before .before .before .before .before .before .before .before .before .before .word .ensures) (c .before .before .before .before .before .before .before .before .before .before .before .end-of .ensures) (c .before .before .before .before .before .before .before .before .before .before .examine .ensures)
+    (omega arith) _ _ _ (l .loop .inv .0) _ (s .seen .given .1) _ (c .before .before .share-of .ensures) _ (c .before .added .ensures)
+    _ (c .before .before .before .before .before .mark .ensures) (c .if1 .taken)
+
+loop-less : tie.Need-loop-less Inv-loop μ-loop
+loop-less c =
+    let l = c .before .before .before .before .before .before .before .before .before .before .before .before .before in
+    let s = c .before .before .before .before .before .before .before .before in
+    let g =
+    walk-goes _ _ _ _ _ _ _ _ _ (c .before .before .before .before .before .before .before .before .before .before .before .before .word .ensures) (c .before .before .before .before .before .before .before .before .before .before .before .end-of .ensures) (c .before .before .before .before .before .before .before .before .before .before .examine .ensures)
+    (omega arith) _ _ _ (l .loop .inv .0) _ (s .seen .given .1) _ (c .before .before .share-of .ensures) _ (c .before .added .ensures)
+    _ (c .before .before .before .before .before .mark .ensures) (c .if1 .left) in
+    omega (arith, g .0, g .1)
+
+loop-again : tie.Need-loop-again Inv-loop μ-loop
+loop-again c =
+    let l = c .before .before .before .before .before .before .before .before .before .before .before .before .before in
+    let s = c .before .before .before .before .before .before .before .before in (
+      walk-goes _ _ _ _ _ _ _ _ _ (c .before .before .before .before .before .before .before .before .before .before .before .before .word .ensures) (c .before .before .before .before .before .before .before .before .before .before .before .end-of .ensures) (c .before .before .before .before .before .before .before .before .before .before .examine .ensures)
+          (omega arith) _ _ _ (l .loop .inv .0) _ (s .seen .given .1) _ (c .before .before .share-of .ensures) _ (c .before .added .ensures)
+          _ (c .before .before .before .before .before .mark .ensures) (c .if1 .left) .2,
+      search needs,
+    )
+
+pub walk-spec : {M : Type 1} → statement M
+walk-spec =
+    tie.close
+    (tie.spec
+    Inv-loop
+    μ-loop
+    loop-holds
+    (λ c κs. search needs)
+    (λ c κs. search needs)
+    sub-size
+    (λ c κs. search needs)
+    (λ c. search needs)
+    (λ c. search needs)
+    same-length
+    returns
+    (λ c κs. search needs)
+    (λ c κs. search needs)
+    (λ c κs. search needs)
+    same-length-2
+    returns-2
+    loop-less
+    loop-again)

@@ -1,0 +1,143 @@
+// The walk of the chain: every chunk is examined, counted and, if it is ordinary, marked.
+// Where the links lead is read here alone; the lists of the bins come afterwards.
+ghost use Prim.Native.Nat.{ℕ};
+ghost use mathlib.Core.Path.{_≡_};
+ghost use Rattle.audit.specs.Survey.{shareOf, marking, added, SurveyIs};
+use crate::chunks::Seen;
+use crate::chunks::examine;
+use chain::end_of;
+use chain::is_ordinary;
+use marks::flip;
+use record::kinds::Kind;
+use region::Chunk;
+use region::FORWARD;
+use region::word;
+
+// What one chunk adds to each count.
+pub struct Share {
+    pub ordinary: u32,
+    pub donors: u32,
+    pub tops: u32,
+    pub used: u32,
+    pub free: u32,
+}
+
+// The counts, and the place of the last chunk.
+pub struct Tally {
+    pub chunks: u32,
+    pub ordinary: u32,
+    pub donors: u32,
+    pub tops: u32,
+    pub used: u32,
+    pub free: u32,
+    pub end: u32,
+}
+
+pub enum Survey {
+    Surveyed(Tally),
+    Broken,
+}
+
+pub fn share_of(kind: Kind, size: u32) -> Share
+    ensures { λ r. ⌜ r ≡ shareOf kind size ⌝ }
+{
+    match kind {
+        Kind::Start => Share {
+            ordinary: 0,
+            donors: 0,
+            tops: 0,
+            used: 0,
+            free: 0,
+        },
+        Kind::InUse => Share {
+            ordinary: 0,
+            donors: 0,
+            tops: 0,
+            used: size,
+            free: 0,
+        },
+        Kind::Ordinary => Share {
+            ordinary: 1,
+            donors: 0,
+            tops: 0,
+            used: 0,
+            free: size,
+        },
+        Kind::Donor => Share {
+            ordinary: 0,
+            donors: 1,
+            tops: 0,
+            used: 0,
+            free: size,
+        },
+        Kind::Top => Share {
+            ordinary: 0,
+            donors: 0,
+            tops: 1,
+            used: 0,
+            free: size,
+        },
+        Kind::End => Share {
+            ordinary: 0,
+            donors: 0,
+            tops: 0,
+            used: 0,
+            free: 0,
+        },
+    }
+}
+
+// The sums never wrap: all sizes together are the heap bytes.
+pub fn added(tally: Tally, share: Share, chunk: Chunk) -> Tally
+    ensures { λ r. ⌜ r ≡ added tally share (chunk .0) ⌝ }
+{
+    Tally {
+        chunks: std::num::wrapping_add_u32(tally.chunks, 1),
+        ordinary: std::num::wrapping_add_u32(tally.ordinary, share.ordinary),
+        donors: std::num::wrapping_add_u32(tally.donors, share.donors),
+        tops: std::num::wrapping_add_u32(tally.tops, share.tops),
+        used: std::num::wrapping_add_u32(tally.used, share.used),
+        free: std::num::wrapping_add_u32(tally.free, share.free),
+        end: chunk.0,
+    }
+}
+
+pub fn mark(marks: &mut [u32], kind: Kind, chunk: Chunk)
+    ensures { λ _. ⌜ now (marks .exit) ≡ marking (now (marks .entry)) kind (chunk .0) ⌝ }
+{
+    if is_ordinary(kind) {
+        flip(marks, chunk);
+    }
+}
+
+pub fn walk(region: &[u32], bytes: u32, donor: Chunk, top: Chunk, marks: &mut [u32]) -> Survey
+    ensures { λ r. ⌜ SurveyIs (now (region .entry)) bytes (donor .0) (top .0) (now (marks .entry)) (now (marks .exit)) r ⌝ }
+{
+    let mut tally = Tally {
+        chunks: 0,
+        ordinary: 0,
+        donors: 0,
+        tops: 0,
+        used: 0,
+        free: 0,
+        end: 0,
+    };
+    let mut before = 0;
+    let mut at = 0;
+    loop {
+        let next = word(region, Chunk(at), FORWARD);
+        let end = end_of(bytes, Chunk(at), next);
+        let size = end - at;
+        let seen = examine(region, bytes, donor, top, Chunk(before), Chunk(at), size);
+        let Seen::Sound(kind) = seen else {
+            return Survey::Broken;
+        };
+        mark(marks, kind, Chunk(at));
+        tally = added(tally, share_of(kind, size), Chunk(at));
+        if end == bytes {
+            return Survey::Surveyed(tally);
+        }
+        before = at;
+        at = end;
+    }
+}

@@ -1,0 +1,5 @@
+pub mod BooksSteps
+pub mod MembersLaws
+pub mod RunsLaws
+pub mod BooksLaws
+pub mod SearchLaws

@@ -1,0 +1,69 @@
+-- Lists taken apart and put together at a member: ends, members, and that no member stands twice. Assumes nothing.
+use mathlib.Core.Path.{_≡_, refl, sym}
+use mathlib.Core.Logic.{_⊎_, inl, inr}
+use mathlib.Core.List.{List, [], _∷_, _++_, List·Memᴰ·head, List·Memᴰ·tail, List·Memᴰ·not-nil, Memᴰ·append-left, Memᴰ·append-right, Memᴰ·cast}
+use Prim.Native.Nat.{ℕ}
+use Rattle.lists.specs.Lists.{Mem, headOr, lastOr, Distinct}
+
+pub head-append : (d : ℕ) (xs ys : List ℕ) → headOr d (xs ++ ys) ≡ headOr (headOr d ys) xs
+head-append d [] ys = refl
+head-append d (x ∷ xs) ys = refl
+
+pub last-append : (d : ℕ) (xs ys : List ℕ) → lastOr d (xs ++ ys) ≡ lastOr (lastOr d xs) ys
+last-append d [] ys = refl
+last-append d (x ∷ xs) ys = last-append x xs ys
+
+pub last-member : (x : ℕ) (xs : List ℕ) → Mem (lastOr x xs) (x ∷ xs)
+last-member x [] = List·Memᴰ·head refl
+last-member x (y ∷ ys) = List·Memᴰ·tail (last-member y ys)
+
+-- a member of the list without c is a member of the list with it
+pub member-with : {z : ℕ} (xs : List ℕ) (c : ℕ) (ys : List ℕ) → Mem z (xs ++ ys) → Mem z (xs ++ c ∷ ys)
+member-with [] c ys m = List·Memᴰ·tail m
+member-with (x ∷ xs) c ys (List·Memᴰ·head e) = List·Memᴰ·head e
+member-with (x ∷ xs) c ys (List·Memᴰ·tail m) = List·Memᴰ·tail (member-with xs c ys m)
+
+-- and the other way, c itself aside
+pub member-without : {z : ℕ} (xs : List ℕ) (c : ℕ) (ys : List ℕ) → Mem z (xs ++ c ∷ ys) → (z ≡ c) ⊎ Mem z (xs ++ ys)
+member-without [] c ys (List·Memᴰ·head e) = inl e
+member-without [] c ys (List·Memᴰ·tail m) = inr m
+member-without (x ∷ xs) c ys (List·Memᴰ·head e) = inr (List·Memᴰ·head e)
+member-without {z} (x ∷ xs) c ys (List·Memᴰ·tail m) = further (member-without xs c ys m)
+  where
+    further : (z ≡ c) ⊎ Mem z (xs ++ ys) → (z ≡ c) ⊎ Mem z (x ∷ xs ++ ys)
+    further (inl e) = inl e
+    further (inr k) = inr (List·Memᴰ·tail k)
+
+pub distinct-without : (xs : List ℕ) (c : ℕ) (ys : List ℕ) → Distinct (xs ++ c ∷ ys) → Distinct (xs ++ ys)
+distinct-without [] c ys u = u .1
+distinct-without (x ∷ xs) c ys u = (λ m. u .0 (member-with xs c ys m), distinct-without xs c ys (u .1))
+
+pub distinct-with : (xs : List ℕ) (c : ℕ) (ys : List ℕ) → (Mem c (xs ++ ys) → ⊥) → Distinct (xs ++ ys)
+    → Distinct (xs ++ c ∷ ys)
+distinct-with [] c ys out u = (out, u)
+distinct-with (x ∷ xs) c ys out u =
+    (λ m. neither (member-without xs c ys m), distinct-with xs c ys (λ m. out (List·Memᴰ·tail m)) (u .1))
+  where
+    neither : (x ≡ c) ⊎ Mem x (xs ++ ys) → ⊥
+    neither (inl e) = out (List·Memᴰ·head (sym e))
+    neither (inr m) = u .0 m
+
+-- the two parts of a list in which no member stands twice have none in common
+pub record Apart (xs ys : List ℕ) : Type 0 where
+  pub left : Distinct xs
+  pub right : Distinct ys
+  pub none : (d : ℕ) → Mem d xs → Mem d ys → ⊥
+
+pub distinct-parts : (xs ys : List ℕ) → Distinct (xs ++ ys) → Apart xs ys
+distinct-parts [] ys u = record { left = tt; right = u; none = λ d m k. List·Memᴰ·not-nil m }
+distinct-parts (x ∷ xs) ys u =
+    let r = distinct-parts xs ys (u .1) in
+    record {
+      left = (λ m. u .0 (Memᴰ·append-left ys m), r .left);
+      right = r .right;
+      none = λ d m k. common d (r .none) m k;
+    }
+  where
+    common : (d : ℕ) → ((e : ℕ) → Mem e xs → Mem e ys → ⊥) → Mem d (x ∷ xs) → Mem d ys → ⊥
+    common d f (List·Memᴰ·head e) k = u .0 (Memᴰ·append-right xs (Memᴰ·cast (sym e) k))
+    common d f (List·Memᴰ·tail m) k = f d m k

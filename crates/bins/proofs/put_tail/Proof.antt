@@ -1,0 +1,18 @@
+-- `bins::put_tail` puts between 0 and the tail that it reads. Assumes nothing.
+use borrow.Author.Needs.{needs}
+use Rattle.bins.proofs.put_tail.Statement.{statement}
+use Rattle.bins.proofs.put_tail.Tie as tie
+
+returns : tie.Need-returns
+returns c = rw (c .before .before .before .before .before .before .put-between .ensures, c .before .before .before .before .before .before .before .before .before .before .end-of .ensures)
+
+pub put-tail-spec : {M : Type 1} → statement M
+put-tail-spec =
+    tie.close
+    (tie.spec
+    (λ c κs. search needs)
+    (λ c κs. search needs)
+    (λ c. search needs)
+    (λ c. search needs)
+    (λ c. search needs)
+    returns)
