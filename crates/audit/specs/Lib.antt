@@ -1,2 +1,3 @@
 pub mod Chunks
 pub mod Survey
+pub mod Sweep

@@ -2,3 +2,4 @@
 // bin's list that clears the marks. Nothing is written into the region.
 pub mod chunks;
 pub mod survey;
+pub mod sweep;

@@ -37,6 +37,13 @@ module _ {P Q : Type 0} where
       go true false d e = (λ h. absurd (false≢true h), λ h. e .1 (h .1))
       go false t d e = (λ h. absurd (false≢true h), λ h. d .1 (h .0))
 
+  pub or-else : {s t : Bool} → Decides s P → Decides t Q → Decides (s || t) (P ⊎ Q)
+  or-else {s} {t} = go s t
+    where
+      go : (s t : Bool) → Decides s P → Decides t Q → Decides (s || t) (P ⊎ Q)
+      go true t d e = (λ h. inl (d .0 refl), λ h. refl)
+      go false t d e = (λ h. inr (e .0 h), λ h. elim h [ inl p ↦ absurd (false≢true (d .1 p)) | inr q ↦ e .1 q ])
+
   pub if-then : {s t : Bool} → Decides s P → Decides t Q → Decides (not s || t) (P → Q)
   if-then {s} {t} = go s t
     where

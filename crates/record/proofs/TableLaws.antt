@@ -4,16 +4,17 @@ use Prim.Native.Nat.{ℕ, zero, suc, _+_, _*_, _-_, _/_, _%_, _≤_, _<_}
 use native.Mathlib.Nat.{add-zero, add-suc}
 use native.Mathlib.Omega.{arith}
 use native.Mathlib.Decide.{decLe}
-use mathlib.Core.Path.{_≡_, refl, sym, _∙_, ap}
+use mathlib.Core.Logic.{_⊎_, inl, inr}
+use mathlib.Core.Path.{_≡_, refl, sym, _∙_, ap, subst}
 use mathlib.Core.Bool.{Bool, true, false, cond}
 use mathlib.Core.List.{List, [], _∷_}
 use borrow.Author.Tests.{eqb-true, eqb-false, leb-true, leb-false}
 use lib.Dec.{eqb, leb}
 use lib.ListN.{length, drop}
-use Rattle.lists.proofs.ListsLaws.{Decides, number-is, at-most, less, both, meaning}
+use Rattle.lists.proofs.ListsLaws.{Decides, number-is, at-most, less, both, or-else, meaning}
 use Rattle.record.specs.declared.table.Binned.{Binned}
 use Rattle.record.specs.declared.table.Binned.the-variants.{Bin, NoBin}
-use Rattle.record.specs.Table.{sizeAt, ValidTable, goesUp, validTable, Takes, TakenBy, oneOn, binOf, run, SmallBins, smallBins, guideTable}
+use Rattle.record.specs.Table.{sizeAt, ValidTable, goesUp, validTable, Takes, TakenBy, oneOn, binOf, run, takesBin, SmallBins, smallBins, guideTable}
 
 -- the sizes bs after b are multiples of 8, each greater than the one before
 pub record Follow (b : ℕ) (bs : List ℕ) : Type 0 where
@@ -220,6 +221,29 @@ module _ (t : List ℕ) (v : ValidTable t) where
                   let next = small-bins-is t v .gapless (suc (s / 8 - 3)) (omega arith) in
                   let up = table-up (suc (s / 8 - 3)) j (omega arith) h in
                   omega arith
+
+  -- the comparison with two sizes decides which bin a size has
+  pub takes-iff : (i s : ℕ) → Decides (takesBin t i s) (binOf t s ≡ Bin i)
+  unfolding takesBin
+  takes-iff i s =
+      meaning (both (both (less i (length t)) (at-most (sizeAt t i) s)) (or-else (at-most (length t) (suc i)) (less s (sizeAt t (suc i)))))
+        (λ h. sym (bin-is t s (Bin i) (record { inside = h .0 .0; notAbove = h .0 .1; last = λ j lo hi. above (h .1) j lo hi })))
+        (λ e. back (subst (λ (r : Binned). TakenBy t s r) e (bin-taken t s)))
+    where
+      above : (length t ≤ suc i) ⊎ (s < sizeAt t (suc i)) → (j : ℕ) → i < j → j < length t → s < sizeAt t j
+      above (inl l) j lo hi = absurd (omega arith)
+      above (inr l) j lo hi = go (decLe j (suc i))
+        where
+          go : Dec (j ≤ suc i) → s < sizeAt t j
+          go (yes q) = let e : j ≡ suc i = omega arith in rw e l
+          go (no n) = let u = table-up (suc i) j (omega arith) hi in omega arith
+
+      back : Takes t s i → ((i < length t) × (sizeAt t i ≤ s)) × ((length t ≤ suc i) ⊎ (s < sizeAt t (suc i)))
+      back k = ((k .inside, k .notAbove), go (decLe (length t) (suc i)))
+        where
+          go : Dec (length t ≤ suc i) → (length t ≤ suc i) ⊎ (s < sizeAt t (suc i))
+          go (yes l) = inl l
+          go (no n) = inr (k .last (suc i) (omega arith) (omega arith))
 
 -- the guide's table is valid, and its m is 13
 pub guide-valid : validTable guideTable ≡ true

@@ -8,7 +8,7 @@ use borrow.Author.Tests.{eq-eqb, ne-eqb, lt-ltb, le-ltb, le-leb, lt-leb, ltb-tru
 use lib.Dec.{ltb}
 use lib.ListN.{length, getD, drop, drop-of-length-le}
 use lib.Seq.{drop-cons}
-use Rattle.record.specs.Table.{run, smallBins, goesUp, validTable}
+use Rattle.record.specs.Table.{run, smallBins, goesUp, validTable, takesBin}
 
 pub small-start : (t : List ℕ) → run 32 (drop 1 t) ≡ smallBins t
 small-start [] = refl
@@ -70,3 +70,25 @@ small-eights s m h = go (ltb (s / 8 - 3) m) refl
 
 pub small-low : (s m : ℕ) → s / 8 < 3 → ltb s (24 + 8 * m) ≡ true
 small-low s m h = lt-ltb s (24 + 8 * m) (omega arith)
+
+-- which part of the test for a bin decides
+module _ (t : List ℕ) (i s : ℕ) where
+  pub takes-none : length t ≤ i → takesBin t i s ≡ false
+  unfolding takesBin
+  takes-none h = rw (le-ltb i (length t) h)
+
+  module _ (inside : i < length t) where
+    pub takes-low : s < getD t i 0 → takesBin t i s ≡ false
+    unfolding takesBin
+    takes-low h = rw (lt-ltb i (length t) inside, lt-leb (getD t i 0) s h)
+
+    module _ (enough : getD t i 0 ≤ s) where
+      pub takes-last : length t - i ≡ 1 → takesBin t i s ≡ true
+      unfolding takesBin
+      takes-last h =
+          rw (lt-ltb i (length t) inside, le-leb (getD t i 0) s enough, le-leb (length t) (suc i) (omega arith))
+
+      pub takes-next : (length t - i ≡ 1 → ⊥) → takesBin t i s ≡ ltb s (getD t (suc i) 0)
+      unfolding takesBin
+      takes-next h =
+          rw (lt-ltb i (length t) inside, le-leb (getD t i 0) s enough, lt-leb (length t) (suc i) (omega arith))

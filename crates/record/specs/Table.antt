@@ -1,6 +1,6 @@
 -- The bin table (document 01, "The bin table and the record"): which tables are valid, the bin of a size, the small array.
 use mathlib.Core.Path.{_≡_}
-use mathlib.Core.Bool.{Bool, true, false, cond, _&&_}
+use mathlib.Core.Bool.{Bool, true, false, cond, _&&_, _||_}
 use mathlib.Core.List.{List, [], _∷_}
 use Prim.Native.Nat.{ℕ, zero, suc, _+_, _*_, _-_, _%_, _≤_, _<_}
 use lib.Dec.{eqb, leb, ltb}
@@ -55,6 +55,10 @@ oneOn NoBin false = NoBin
 abbrev pub binOf : List ℕ → ℕ → Binned
 binOf [] s = NoBin
 binOf (b ∷ bs) s = oneOn (binOf bs s) (leb b s)
+
+-- bin i of a valid table takes the size s, as a test: s lies between its size and the next one's
+unfoldable pub takesBin : List ℕ → ℕ → ℕ → Bool
+takesBin t i s = ltb i (length t) && leb (sizeAt t i) s && (leb (length t) (suc i) || ltb s (sizeAt t (suc i)))
 
 -- how many sizes go on from `next` by eights without a gap
 abbrev pub run : ℕ → List ℕ → ℕ

@@ -1,0 +1,63 @@
+-- `sweep::sweep_bins` combs the lists of all bins. The invariant: what is done and what is left come to all; the measure: the bins left.
+-- Assumes nothing.
+use Prim.Native.Nat.{_-_}
+use native.Mathlib.Omega.{arith}
+use mathlib.Core.Path.{_≡_, refl}
+use borrow.Author.Needs.{needs}
+use lib.ListN.{length}
+use Rattle.audit.proofs.SweepLaws.{Sweeping, sweeping-begins, sweeping-goes, dirty-list, dirty-tail, all-clean, torn-is, whole-is}
+use Rattle.audit.proofs.sweep.sweep_bins.Statement.{statement}
+use Rattle.audit.proofs.sweep.sweep_bins.Tie as tie
+
+abbrev Inv-loop : tie.InvT-loop
+Inv-loop region marks₀ table heads tails steps bin₀ met₀ marks bin met =
+    Sweeping region table heads tails steps marks₀ marks bin met × (length marks ≡ length marks₀)
+
+abbrev μ-loop : tie.MeasureT-loop
+μ-loop region marks₀ table heads tails steps bin₀ met₀ marks bin met = length table - bin
+
+loop-holds : tie.Need-loop-holds Inv-loop μ-loop
+loop-holds c = (sweeping-begins _ _ _ _ _ _, refl)
+
+returns : tie.Need-returns Inv-loop μ-loop
+returns c =
+    dirty-list _ _ _ _ _ _ _ _ _ (c .before .before .before .before .before .before .before .before .loop .inv .0) (c .before .before .before .before .before .before .before .loop-test .taken) (c .before .before .before .before .before .end-of .ensures)
+      (torn-is _ _ _ _ _ _ _ _ (c .before .before .before .before .sweep-list .ensures) (c .enum-told .given .1))
+
+returns-2 : tie.Need-returns-2 Inv-loop μ-loop
+returns-2 c =
+    dirty-tail _ _ _ _ _ _ _ _ _ (c .before .before .before .before .before .before .before .before .before .before .before .loop .inv .0) (c .before .before .before .before .before .before .before .before .before .before .loop-test .taken) (c .before .before .before .before .before .before .before .before .end-of .ensures) _
+      (whole-is _ _ _ _ _ _ _ _ (c .before .before .before .before .before .before .before .sweep-list .ensures) (c .before .before .before .swept .given .1)) (c .before .end-of2 .ensures) (c .if1 .taken)
+
+loop-again : tie.Need-loop-again Inv-loop μ-loop
+loop-again c =
+    (sweeping-goes _ _ _ _ _ _ _ _ _ (c .before .before .before .before .before .before .before .before .before .before .before .before .loop .inv .0) (c .before .before .before .before .before .before .before .before .before .before .before .loop-test .taken) (c .before .before .before .before .before .before .before .before .before .end-of .ensures) _
+      (whole-is _ _ _ _ _ _ _ _ (c .before .before .before .before .before .before .before .before .sweep-list .ensures) (c .before .before .before .before .swept .given .1)) (c .before .before .end-of2 .ensures)
+      (c .before .if1 .left) (c .wrapping-add-u32 .ensures),
+      search needs)
+
+returns-3 : tie.Need-returns-3 Inv-loop μ-loop
+returns-3 c = all-clean _ _ _ _ _ _ _ _ _ (c .before .loop .inv .0) (c .loop-test .left)
+
+pub sweep-bins-spec : {M : Type 1} → statement M
+sweep-bins-spec =
+    tie.close
+    (tie.spec
+    Inv-loop
+    μ-loop
+    loop-holds
+    (λ c κs. search needs)
+    (λ c κs. search needs)
+    (λ c. search needs)
+    (λ c. search needs)
+    (λ c. search needs)
+    returns
+    (λ c κs. search needs)
+    (λ c. search needs)
+    returns-2
+    (λ c κs. search needs)
+    (λ c. omega arith)
+    (λ c. omega arith)
+    loop-again
+    (λ c. search needs)
+    returns-3)
