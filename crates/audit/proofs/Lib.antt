@@ -1,3 +1,4 @@
 pub mod ChunkLaws
 pub mod SurveyLaws
 pub mod SweepLaws
+pub mod SweepMeaning

@@ -14,7 +14,7 @@ use Rattle.region.proofs.WordsLaws.{Off, off, word-same, word-other, length-sto
 use Rattle.rules.specs.Check.{Linked}
 use Rattle.rules.specs.Draft.{followedBy, precededBy, meet}
 use Rattle.bins.specs.Books.{Books, books, side, linkM, leaveM, putM}
-use Rattle.bins.proofs.MembersLaws.{head-append, last-append, last-member, member-with, member-without, distinct-without, distinct-with, distinct-parts}
+use Rattle.lists.proofs.MembersLaws.{head-append, last-append, last-member, member-with, member-without, distinct-without, distinct-with, distinct-parts}
 use Rattle.bins.proofs.RunsLaws.{Node, Nodes, Run, whole-run, run-whole, run-cut, run-joined, Clear, run-keeps, run-followed, run-preceded, clear-followed, clear-preceded, NoLink, meet-off, followed-off, preceded-off, links-apart, off-both}
 
 -- bin i of the books is the list cs

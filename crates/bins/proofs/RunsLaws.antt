@@ -11,7 +11,7 @@ use Rattle.region.specs.Words.{word, Store, put, written, nextInBin, previousIn
 use Rattle.region.proofs.WordsLaws.{Off, off, word-same, word-other}
 use Rattle.rules.specs.Check.{Linked}
 use Rattle.rules.specs.Draft.{followedBy, precededBy, meet}
-use Rattle.bins.proofs.MembersLaws.{head-append, last-member}
+use Rattle.lists.proofs.MembersLaws.{head-append, last-member}
 
 -- a chunk's place that can be in a list: inside the region, which has so many words, at a multiple of 8, not 0
 pub record Node (words : ℕ) (c : ℕ) : Type 0 where

@@ -37,6 +37,14 @@ module _ {P Q : Type 0} where
       go true false d e = (λ h. absurd (false≢true h), λ h. e .1 (h .1))
       go false t d e = (λ h. absurd (false≢true h), λ h. d .1 (h .0))
 
+  -- the second test need decide its fact only where the first holds
+  pub both-if : {s t : Bool} → Decides s P → (P → Decides t Q) → Decides (s && t) (P × Q)
+  both-if {s} {t} = go s t
+    where
+      go : (s t : Bool) → Decides s P → (P → Decides t Q) → Decides (s && t) (P × Q)
+      go true t d e = let p = d .0 refl in (λ h. (p, e p .0 h), λ h. e p .1 (h .1))
+      go false t d e = (λ h. absurd (false≢true h), λ h. d .1 (h .0))
+
   pub or-else : {s t : Bool} → Decides s P → Decides t Q → Decides (s || t) (P ⊎ Q)
   or-else {s} {t} = go s t
     where

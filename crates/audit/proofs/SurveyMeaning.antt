@@ -1,0 +1,382 @@
+-- The walk of the chain and three tests after it find exactly the check's facts about the chain (`found-facts`, `facts-found`),
+-- and its counts are the check's counts. Assumes nothing.
+use mathlib.Core.Path.{_≡_, refl, sym, ap, _∙_}
+use mathlib.Core.Bool.{Bool, true, false, cond}
+use mathlib.Core.List.{List, [], _∷_, List·Memᴰ·head, List·Memᴰ·tail, List·Memᴰ·not-nil}
+use Prim.Native.Nat.{ℕ, suc, _+_, _-_, _%_, _≤_, _<_}
+use native.Mathlib.Decide.{ℕ-discrete, decLt}
+use native.Mathlib.Omega.{arith}
+use lib.ListN.{length}
+use Rattle.lists.specs.Lists.{Mem, headOr, lastOr, keep, total}
+use Rattle.lists.proofs.ListsLaws.{Decides, number-is, at-most, less, meaning, both}
+use Rattle.record.specs.declared.heap.Heap.{Heap}
+use Rattle.record.specs.declared.kinds.Kind.{Kind}
+use Rattle.record.specs.declared.kinds.Kind.the-variants.{Start, InUse, Ordinary, Donor, Top, End}
+use Rattle.region.specs.Words.{word, forward, backward, size, nextInBin, previousInBin, bin}
+use Rattle.rules.specs.Shape.{Entry, flagsAt, shape}
+use Rattle.rules.specs.Kinds.{kindAt, kindOf, ordinary, isFree, live, ordinaryKind, freeKind, liveKind, outside}
+use Rattle.rules.specs.Check.{Chained, Ended, Backed, Sound, Unbinned, Reserved, TopIs, DonorIs, usedBytes, freeBytes}
+use Rattle.rules.proofs.KindsLaws.{kind-start, kind-end, kind-in-use, kind-top, kind-donor, kind-ordinary}
+use Rattle.rules.proofs.ShapeLaws.{Up, lastEntry, upEntry, shape-is, chain-by}
+use Rattle.audit.specs.declared.survey.Tally.{Tally}
+use Rattle.audit.specs.Chunks.{backedAt, sizedAt, startIs, endIs, reservedAt, donorAt, topAt, soundAs, soundAt}
+use Rattle.audit.specs.Survey.{shareOf, allSound, tallyOf}
+
+-- the facts of a heap that passes which speak of the chain alone
+pub record ChainFacts (ws : List ℕ) (h : Heap) (es : List Entry) : Type 0 where
+  pub chain : Chained ws h es
+  pub ends : Ended es
+  pub backward : Backed ws 0 es
+  pub chunks : (e : Entry) → Mem e es → Sound ws h e
+  pub top : (e : Entry) × Mem e es × TopIs ws h e
+  pub donor : 0 < h .donor .0 → (e : Entry) × Mem e es × DonorIs ws h e
+
+-- the tally of a list of chunks, with the record's bytes, donor and top
+abbrev pub tallyFor : Heap → List Entry → Tally
+tallyFor h es = tallyOf (h .bytes) (h .donor .0) (h .top .0) es
+
+-- what the walk and the tests after it find
+pub record Found (ws : List ℕ) (h : Heap) : Type 0 where
+  pub sound : allSound ws (h .bytes) (h .donor .0) (h .top .0) 0 (shape ws (h .bytes)) ≡ true
+  pub end : tallyFor h (shape ws (h .bytes)) .end + 8 ≡ h .bytes
+  pub top : 0 < tallyFor h (shape ws (h .bytes)) .tops
+  pub donor : 0 < h .donor .0 → 0 < tallyFor h (shape ws (h .bytes)) .donors
+
+-- what holds of the first and of all others holds of each
+each-cons : {A : Type 0} {P : A → Type 0} {x : A} {xs : List A} → P x → ((y : A) → Mem y xs → P y)
+    → (y : A) → Mem y (x ∷ xs) → P y
+each-cons here rest y (List·Memᴰ·head e) = rw e here
+each-cons here rest y (List·Memᴰ·tail m) = rest y m
+
+-- a sum is above 0 exactly if one of its figures is
+some-of-total : {A : Type 0} (f : A → ℕ) (xs : List A) → 0 < total f xs → (x : A) × Mem x xs × (0 < f x)
+some-of-total f [] h = absurd (omega arith)
+some-of-total f (x ∷ xs) h =
+    elim (decLt 0 (f x)) [
+      | yes l ↦ (x, List·Memᴰ·head refl, l)
+      | no n ↦ let r = some-of-total f xs (omega arith) in (r .0, List·Memᴰ·tail (r .1), r .2)
+    ]
+
+total-of-some : {A : Type 0} (f : A → ℕ) {x : A} {xs : List A} → Mem x xs → 0 < f x → 0 < total f xs
+total-of-some f (List·Memᴰ·head e) h = let g : 0 < f _ = rw e at h in omega arith
+total-of-some f (List·Memᴰ·tail m) h = let r = total-of-some f m h in omega arith
+
+-- places go up, the first of them from c on
+abbrev pub Rising : ℕ → List Entry → Type 0
+Rising c [] = Unit {0}
+Rising c (e ∷ es) = (c ≤ e .place) × Rising (suc (e .place)) es
+
+rising-from : (b c : ℕ) (es : List Entry) → b ≤ c → Rising c es → Rising b es
+rising-from b c [] l r = tt
+rising-from b c (e ∷ es) l r = (omega (arith, r .0), r .1)
+
+at-least : (c : ℕ) {e : Entry} (es : List Entry) → Rising c es → Mem e es → c ≤ e .place
+at-least c (d ∷ es) r (List·Memᴰ·head q) = rw q (r .0)
+at-least c (d ∷ es) r (List·Memᴰ·tail m) = omega (arith, r .0, at-least (suc (d .place)) es (r .1) m)
+
+-- so a place has one chunk
+same-place : (c : ℕ) {d e : Entry} (es : List Entry) → Rising c es → Mem d es → Mem e es → d .place ≡ e .place → d ≡ e
+same-place c (x ∷ es) r (List·Memᴰ·head p) (List·Memᴰ·head q) s = p ∙ sym q
+same-place c (x ∷ es) r (List·Memᴰ·head p) (List·Memᴰ·tail m) s =
+    let l = at-least (suc (x .place)) es (r .1) m in let b = ap (λ (y : Entry). y .place) p in absurd (omega arith)
+same-place c (x ∷ es) r (List·Memᴰ·tail n) (List·Memᴰ·head q) s =
+    let l = at-least (suc (x .place)) es (r .1) n in let b = ap (λ (y : Entry). y .place) q in absurd (omega arith)
+same-place c (x ∷ es) r (List·Memᴰ·tail n) (List·Memᴰ·tail m) s = same-place (suc (x .place)) es (r .1) n m s
+
+-- what is known of the chain from c on before anything is tested
+pub record Chain (ws : List ℕ) (bytes c : ℕ) (es : List Entry) : Type 0 where
+  pub first : headOr outside es .place ≡ c
+  pub has-first : Mem (headOr outside es) es
+  pub has-last : (d : Entry) → Mem (lastOr d es) es
+  pub rising : Rising c es
+  pub flags : (e : Entry) → Mem e es → e .flags ≡ flagsAt ws (e .place)
+  pub inside : c < bytes → (e : Entry) → Mem e es → e .place < bytes
+
+pub shape-chain : (ws : List ℕ) (bytes : ℕ) → Chain ws bytes 0 (shape ws bytes)
+shape-chain ws bytes = rw (shape-is ws bytes) (chain-by ws bytes (Chain ws bytes) last more 0)
+  where
+    last : (c : ℕ) → (Up ws bytes c → ⊥) → Chain ws bytes c (lastEntry ws bytes c ∷ [])
+    last c n =
+        record {
+          first = refl;
+          has-first = List·Memᴰ·head refl;
+          has-last = λ d. List·Memᴰ·head refl;
+          rising = (omega arith, tt);
+          flags = each-cons refl (λ e m. absurd (List·Memᴰ·not-nil m));
+          inside = λ l. each-cons l (λ e m. absurd (List·Memᴰ·not-nil m));
+        }
+
+    more : (c : ℕ) (es : List Entry) → Up ws bytes c → Chain ws bytes (word ws c forward) es → Chain ws bytes c (upEntry ws bytes c ∷ es)
+    more c es u r =
+        record {
+          first = refl;
+          has-first = List·Memᴰ·head refl;
+          has-last = λ d. List·Memᴰ·tail (r .has-last _);
+          rising = (omega arith, rising-from (suc c) (word ws c forward) es (u .0) (r .rising));
+          flags = each-cons refl (r .flags);
+          inside = λ l. each-cons l (r .inside (u .1));
+        }
+
+-- what a kind says of the place and the flag of its chunk
+module _ (bytes donor top : ℕ) (e : Entry) where
+  abbrev Being : Kind → Type 0
+  Being Start = e .place ≡ 0
+  Being InUse = (0 < e .place) × (e .place + 8 ≡ bytes → ⊥) × (e .flags % 2 ≡ 1)
+  Being Ordinary = (0 < e .place) × (e .place + 8 ≡ bytes → ⊥) × (e .flags % 2 ≡ 0)
+  Being Donor = (0 < e .place) × (e .place + 8 ≡ bytes → ⊥) × (e .flags % 2 ≡ 0) × (e .place ≡ donor)
+  Being Top = (0 < e .place) × (e .place + 8 ≡ bytes → ⊥) × (e .flags % 2 ≡ 0) × (e .place ≡ top)
+  Being End = (0 < e .place) × (e .place + 8 ≡ bytes)
+
+  being : Being (kindAt bytes donor top e)
+  being =
+      go (ℕ-discrete (e .place) 0) (ℕ-discrete (e .place + 8) bytes) (ℕ-discrete (e .flags % 2) 1)
+      (ℕ-discrete (e .place) top) (ℕ-discrete (e .place) donor)
+    where
+      go : Dec (e .place ≡ 0) → Dec (e .place + 8 ≡ bytes) → Dec (e .flags % 2 ≡ 1)
+          → Dec (e .place ≡ top) → Dec (e .place ≡ donor) → Being (kindAt bytes donor top e)
+      go (yes p) _ _ _ _ = rw (← kind-start bytes donor top e p) p
+      go (no s) (yes p) _ _ _ = rw (← kind-end bytes donor top e s p) (omega arith, p)
+      go (no s) (no b) (yes p) _ _ = rw (← kind-in-use bytes donor top e s b p) (omega arith, b, p)
+      go (no s) (no b) (no f) (yes p) _ = rw (← kind-top bytes donor top e s b f p) (omega arith, b, omega arith, p)
+      go (no s) (no b) (no f) (no t) (yes p) =
+          rw (← kind-donor bytes donor top e s b f t p) (omega arith, b, omega arith, p)
+      go (no s) (no b) (no f) (no t) (no d) = rw (← kind-ordinary bytes donor top e s b f t d) (omega arith, b, omega arith)
+
+-- only a top chunk counts as one, and only a donor
+counted-as : (k : Kind) (s : ℕ) → (0 < shareOf k s .tops → Top ≡ k) × (0 < shareOf k s .donors → Donor ≡ k)
+counted-as Start s = (λ l. absurd (omega arith), λ l. absurd (omega arith))
+counted-as InUse s = (λ l. absurd (omega arith), λ l. absurd (omega arith))
+counted-as Ordinary s = (λ l. absurd (omega arith), λ l. absurd (omega arith))
+counted-as Donor s = (λ l. absurd (omega arith), λ l. refl)
+counted-as Top s = (λ l. refl, λ l. absurd (omega arith))
+counted-as End s = (λ l. absurd (omega arith), λ l. absurd (omega arith))
+
+module _ (ws : List ℕ) (h : Heap) where
+  -- the size is enough, and the size word says it
+  abbrev Sized : Entry → Type 0
+  Sized e = (24 ≤ e .size) × (word ws (e .place) size ≡ e .size)
+
+  -- what the walk finds of a chunk of each kind
+  abbrev As : Entry → Kind → Type 0
+  As e Start = (e .size ≡ 8) × (e .flags ≡ 1)
+  As e InUse = 24 ≤ e .size
+  As e Ordinary = Sized e
+  As e Donor = (Sized e × Unbinned ws (e .place)) × (h .donor .0 < h .top .0)
+  As e Top = (Sized e × Unbinned ws (e .place)) × (e .place + e .size + 8 ≡ h .bytes)
+  As e End = (e .flags ≡ 1) × (word ws (e .place) forward ≡ 0)
+
+  sized-iff : (e : Entry) → Decides (sizedAt ws (e .place) (e .size)) (Sized e)
+  unfolding sizedAt
+  sized-iff e = both (at-most 24 (e .size)) (number-is (word ws (e .place) size) (e .size))
+
+  reserved-iff : (e : Entry) → Decides (reservedAt ws (e .place) (e .size)) (Sized e × Unbinned ws (e .place))
+  unfolding reservedAt
+  reserved-iff e =
+      both (sized-iff e) (meaning
+      (both (both (number-is (word ws (e .place) nextInBin) 0) (number-is (word ws (e .place) previousInBin) 0)) (number-is (word ws (e .place) bin) 0))
+      (λ t. record { next = t .0 .0; previous = t .0 .1; bin = t .1 })
+      (λ u. ((u .next, u .previous), u .bin)))
+
+  as-iff : (e : Entry) (k : Kind) → Decides (soundAs ws (h .bytes) (h .donor .0) (h .top .0) e k) (As e k)
+  unfolding startIs endIs donorAt topAt
+  as-iff e Start = both (number-is (e .size) 8) (number-is (e .flags) 1)
+  as-iff e InUse = at-most 24 (e .size)
+  as-iff e Ordinary = sized-iff e
+  as-iff e Donor = both (reserved-iff e) (less (h .donor .0) (h .top .0))
+  as-iff e Top = both (reserved-iff e) (number-is (e .place + e .size + 8) (h .bytes))
+  as-iff e End = both (number-is (e .flags) 1) (number-is (word ws (e .place) forward) 0)
+
+  -- what the walk finds of a chunk, but for its backward link
+  record Seen (e : Entry) : Type 0 where
+    eight : e .place % 8 ≡ 0
+    flags : e .flags ≤ 1
+    kind : As e (kindOf h e)
+
+  seen-iff : (p : ℕ) (e : Entry) → e .flags ≡ flagsAt ws (e .place)
+      → Decides (soundAt ws (h .bytes) (h .donor .0) (h .top .0) p e) ((word ws (e .place) backward ≡ p + e .flags) × Seen e)
+  unfolding soundAt backedAt
+  seen-iff p e f =
+      meaning
+      (both (both (both (number-is (e .place % 8) 0) (at-most (flagsAt ws (e .place)) 1)) (number-is (word ws (e .place) backward - flagsAt ws (e .place)) p))
+      (as-iff e (kindOf h e)))
+      (λ t. let b = t .0 .1 in (omega arith, record { eight = t .0 .0 .0; flags = rw f (t .0 .0 .1); kind = t .1 }))
+      (λ t. let s = t .1 in (((s .eight, omega arith), omega (arith, t .0)), s .kind))
+
+  -- the walk finds a chain with backward links all of whose chunks are so
+  all-iff : (p : ℕ) (es : List Entry) → ((e : Entry) → Mem e es → e .flags ≡ flagsAt ws (e .place))
+      → Decides (allSound ws (h .bytes) (h .donor .0) (h .top .0) p es) (Backed ws p es × ((e : Entry) → Mem e es → Seen e))
+  all-iff p [] f = (λ t. (tt, λ e m. absurd (List·Memᴰ·not-nil m)), λ t. refl)
+  all-iff p (e ∷ es) f =
+      meaning (both (seen-iff p e (f e (List·Memᴰ·head refl))) (all-iff (e .place) es (λ d m. f d (List·Memᴰ·tail m))))
+      (λ t. ((t .0 .0, t .1 .0), each-cons (t .0 .1) (t .1 .1)))
+      (λ t. ((t .0 .0, t .1 e (List·Memᴰ·head refl)), (t .0 .1, λ d m. t .1 d (List·Memᴰ·tail m))))
+
+  -- what a kind says of a chunk of this heap
+  abbrev Is : Entry → Kind → Type 0
+  Is e k = Being (h .bytes) (h .donor .0) (h .top .0) e k
+
+  is : (e : Entry) → Is e (kindOf h e)
+  is e = being (h .bytes) (h .donor .0) (h .top .0) e
+
+  -- so a chunk that the walk has seen is as the check asks
+  module _ (e : Entry) (s : Seen e) where
+    by-kind : (k : Kind) → Is e k → As e k
+        → (0 < e .place → e .place + 8 < h .bytes → 24 ≤ e .size) × (e .flags ≡ 0 → word ws (e .place) size ≡ e .size)
+    by-kind Start b a = (λ p l. omega arith, λ f. omega arith)
+    by-kind InUse b a = (λ p l. a, λ f. omega arith)
+    by-kind Ordinary b a = (λ p l. a .0, λ f. a .1)
+    by-kind Donor b a = (λ p l. a .0 .0 .0, λ f. a .0 .0 .1)
+    by-kind Top b a = (λ p l. a .0 .0 .0, λ f. a .0 .0 .1)
+    by-kind End b a = (λ p l. omega arith, λ f. omega arith)
+
+    seen-sound : Sound ws h e
+    seen-sound =
+        let r = by-kind (kindOf h e) (is e) (s .kind) in record { flags = s .flags; room = r .0; sized = r .1 }
+
+    of-kind : {k : Kind} → k ≡ kindOf h e → Is e k × As e k
+    of-kind q = rw q (is e, s .kind)
+
+    reserved : (c : ℕ) → e .place ≡ c → e .flags % 2 ≡ 0 → Unbinned ws (e .place) → Reserved ws c e
+    reserved c p f u = let l = s .flags in record { here = p; free = omega arith; out = rw (← p) u }
+
+    top-is : Top ≡ kindOf h e → TopIs ws h e
+    top-is q = let k = of-kind q in (reserved (h .top .0) (k .0 .3) (k .0 .2) (k .1 .0 .1), k .1 .1)
+
+    donor-is : Donor ≡ kindOf h e → DonorIs ws h e
+    donor-is q = let k = of-kind q in (reserved (h .donor .0) (k .0 .3) (k .0 .2) (k .1 .0 .1), k .1 .1)
+
+  -- the chain that is walked
+  abbrev es : List Entry
+  es = shape ws (h .bytes)
+
+  known : Chain ws (h .bytes) 0 es
+  known = shape-chain ws (h .bytes)
+
+  pub found-facts : 40 ≤ h .bytes → Found ws h → ChainFacts ws h (shape ws (h .bytes))
+  found-facts big f =
+      let all = all-iff 0 es (known .flags) .0 (f .sound) in
+      let seen = all .1 in
+      let d = headOr outside es in
+      let l = lastOr outside es in
+      let end = f .end in
+      let started = of-kind d (seen d (known .has-first)) (kind-start _ _ _ d (known .first)) .1 in
+      let ended = of-kind l (seen l (known .has-last outside)) (kind-end _ _ _ l (λ z. omega arith) end) .1 in
+      record {
+        chain = record { reachesEnd = end; endsThere = ended .1; eights = λ e m. seen e m .eight };
+        ends = record { startSize = started .0; startUsed = started .1; endUsed = ended .0 };
+        backward = all .0;
+        chunks = λ e m. seen-sound e (seen e m);
+        top =
+            let t = some-of-total _ es (f .top) in
+            (t .0, t .1, top-is (t .0) (seen (t .0) (t .1)) (counted-as _ _ .0 (t .2)));
+        donor = λ some.
+            let t = some-of-total _ es (f .donor some) in
+            (t .0, t .1, donor-is (t .0) (seen (t .0) (t .1)) (counted-as _ _ .1 (t .2)));
+      }
+
+  -- the other way round: each chunk is as its kind asks
+  module _ (big : 40 ≤ h .bytes) (facts : ChainFacts ws h (shape ws (h .bytes))) where
+    module _ (e : Entry) (m : Mem e es) where
+      same : {d : Entry} → Mem d es → e .place ≡ d .place → e ≡ d
+      same n p = same-place 0 es (known .rising) m n p
+
+      starts : e .place ≡ 0 → As e Start
+      starts p = rw (same (known .has-first) (p ∙ sym (known .first))) (facts .ends .startSize, facts .ends .startUsed)
+
+      ends : e .place + 8 ≡ h .bytes → As e End
+      ends p =
+          let end = facts .chain .reachesEnd in
+          rw (same (known .has-last outside) (omega arith)) (facts .ends .endUsed, facts .chain .endsThere)
+
+      -- a free chunk is neither start nor end
+      between : e .flags ≡ 0 → (e .place ≡ 0 → ⊥) × (e .place + 8 ≡ h .bytes → ⊥) × (e .flags % 2 ≡ 1 → ⊥)
+      between f = (λ p. let s = starts p in omega arith, λ p. let s = ends p in omega arith, λ g. omega arith)
+
+      roomy : 0 < e .place → (e .place + 8 ≡ h .bytes → ⊥) → 24 ≤ e .size
+      roomy p n =
+          let i = known .inside (omega arith) e m in
+          let a = facts .chain .eights e m in
+          let b = facts .chain .eights _ (known .has-last outside) in
+          let end = facts .chain .reachesEnd in
+          facts .chunks e m .room p (omega arith)
+
+      sized : 0 < e .place → (e .place + 8 ≡ h .bytes → ⊥) → e .flags % 2 ≡ 0 → Sized e
+      sized p n f = let s = facts .chunks e m in let l = s .flags in (roomy p n, s .sized (omega arith))
+
+      as-kind : (k : Kind) → Is e k → As e k
+      as-kind Start b = starts b
+      as-kind InUse b = roomy (b .0) (b .1)
+      as-kind Ordinary b = sized (b .0) (b .1) (b .2)
+      as-kind Donor b =
+          let d = facts .donor (rw (← b .3) (b .0)) in
+          ((sized (b .0) (b .1) (b .2), rw (b .3) (d .2 .0 .out)), d .2 .1)
+      as-kind Top b =
+          let t = facts .top in
+          ((sized (b .0) (b .1) (b .2), rw (b .3) (t .2 .0 .out)), rw (same (t .1) (b .3 ∙ sym (t .2 .0 .here))) (t .2 .1))
+      as-kind End b = ends (b .1)
+
+      all-seen : Seen e
+      all-seen =
+          record {
+            eight = facts .chain .eights e m;
+            flags = facts .chunks e m .flags;
+            kind = as-kind (kindOf h e) (is e);
+          }
+
+      counts-top : TopIs ws h e → 0 < tallyFor h es .tops
+      counts-top t =
+          let b = between (t .0 .free) in
+          total-of-some _ m (rw (← kind-top (h .bytes) (h .donor .0) (h .top .0) e (b .0) (b .1) (b .2) (t .0 .here)) (omega arith))
+
+      counts-donor : DonorIs ws h e → 0 < tallyFor h es .donors
+      counts-donor t =
+          let b = between (t .0 .free) in
+          let p = t .0 .here in
+          let l = t .1 in
+          total-of-some _ m (rw (← kind-donor (h .bytes) (h .donor .0) (h .top .0) e (b .0) (b .1) (b .2) (λ q. omega arith) p) (omega arith))
+
+    pub facts-found : Found ws h
+    facts-found =
+        record {
+          sound = all-iff 0 es (known .flags) .1 (facts .backward, all-seen);
+          end = facts .chain .reachesEnd;
+          top = let t = facts .top in counts-top (t .0) (t .1) (t .2);
+          donor = λ some. let t = facts .donor some in counts-donor (t .0) (t .1) (t .2);
+        }
+
+-- a sum over all that counts nothing but what passes a test is a sum over what passes it
+total-kept : {A : Type 0} (f g : A → ℕ) (p : A → Bool) → ((x : A) → f x ≡ cond (p x) (g x) 0)
+    → (xs : List A) → total f xs ≡ total g (keep p xs)
+total-kept f g p s [] = refl
+total-kept f g p s (x ∷ xs) = go (p x) (s x) (total-kept f g p s xs)
+  where
+    go : (t : Bool) → f x ≡ cond t (g x) 0 → total f xs ≡ total g (keep p xs)
+        → f x + total f xs ≡ total g (cond t (x ∷ keep p xs) (keep p xs))
+    go true e r = omega arith
+    go false e r = omega arith
+
+total-ones : {A : Type 0} (xs : List A) → total (λ x. 1) xs ≡ length xs
+total-ones [] = refl
+total-ones (x ∷ xs) = let r = total-ones xs in omega arith
+
+-- what a chunk of each kind counts for
+shares-are : (k : Kind) (s : ℕ)
+    → (shareOf k s .ordinary ≡ cond (ordinaryKind k) 1 0)
+    × (shareOf k s .used ≡ cond (liveKind k) s 0)
+    × (shareOf k s .free ≡ cond (freeKind k) s 0)
+shares-are Start s = (refl, refl, refl)
+shares-are InUse s = (refl, refl, refl)
+shares-are Ordinary s = (refl, refl, refl)
+shares-are Donor s = (refl, refl, refl)
+shares-are Top s = (refl, refl, refl)
+shares-are End s = (refl, refl, refl)
+
+module _ (h : Heap) (es : List Entry) where
+  pub tally-ordinary : tallyFor h es .ordinary ≡ length (keep (ordinary h) es)
+  tally-ordinary = total-kept _ (λ e. 1) (ordinary h) (λ e. shares-are (kindOf h e) (e .size) .0) es ∙ total-ones (keep (ordinary h) es)
+
+  pub tally-used : tallyFor h es .used ≡ usedBytes h es
+  tally-used = total-kept _ (λ e. e .size) (live h) (λ e. shares-are (kindOf h e) (e .size) .1) es
+
+  pub tally-free : tallyFor h es .free ≡ freeBytes h es
+  tally-free = total-kept _ (λ e. e .size) (isFree h) (λ e. shares-are (kindOf h e) (e .size) .2) es
