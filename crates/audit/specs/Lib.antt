@@ -1,3 +1,4 @@
 pub mod Chunks
 pub mod Survey
 pub mod Sweep
+pub mod Audit
