@@ -148,7 +148,7 @@ module _ (ws table heads tails : List ℕ) (bytes donor top used : ℕ) where
         module _ (same : t .used ≡ used) (q : Sweep) (w : SweepIs ws table heads tails bytes ms q) where
           first-three : true
               ≡ (allSound ws bytes donor top 0 (shape ws bytes) && settled (tally ws table heads tails bytes donor top used) bytes donor
-                && eqb (tally ws table heads tails bytes donor top used .used) used)
+              && eqb (tally ws table heads tails bytes donor top used .used) used)
           first-three = hold first-two (sym (eq-eqb _ used (sym (ap (λ (u : Tally). u .used) is-tally) ∙ same)))
 
           swept : SweepIs ws table heads tails bytes (marksOf ws table heads tails bytes donor top used) q
@@ -165,8 +165,8 @@ module _ (ws table heads tails : List ℕ) (bytes donor top used : ℕ) where
 
             first-four : true
                 ≡ (allSound ws bytes donor top 0 (shape ws bytes) && settled (tally ws table heads tails bytes donor top used) bytes donor
-                  && eqb (tally ws table heads tails bytes donor top used .used) used
-                  && allWhole ws table heads tails bytes (marksOf ws table heads tails bytes donor top used) (numbersFrom 0 (length table)))
+                && eqb (tally ws table heads tails bytes donor top used .used) used
+                && allWhole ws table heads tails bytes (marksOf ws table heads tails bytes donor top used) (numbersFrom 0 (length table)))
             unfolding SweepIs
             first-four = hold first-three (sym (clean .0))
 
@@ -181,8 +181,9 @@ module _ (ws table heads tails : List ℕ) (bytes donor top used : ℕ) where
 
             pub all-well : met ≡ t .ordinary
                 → WalkedIs ws table heads tails bytes donor top used
-                  (Passes (record { chunks = t .chunks; ordinary = t .ordinary; used = t .used; free = t .free }))
+                (Passes (record { chunks = t .chunks; ordinary = t .ordinary; used = t .used; free = t .free }))
             unfolding WalkedIs walksWell
-            all-well m =
-                (sym (hold first-four (sym (eq-eqb _ _ (sym counts ∙ m ∙ ap (λ (u : Tally). u .ordinary) is-tally)))),
-                  ap (λ (u : Tally). record { chunks = u .chunks; ordinary = u .ordinary; used = u .used; free = u .free }) is-tally)
+            all-well m = (
+              sym (hold first-four (sym (eq-eqb _ _ (sym counts ∙ m ∙ ap (λ (u : Tally). u .ordinary) is-tally)))),
+              ap (λ (u : Tally). record { chunks = u .chunks; ordinary = u .ordinary; used = u .used; free = u .free }) is-tally,
+            )

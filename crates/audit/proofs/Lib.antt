@@ -5,3 +5,4 @@ pub mod MarksMeaning
 pub mod SweepLaws
 pub mod SweepMeaning
 pub mod AuditLaws
+pub mod AuditMeaning

@@ -17,8 +17,9 @@ use Rattle.record.specs.declared.heap.Heap.{Heap}
 use Rattle.rules.specs.Check.{Chained}
 use Rattle.rules.specs.Shape.{Entry, shape}
 use Rattle.rules.specs.Kinds.{ordinary}
+use Rattle.rules.proofs.ChainLaws.{Rising, shape-chain}
 use Rattle.audit.specs.Survey.{marking, markAll}
-use Rattle.audit.proofs.SurveyMeaning.{ChainFacts, Rising, shape-chain}
+use Rattle.audit.proofs.SurveyMeaning.{ChainFacts}
 
 abbrev pub placesOf : List Entry → List ℕ
 placesOf es = map (λ e. e .place) es

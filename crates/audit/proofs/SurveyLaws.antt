@@ -54,7 +54,7 @@ module _ (ws : List ℕ) (bytes : ℕ) where
       (λ c n h. omega arith)
       (λ c es u r h. let s = r (omega (arith, u .1)) in omega (arith, u .0, u .1))
 
-  chunks-few : (c : ℕ) → length (chainFrom ws bytes c) ≤ max 1 (bytes - c)
+  pub chunks-few : (c : ℕ) → length (chainFrom ws bytes c) ≤ max 1 (bytes - c)
   chunks-few =
       chain-by ws bytes (λ c es. length es ≤ max 1 (bytes - c)) (λ c n. omega arith)
       (λ c es u r. omega (arith, u .0, u .1))

@@ -16,7 +16,8 @@ use Rattle.region.specs.Words.{word, forward, backward, size, nextInBin, previo
 use Rattle.rules.specs.Shape.{Entry, flagsAt, shape}
 use Rattle.rules.specs.Kinds.{kindAt, kindOf, ordinary, isFree, live, ordinaryKind, freeKind, liveKind, outside}
 use Rattle.rules.specs.Check.{Chained, Ended, Backed, Sound, Unbinned, Reserved, TopIs, DonorIs, usedBytes, freeBytes}
-use Rattle.rules.proofs.KindsLaws.{kind-start, kind-end, kind-in-use, kind-top, kind-donor, kind-ordinary}
+use Rattle.rules.proofs.ChainLaws.{each-cons, at-least, same-place, Chain, shape-chain}
+use Rattle.rules.proofs.KindsLaws.{Being, being, kind-start, kind-end, kind-in-use, kind-top, kind-donor, kind-ordinary}
 use Rattle.rules.proofs.ShapeLaws.{Up, lastEntry, upEntry, shape-is, chain-by}
 use Rattle.audit.specs.declared.survey.Tally.{Tally}
 use Rattle.audit.specs.Chunks.{backedAt, sizedAt, startIs, endIs, reservedAt, donorAt, topAt, soundAs, soundAt}
@@ -42,12 +43,6 @@ pub record Found (ws : List ℕ) (h : Heap) : Type 0 where
   pub top : 0 < tallyFor h (shape ws (h .bytes)) .tops
   pub donor : 0 < h .donor .0 → 0 < tallyFor h (shape ws (h .bytes)) .donors
 
--- what holds of the first and of all others holds of each
-each-cons : {A : Type 0} {P : A → Type 0} {x : A} {xs : List A} → P x → ((y : A) → Mem y xs → P y)
-    → (y : A) → Mem y (x ∷ xs) → P y
-each-cons here rest y (List·Memᴰ·head e) = rw e here
-each-cons here rest y (List·Memᴰ·tail m) = rest y m
-
 -- a sum is above 0 exactly if one of its figures is
 some-of-total : {A : Type 0} (f : A → ℕ) (xs : List A) → 0 < total f xs → (x : A) × Mem x xs × (0 < f x)
 some-of-total f [] h = absurd (omega arith)
@@ -60,87 +55,6 @@ some-of-total f (x ∷ xs) h =
 total-of-some : {A : Type 0} (f : A → ℕ) {x : A} {xs : List A} → Mem x xs → 0 < f x → 0 < total f xs
 total-of-some f (List·Memᴰ·head e) h = let g : 0 < f _ = rw e at h in omega arith
 total-of-some f (List·Memᴰ·tail m) h = let r = total-of-some f m h in omega arith
-
--- places go up, the first of them from c on
-abbrev pub Rising : ℕ → List Entry → Type 0
-Rising c [] = Unit {0}
-Rising c (e ∷ es) = (c ≤ e .place) × Rising (suc (e .place)) es
-
-rising-from : (b c : ℕ) (es : List Entry) → b ≤ c → Rising c es → Rising b es
-rising-from b c [] l r = tt
-rising-from b c (e ∷ es) l r = (omega (arith, r .0), r .1)
-
-at-least : (c : ℕ) {e : Entry} (es : List Entry) → Rising c es → Mem e es → c ≤ e .place
-at-least c (d ∷ es) r (List·Memᴰ·head q) = rw q (r .0)
-at-least c (d ∷ es) r (List·Memᴰ·tail m) = omega (arith, r .0, at-least (suc (d .place)) es (r .1) m)
-
--- so a place has one chunk
-same-place : (c : ℕ) {d e : Entry} (es : List Entry) → Rising c es → Mem d es → Mem e es → d .place ≡ e .place → d ≡ e
-same-place c (x ∷ es) r (List·Memᴰ·head p) (List·Memᴰ·head q) s = p ∙ sym q
-same-place c (x ∷ es) r (List·Memᴰ·head p) (List·Memᴰ·tail m) s =
-    let l = at-least (suc (x .place)) es (r .1) m in let b = ap (λ (y : Entry). y .place) p in absurd (omega arith)
-same-place c (x ∷ es) r (List·Memᴰ·tail n) (List·Memᴰ·head q) s =
-    let l = at-least (suc (x .place)) es (r .1) n in let b = ap (λ (y : Entry). y .place) q in absurd (omega arith)
-same-place c (x ∷ es) r (List·Memᴰ·tail n) (List·Memᴰ·tail m) s = same-place (suc (x .place)) es (r .1) n m s
-
--- what is known of the chain from c on before anything is tested
-pub record Chain (ws : List ℕ) (bytes c : ℕ) (es : List Entry) : Type 0 where
-  pub first : headOr outside es .place ≡ c
-  pub has-first : Mem (headOr outside es) es
-  pub has-last : (d : Entry) → Mem (lastOr d es) es
-  pub rising : Rising c es
-  pub flags : (e : Entry) → Mem e es → e .flags ≡ flagsAt ws (e .place)
-  pub inside : c < bytes → (e : Entry) → Mem e es → e .place < bytes
-
-pub shape-chain : (ws : List ℕ) (bytes : ℕ) → Chain ws bytes 0 (shape ws bytes)
-shape-chain ws bytes = rw (shape-is ws bytes) (chain-by ws bytes (Chain ws bytes) last more 0)
-  where
-    last : (c : ℕ) → (Up ws bytes c → ⊥) → Chain ws bytes c (lastEntry ws bytes c ∷ [])
-    last c n =
-        record {
-          first = refl;
-          has-first = List·Memᴰ·head refl;
-          has-last = λ d. List·Memᴰ·head refl;
-          rising = (omega arith, tt);
-          flags = each-cons refl (λ e m. absurd (List·Memᴰ·not-nil m));
-          inside = λ l. each-cons l (λ e m. absurd (List·Memᴰ·not-nil m));
-        }
-
-    more : (c : ℕ) (es : List Entry) → Up ws bytes c → Chain ws bytes (word ws c forward) es → Chain ws bytes c (upEntry ws bytes c ∷ es)
-    more c es u r =
-        record {
-          first = refl;
-          has-first = List·Memᴰ·head refl;
-          has-last = λ d. List·Memᴰ·tail (r .has-last _);
-          rising = (omega arith, rising-from (suc c) (word ws c forward) es (u .0) (r .rising));
-          flags = each-cons refl (r .flags);
-          inside = λ l. each-cons l (r .inside (u .1));
-        }
-
--- what a kind says of the place and the flag of its chunk
-module _ (bytes donor top : ℕ) (e : Entry) where
-  abbrev Being : Kind → Type 0
-  Being Start = e .place ≡ 0
-  Being InUse = (0 < e .place) × (e .place + 8 ≡ bytes → ⊥) × (e .flags % 2 ≡ 1)
-  Being Ordinary = (0 < e .place) × (e .place + 8 ≡ bytes → ⊥) × (e .flags % 2 ≡ 0)
-  Being Donor = (0 < e .place) × (e .place + 8 ≡ bytes → ⊥) × (e .flags % 2 ≡ 0) × (e .place ≡ donor)
-  Being Top = (0 < e .place) × (e .place + 8 ≡ bytes → ⊥) × (e .flags % 2 ≡ 0) × (e .place ≡ top)
-  Being End = (0 < e .place) × (e .place + 8 ≡ bytes)
-
-  being : Being (kindAt bytes donor top e)
-  being =
-      go (ℕ-discrete (e .place) 0) (ℕ-discrete (e .place + 8) bytes) (ℕ-discrete (e .flags % 2) 1)
-      (ℕ-discrete (e .place) top) (ℕ-discrete (e .place) donor)
-    where
-      go : Dec (e .place ≡ 0) → Dec (e .place + 8 ≡ bytes) → Dec (e .flags % 2 ≡ 1)
-          → Dec (e .place ≡ top) → Dec (e .place ≡ donor) → Being (kindAt bytes donor top e)
-      go (yes p) _ _ _ _ = rw (← kind-start bytes donor top e p) p
-      go (no s) (yes p) _ _ _ = rw (← kind-end bytes donor top e s p) (omega arith, p)
-      go (no s) (no b) (yes p) _ _ = rw (← kind-in-use bytes donor top e s b p) (omega arith, b, p)
-      go (no s) (no b) (no f) (yes p) _ = rw (← kind-top bytes donor top e s b f p) (omega arith, b, omega arith, p)
-      go (no s) (no b) (no f) (no t) (yes p) =
-          rw (← kind-donor bytes donor top e s b f t p) (omega arith, b, omega arith, p)
-      go (no s) (no b) (no f) (no t) (no d) = rw (← kind-ordinary bytes donor top e s b f t d) (omega arith, b, omega arith)
 
 -- only a top chunk counts as one, and only a donor
 counted-as : (k : Kind) (s : ℕ) → (0 < shareOf k s .tops → Top ≡ k) × (0 < shareOf k s .donors → Donor ≡ k)

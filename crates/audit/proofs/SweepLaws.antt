@@ -45,15 +45,16 @@ module _ (ws table : List ℕ) (i : ℕ) (ms : List ℕ) (p c : ℕ) where
         pub by-size : v ≡ p → {s : ℕ} → s ≡ word ws c size → {u : Bool} → u ≡ takesBin table i s → u ≡ listedAt ws table i ms p c
         unfolding listedAt
         by-size h es eu =
-            rw
-              (eq-eqb (c % 8) 0 eight,
-                sym et ∙ not-false t ht,
-                ← ew,
-                ← eb,
-                eq-eqb w b hb,
-                ← ev,
-                eq-eqb v p h,
-                ← es)
+            rw (
+              eq-eqb (c % 8) 0 eight,
+              sym et ∙ not-false t ht,
+              ← ew,
+              ← eb,
+              eq-eqb w b hb,
+              ← ev,
+              eq-eqb v p h,
+              ← es,
+            )
             eu
 
 -- how the reading of a list goes on
@@ -103,7 +104,7 @@ module _ (ws table : List ℕ) (i steps : ℕ) (ms₀ : List ℕ) (first : ℕ) 
           whole = rw (sym (o .combs) ∙ ap (combed ws table i ms p) r, q, eq-eqb c 0 e);
           count = sym l ∙ o .count;
           ends = sym (ap (lastOr p) r) ∙ o .lasts;
-          marks = em ∙ sym (ap (flipAll ms) r) ∙ o .marks
+          marks = em ∙ sym (ap (flipAll ms) r) ∙ o .marks;
         }
 
     module _ (n : c ≡ 0 → ⊥) (h : 0 < left) {t : Bool} (et : t ≡ listedAt ws table i ms p c) where
@@ -118,14 +119,14 @@ module _ (ws table : List ℕ) (i steps : ℕ) (ms₀ : List ℕ) (first : ℕ) 
       combing-goes ht ms′ em {d} ed =
           let r = read-more ws left c n h in
           rw (em, ed)
-            (record {
-              combs = rw (r, sym et ∙ not-false t ht) at (o .combs);
-              ends = rw r at (o .ends);
-              count = count r;
-              lasts = rw r at (o .lasts);
-              marks = rw r at (o .marks);
-              spent = omega (arith, o .spent)
-            })
+          (record {
+            combs = rw (r, sym et ∙ not-false t ht) at (o .combs);
+            ends = rw r at (o .ends);
+            count = count r;
+            lasts = rw r at (o .lasts);
+            marks = rw r at (o .marks);
+            spent = omega (arith, o .spent);
+          })
         where
           count : membersFrom left ws c ≡ c ∷ membersFrom (left - 1) ws (word ws c nextInBin)
               → met + 1 + length (membersFrom (left - 1) ws (word ws c nextInBin)) ≡ length (membersFrom steps ws first)
@@ -156,11 +157,11 @@ module _ (ws table heads tails : List ℕ) (steps : ℕ) (ms₀ : List ℕ) wher
 
   pub record Sweeping (ms : List ℕ) (b met : ℕ) : Type 0 where
     pub whole :
-      allWhole ws table heads tails steps ms (numbersFrom b (length table - b))
-      ≡ allWhole ws table heads tails steps ms₀ (numbersFrom 0 (length table))
+        allWhole ws table heads tails steps ms (numbersFrom b (length table - b))
+        ≡ allWhole ws table heads tails steps ms₀ (numbersFrom 0 (length table))
     pub count :
-      (met + total lengthAt (numbersFrom b (length table - b))) % 2 ^ 32
-      ≡ total lengthAt (numbersFrom 0 (length table)) % 2 ^ 32
+        (met + total lengthAt (numbersFrom b (length table - b))) % 2 ^ 32
+        ≡ total lengthAt (numbersFrom 0 (length table)) % 2 ^ 32
     pub fits : met < 2 ^ 32
 
   pub sweeping-begins : Sweeping ms₀ 0 0
@@ -193,11 +194,11 @@ module _ (ws table heads tails : List ℕ) (steps : ℕ) (ms₀ : List ℕ) wher
         sweeping-goes e em =
             let r = count-on b (length table) h in
             rw (em, add-one)
-              (record {
-                whole = whole r;
-                count = count r;
-                fits = omega arith
-              })
+            (record {
+              whole = whole r;
+              count = count r;
+              fits = omega arith;
+            })
           where
             whole : numbersFrom b (length table - b) ≡ b ∷ numbersFrom (suc b) (length table - suc b)
                 → allWhole ws table heads tails steps ms′ (numbersFrom (suc b) (length table - suc b))

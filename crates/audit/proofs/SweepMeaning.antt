@@ -51,18 +51,18 @@ module _ (ws table : List ℕ) (valid : ValidTable table) (all : List ℕ) where
       go : Dec (c % 8 ≡ 0) → Decides (listedAt ws table i ms p c) (MemberIs i met p c)
       go (yes e) =
           meaning
-            (both (both (both (both (number-is (c % 8) 0) (k c e)) (number-is (word ws c bin) (i % 32 * 8)))
-              (number-is (word ws c previousInBin) p)) (takes-iff table valid i (word ws c size)))
-            (λ t.
-              record {
-                eight = t .0 .0 .0 .0;
-                known = t .0 .0 .0 .1 .0;
-                new = t .0 .0 .0 .1 .1;
-                bins = t .0 .0 .1;
-                back = t .0 .1;
-                takes = t .1
-              })
-            (λ m. ((((m .eight, (m .known, m .new)), m .bins), m .back), m .takes))
+          (both (both (both (both (number-is (c % 8) 0) (k c e)) (number-is (word ws c bin) (i % 32 * 8)))
+          (number-is (word ws c previousInBin) p)) (takes-iff table valid i (word ws c size)))
+          (λ t.
+          record {
+            eight = t .0 .0 .0 .0;
+            known = t .0 .0 .0 .1 .0;
+            new = t .0 .0 .0 .1 .1;
+            bins = t .0 .0 .1;
+            back = t .0 .1;
+            takes = t .1;
+          })
+          (λ m. ((((m .eight, (m .known, m .new)), m .bins), m .back), m .takes))
       go (no n) =
           (λ h. absurd (false≢true (off-eights ws table i ms p c n ∙ h)), λ m. absurd (n (m .eight)))
 
@@ -97,13 +97,13 @@ module _ (ws table : List ℕ) (valid : ValidTable table) (all : List ℕ) where
         go (no n) =
             let h = m .eight in
             rw (flip-other ms c d (λ q. n (omega arith)))
-              (meaning (k d e) (λ t. (t .0, out n (t .1))) (λ t. (t .0, λ q. t .1 (List·Memᴰ·tail q))))
+            (meaning (k d e) (λ t. (t .0, out n (t .1))) (λ t. (t .0, λ q. t .1 (List·Memᴰ·tail q))))
 
     combed-iff : (i : ℕ) (cs ms met : List ℕ) (p : ℕ) → length ms ≡ 256 → Marks ms met → Decides (combed ws table i ms p cs) (CombedIs i met p cs)
     combed-iff i [] ms met p l k = (λ h. tt, λ h. refl)
     combed-iff i (c ∷ cs) ms met p l k =
         both-if (listed-iff i ms met k p c)
-          (λ m. combed-iff i cs (flipped ms c) (c ∷ met) c (length-flipped ms c ∙ l) (marks-step i ms met p c l k m))
+        (λ m. combed-iff i cs (flipped ms c) (c ∷ met) c (length-flipped ms c ∙ l) (marks-step i ms met p c l k m))
 
     marks-all : (i : ℕ) (cs ms met : List ℕ) (p : ℕ) → length ms ≡ 256 → Marks ms met → CombedIs i met p cs
         → Marks (flipAll ms cs) (pushed cs met) × (length (flipAll ms cs) ≡ 256)
@@ -141,7 +141,7 @@ module _ (ws table : List ℕ) (valid : ValidTable table) (all : List ℕ) where
     where
       go : Dec (c ≡ 0)
           → (beyond ws (word ws c nextInBin) (membersFrom k ws (word ws c nextInBin)) ≡ 0
-            → CombedIs i (c ∷ met) c (membersFrom k ws (word ws c nextInBin)) → Linked ws c (membersFrom k ws (word ws c nextInBin)))
+          → CombedIs i (c ∷ met) c (membersFrom k ws (word ws c nextInBin)) → Linked ws c (membersFrom k ws (word ws c nextInBin)))
           → Linked ws p (membersFrom (suc k) ws c)
       go (yes e) f = rw e tt
       go (no n) f =
@@ -155,15 +155,17 @@ module _ (ws table : List ℕ) (valid : ValidTable table) (all : List ℕ) where
       → ((c : ℕ) → Mem c cs → Mem c met → ⊥) → ((c : ℕ) → Mem c all → c % 8 ≡ 0) → CombedIs i met p cs
   linked-combed i [] met p l u f o e = tt
   linked-combed i (c ∷ cs) met p l u f o e =
-      let m = f c (List·Memᴰ·head refl) in
-      (record {
-        eight = e c (m .known);
-        known = m .known;
-        new = o c (List·Memᴰ·head refl);
-        bins = m .bins;
-        back = l .0;
-        takes = m .takes
-      }, linked-combed i cs (c ∷ met) c (l .2) (u .1) (λ d k. f d (List·Memᴰ·tail k)) (λ d k. apart d k) e)
+      let m = f c (List·Memᴰ·head refl) in (
+        record {
+          eight = e c (m .known);
+          known = m .known;
+          new = o c (List·Memᴰ·head refl);
+          bins = m .bins;
+          back = l .0;
+          takes = m .takes;
+        },
+        linked-combed i cs (c ∷ met) c (l .2) (u .1) (λ d k. f d (List·Memᴰ·tail k)) (λ d k. apart d k) e,
+      )
     where
       apart : (d : ℕ) → Mem d cs → Mem d (c ∷ met) → ⊥
       apart d k (List·Memᴰ·head q) = u .0 (rw q at k)
@@ -201,14 +203,14 @@ module _ (ws table : List ℕ) (valid : ValidTable table) (all heads tails : Lis
   all-iff zero b ms met l k = (λ h. tt, λ h. refl)
   all-iff (suc n) b ms met l k =
       both-if
-        (meaning
-          (both (both (combed-iff ws table valid all bounded b (list b) ms met 0 l k) (number-is (beyond ws (getD heads b 0) (list b)) 0))
-            (number-is (getD tails b 0) (lastOr 0 (list b))))
-          (λ t. record { combed = t .0 .0; ends = t .0 .1; tail = t .1 })
-          (λ q. ((q .combed, q .ends), q .tail)))
-        (λ q.
-          let r = marks-all ws table valid all bounded b (list b) ms met 0 l k (q .combed) in
-          all-iff n (suc b) (flipAll ms (list b)) (pushed ws table valid all (list b) met) (r .1) (r .0))
+      (meaning
+      (both (both (combed-iff ws table valid all bounded b (list b) ms met 0 l k) (number-is (beyond ws (getD heads b 0) (list b)) 0))
+      (number-is (getD tails b 0) (lastOr 0 (list b))))
+      (λ t. record { combed = t .0 .0; ends = t .0 .1; tail = t .1 })
+      (λ q. ((q .combed, q .ends), q .tail)))
+      (λ q.
+      let r = marks-all ws table valid all bounded b (list b) ms met 0 l k (q .combed) in
+      all-iff n (suc b) (flipAll ms (list b)) (pushed ws table valid all (list b) met) (r .1) (r .0))
 
   list-bin : (met : List ℕ) (i : ℕ) → ListIs met i → BinIs i
   list-bin met i q =
@@ -216,7 +218,7 @@ module _ (ws table : List ℕ) (valid : ValidTable table) (all heads tails : Lis
         tail = q .tail;
         links = read-linked ws table valid all i steps (getD heads i 0) 0 met (q .ends) (q .combed);
         once = combed-once ws table valid all i (list i) met 0 (q .combed);
-        members = λ c m. combed-new ws table valid all i (list i) met 0 (q .combed) c m .1
+        members = λ c m. combed-new ws table valid all i (list i) met 0 (q .combed) c m .1;
       }
 
   bin-list : (met : List ℕ) (i : ℕ) → BinIs i → ((c : ℕ) → Mem c (list i) → Mem c met → ⊥) → ListIs met i
@@ -224,7 +226,7 @@ module _ (ws table : List ℕ) (valid : ValidTable table) (all heads tails : Lis
       record {
         combed = linked-combed ws table valid all i (list i) met 0 (q .links) (q .once) (q .members) o eights;
         ends = linked-ends ws table valid all (list i) (getD heads i 0) 0 (q .links) (first steps some);
-        tail = q .tail
+        tail = q .tail;
       }
     where
       first : (k : ℕ) → 0 < k → getD heads i 0 ≡ headOr 0 (membersFrom k ws (getD heads i 0))
@@ -254,10 +256,11 @@ module _ (ws table : List ℕ) (valid : ValidTable table) (all heads tails : Lis
       → ((c : ℕ) → Mem c met → (j : ℕ) × (j < b) × BinIs j × Mem c (list j)) → AllCombed met b n
   bins-all zero b met f o = tt
   bins-all (suc n) b met f o =
-      let here = f b (omega arith) (omega arith) in
-      (bin-list met b here (λ c m k. let r = o c k in let e = bins-apart b (r .0) here (r .2) c m (r .3) in absurd (omega (arith, r .1))),
+      let here = f b (omega arith) (omega arith) in (
+        bin-list met b here (λ c m k. let r = o c k in let e = bins-apart b (r .0) here (r .2) c m (r .3) in absurd (omega (arith, r .1))),
         bins-all n (suc b) (pushed ws table valid all (list b) met) (λ i lo hi. f i (omega arith) (omega arith))
-          (earlier here (list b) met (λ c m. (b, omega arith, here, m)) (λ c m. let r = o c m in (r .0, omega (arith, r .1), r .2, r .3))))
+            (earlier here (list b) met (λ c m. (b, omega arith, here, m)) (λ c m. let r = o c m in (r .0, omega (arith, r .1), r .2, r .3))),
+      )
     where
       earlier : BinIs b → (cs met : List ℕ)
           → ((c : ℕ) → Mem c cs → (j : ℕ) × (j < suc b) × BinIs j × Mem c (list j))
@@ -290,7 +293,7 @@ module _ (ws table : List ℕ) (valid : ValidTable table) (all heads tails : Lis
       unfolding everyone
       everyone-once =
           gathered-once list n 0 (λ i lo hi. f i (omega arith) .once)
-            (λ i j lo lt hi c m k. let e = bins-apart i j (f i (omega arith)) (f j (omega arith)) c m k in omega arith)
+          (λ i j lo lt hi c m k. let e = bins-apart i j (f i (omega arith)) (f j (omega arith)) c m k in omega arith)
 
       everyone-known : (c : ℕ) → Mem c everyone → Mem c all
       unfolding everyone
@@ -331,5 +334,5 @@ module _ (ws table : List ℕ) (valid : ValidTable table) (all heads tails : Lis
     bins-combs f g =
         record {
           whole = all-iff n 0 ms [] l marks .1 (bins-all n 0 [] (λ i lo hi. f i (omega arith)) (λ c m. absurd (List·Memᴰ·not-nil m)));
-          count = count-all f g
+          count = count-all f g;
         }

@@ -84,7 +84,16 @@ pub fn is_settled(tally: Tally, bytes: u32, donor: Chunk) -> bool
 }
 
 // The two walks, on the even part of the region.
-pub fn walk_all(region: &[u32], table: &[u32], heads: &[u32], tails: &[u32], bytes: u32, donor: Chunk, top: Chunk, used: u32) -> Audit
+pub fn walk_all(
+    region: &[u32],
+    table: &[u32],
+    heads: &[u32],
+    tails: &[u32],
+    bytes: u32,
+    donor: Chunk,
+    top: Chunk,
+    used: u32,
+) -> Audit
     ensures { λ r. ⌜ WalkedIs (now (region .entry)) (now (table .entry)) (now (heads .entry)) (now (tails .entry)) bytes (donor .0) (top .0) used r ⌝ }
 {
     let mut marks = [0u32; 256];

@@ -15,7 +15,14 @@ use region::SIZE;
 use region::word;
 
 // A member of a bin's list: a marked chunk, with its bin word, its backward bin link and its size right.
-pub fn is_listed(region: &[u32], marks: &[u32], table: &[u32], bin: usize, before: u32, chunk: Chunk) -> bool
+pub fn is_listed(
+    region: &[u32],
+    marks: &[u32],
+    table: &[u32],
+    bin: usize,
+    before: u32,
+    chunk: Chunk,
+) -> bool
     ensures { λ r. ⌜ r ≡ listedAt (now (region .entry)) (now (table .entry)) bin (now (marks .entry)) before (chunk .0) ⌝ }
 {
     if chunk.0 % 8 != 0 {
@@ -40,7 +47,14 @@ pub enum Swept {
 }
 
 // No list has more members than there are steps: the heap bytes.
-pub fn sweep_list(region: &[u32], marks: &mut [u32], table: &[u32], bin: usize, first: u32, steps: u32) -> Swept
+pub fn sweep_list(
+    region: &[u32],
+    marks: &mut [u32],
+    table: &[u32],
+    bin: usize,
+    first: u32,
+    steps: u32,
+) -> Swept
     ensures { λ r. ⌜ SweptIs (now (region .entry)) (now (table .entry)) bin steps (now (marks .entry)) first (now (marks .exit)) r ⌝ }
 {
     let mut at = first;
@@ -69,7 +83,14 @@ pub enum Sweep {
     Dirty,
 }
 
-pub fn sweep_bins(region: &[u32], marks: &mut [u32], table: &[u32], heads: &[u32], tails: &[u32], steps: u32) -> Sweep
+pub fn sweep_bins(
+    region: &[u32],
+    marks: &mut [u32],
+    table: &[u32],
+    heads: &[u32],
+    tails: &[u32],
+    steps: u32,
+) -> Sweep
     ensures { λ r. ⌜ SweepIs (now (region .entry)) (now (table .entry)) (now (heads .entry)) (now (tails .entry)) steps (now (marks .entry)) r ⌝ }
 {
     let mut bin = 0;

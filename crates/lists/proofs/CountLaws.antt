@@ -86,8 +86,8 @@ module _ (lists : ℕ → List ℕ) where
   gathered-once zero b u a = tt
   gathered-once (suc n) b u a =
       join (lists b) (u b (omega arith) (omega arith))
-        (gathered-once n (suc b) (λ i lo hi. u i (omega arith) (omega arith)) (λ i j lo l hi. a i j (omega arith) l (omega arith)))
-        (λ c m k. let r = gathered-from n (suc b) k in a b (r .0) (omega arith) (omega (arith, r .1 .0)) (omega (arith, r .1 .1)) c m (r .2))
+      (gathered-once n (suc b) (λ i lo hi. u i (omega arith) (omega arith)) (λ i j lo l hi. a i j (omega arith) l (omega arith)))
+      (λ c m k. let r = gathered-from n (suc b) k in a b (r .0) (omega arith) (omega (arith, r .1 .0)) (omega (arith, r .1 .1)) c m (r .2))
     where
       join : (xs : List ℕ) → Distinct xs → Distinct (gathered lists (numbersFrom (suc b) n))
           → ((c : ℕ) → Mem c xs → Mem c (gathered lists (numbersFrom (suc b) n)) → ⊥) → Distinct (xs ++ gathered lists (numbersFrom (suc b) n))

@@ -1,9 +1,12 @@
--- Lists taken apart and put together at a member: ends, members, and that no member stands twice. Assumes nothing.
-use mathlib.Core.Path.{_≡_, refl, sym}
+-- Lists taken apart and put together at a member: ends, members, that no member stands twice, and those kept by a test. Assumes nothing.
+use mathlib.Core.Path.{_≡_, refl, sym, ap, _∙_}
+use mathlib.Core.Bool.{Bool, true, false, cond}
 use mathlib.Core.Logic.{_⊎_, inl, inr}
 use mathlib.Core.List.{List, [], _∷_, _++_, List·Memᴰ·head, List·Memᴰ·tail, List·Memᴰ·not-nil, Memᴰ·append-left, Memᴰ·append-right, Memᴰ·cast}
-use Prim.Native.Nat.{ℕ}
-use Rattle.lists.specs.Lists.{Mem, headOr, lastOr, Distinct}
+use Prim.Native.Nat.{ℕ, suc, _≤_}
+use native.Mathlib.Omega.{arith}
+use lib.ListN.{length}
+use Rattle.lists.specs.Lists.{Mem, headOr, lastOr, keep, Distinct}
 
 pub head-append : (d : ℕ) (xs ys : List ℕ) → headOr d (xs ++ ys) ≡ headOr (headOr d ys) xs
 head-append d [] ys = refl
@@ -67,3 +70,31 @@ distinct-parts (x ∷ xs) ys u =
     common : (d : ℕ) → ((e : ℕ) → Mem e xs → Mem e ys → ⊥) → Mem d (x ∷ xs) → Mem d ys → ⊥
     common d f (List·Memᴰ·head e) k = u .0 (Memᴰ·append-right xs (Memᴰ·cast (sym e) k))
     common d f (List·Memᴰ·tail m) k = f d m k
+
+-- those for which a test holds
+module _ {A : Type 0} (p : A → Bool) where
+  pub kept-from : (xs : List A) {x : A} → Mem x (keep p xs) → Mem x xs × (p x ≡ true)
+  kept-from [] m = absurd (List·Memᴰ·not-nil m)
+  kept-from (y ∷ ys) {x} m = go (p y) refl m (λ k. kept-from ys k)
+    where
+      go : (t : Bool) → p y ≡ t → Mem x (cond t (y ∷ keep p ys) (keep p ys)) → (Mem x (keep p ys) → Mem x ys × (p x ≡ true))
+          → Mem x (y ∷ ys) × (p x ≡ true)
+      go true e (List·Memᴰ·head q) f = (List·Memᴰ·head q, ap p q ∙ e)
+      go true e (List·Memᴰ·tail k) f = let r = f k in (List·Memᴰ·tail (r .0), r .1)
+      go false e k f = let r = f k in (List·Memᴰ·tail (r .0), r .1)
+
+  pub kept-has : {xs : List A} {x : A} → Mem x xs → p x ≡ true → Mem x (keep p xs)
+  kept-has {x = x} (List·Memᴰ·head {x = y} {xs = ys} q) h = rw (sym (ap p q) ∙ h) (List·Memᴰ·head q)
+  kept-has {x = x} (List·Memᴰ·tail {x = y} {xs = ys} m) h = go (p y) (kept-has m h)
+    where
+      go : (t : Bool) → Mem x (keep p ys) → Mem x (cond t (y ∷ keep p ys) (keep p ys))
+      go true k = List·Memᴰ·tail k
+      go false k = k
+
+  pub kept-few : (xs : List A) → length (keep p xs) ≤ length xs
+  kept-few [] = omega arith
+  kept-few (x ∷ xs) = go (p x) (kept-few xs)
+    where
+      go : (t : Bool) → length (keep p xs) ≤ length xs → length (cond t (x ∷ keep p xs) (keep p xs)) ≤ suc (length xs)
+      go true h = omega arith
+      go false h = omega arith

@@ -227,8 +227,8 @@ module _ (t : List ℕ) (v : ValidTable t) where
   unfolding takesBin
   takes-iff i s =
       meaning (both (both (less i (length t)) (at-most (sizeAt t i) s)) (or-else (at-most (length t) (suc i)) (less s (sizeAt t (suc i)))))
-        (λ h. sym (bin-is t s (Bin i) (record { inside = h .0 .0; notAbove = h .0 .1; last = λ j lo hi. above (h .1) j lo hi })))
-        (λ e. back (subst (λ (r : Binned). TakenBy t s r) e (bin-taken t s)))
+      (λ h. sym (bin-is t s (Bin i) (record { inside = h .0 .0; notAbove = h .0 .1; last = λ j lo hi. above (h .1) j lo hi })))
+      (λ e. back (subst (λ (r : Binned). TakenBy t s r) e (bin-taken t s)))
     where
       above : (length t ≤ suc i) ⊎ (s < sizeAt t (suc i)) → (j : ℕ) → i < j → j < length t → s < sizeAt t j
       above (inl l) j lo hi = absurd (omega arith)

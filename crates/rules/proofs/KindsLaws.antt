@@ -1,6 +1,8 @@
 -- Which facts about a chunk make it of which kind. Assumes nothing.
 use mathlib.Core.Path.{_≡_}
-use Prim.Native.Nat.{ℕ, _+_, _%_}
+use Prim.Native.Nat.{ℕ, _+_, _%_, _<_}
+use native.Mathlib.Decide.{ℕ-discrete}
+use native.Mathlib.Omega.{arith}
 use borrow.Author.Tests.{eq-eqb, ne-eqb}
 use Rattle.record.specs.declared.kinds.Kind.{Kind}
 use Rattle.record.specs.declared.kinds.Kind.the-variants.{Start, InUse, Ordinary, Donor, Top, End}
@@ -56,3 +58,28 @@ module _ (bytes donor top : ℕ) (e : Entry) where
                 ne-eqb (e .place) top other,
                 ne-eqb (e .place) donor p,
               )
+
+-- what a kind says of the place and the flag of its chunk
+module _ (bytes donor top : ℕ) (e : Entry) where
+  abbrev pub Being : Kind → Type 0
+  Being Start = e .place ≡ 0
+  Being InUse = (0 < e .place) × (e .place + 8 ≡ bytes → ⊥) × (e .flags % 2 ≡ 1)
+  Being Ordinary = (0 < e .place) × (e .place + 8 ≡ bytes → ⊥) × (e .flags % 2 ≡ 0)
+  Being Donor = (0 < e .place) × (e .place + 8 ≡ bytes → ⊥) × (e .flags % 2 ≡ 0) × (e .place ≡ donor)
+  Being Top = (0 < e .place) × (e .place + 8 ≡ bytes → ⊥) × (e .flags % 2 ≡ 0) × (e .place ≡ top)
+  Being End = (0 < e .place) × (e .place + 8 ≡ bytes)
+
+  pub being : Being (kindAt bytes donor top e)
+  being =
+      go (ℕ-discrete (e .place) 0) (ℕ-discrete (e .place + 8) bytes) (ℕ-discrete (e .flags % 2) 1)
+      (ℕ-discrete (e .place) top) (ℕ-discrete (e .place) donor)
+    where
+      go : Dec (e .place ≡ 0) → Dec (e .place + 8 ≡ bytes) → Dec (e .flags % 2 ≡ 1)
+          → Dec (e .place ≡ top) → Dec (e .place ≡ donor) → Being (kindAt bytes donor top e)
+      go (yes p) _ _ _ _ = rw (← kind-start bytes donor top e p) p
+      go (no s) (yes p) _ _ _ = rw (← kind-end bytes donor top e s p) (omega arith, p)
+      go (no s) (no b) (yes p) _ _ = rw (← kind-in-use bytes donor top e s b p) (omega arith, b, p)
+      go (no s) (no b) (no f) (yes p) _ = rw (← kind-top bytes donor top e s b f p) (omega arith, b, omega arith, p)
+      go (no s) (no b) (no f) (no t) (yes p) =
+          rw (← kind-donor bytes donor top e s b f t p) (omega arith, b, omega arith, p)
+      go (no s) (no b) (no f) (no t) (no d) = rw (← kind-ordinary bytes donor top e s b f t d) (omega arith, b, omega arith)

@@ -1,4 +1,6 @@
 pub mod ShapeLaws
+pub mod ChainLaws
 pub mod KindsLaws
 pub mod CheckLaws
+pub mod EvenLaws
 pub mod CasesLaws

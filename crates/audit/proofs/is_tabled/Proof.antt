@@ -19,12 +19,12 @@ returns-3 c =
 returns-4 : tie.Need-returns-4
 returns-4 c =
     heads-used _ _ _ _ (c .before .before .before .before .before .before .before .if1 .left) (c .before .before .before .before .before .valid .ensures) (c .before .before .before .before .if2 .left) (c .before .before .before .is-unused .ensures)
-      (c .before .before .if3 .left) (c .before .is-unused2 .ensures) (c .if4 .taken)
+    (c .before .before .if3 .left) (c .before .is-unused2 .ensures) (c .if4 .taken)
 
 returns-5 : tie.Need-returns-5
 returns-5 c =
     by-tails _ _ _ _ (c .before .before .before .before .before .before .before .before .if1 .left) (c .before .before .before .before .before .before .valid .ensures) (c .before .before .before .before .before .if2 .left) (c .before .before .before .before .is-unused .ensures)
-      (c .before .before .before .if3 .left) (c .before .before .is-unused2 .ensures) (c .before .if4 .left) (c .is-unused3 .ensures)
+    (c .before .before .before .if3 .left) (c .before .before .is-unused2 .ensures) (c .before .if4 .left) (c .is-unused3 .ensures)
 
 pub is-tabled-spec : {M : Type 1} → statement M
 is-tabled-spec =

@@ -14,22 +14,22 @@ returns-2 c =
 returns-3 : tie.Need-returns-3
 returns-3 c =
     other-used _ _ _ _ _ _ _ _ _ (c .before .before .before .before .before .before .before .before .walk .ensures) (c .before .before .before .before .before .survey .given .1) (c .before .before .before .is-settled .ensures)
-      (c .before .before .if1 .left) (c .if2 .taken)
+    (c .before .before .if1 .left) (c .if2 .taken)
 
 returns-4 : tie.Need-returns-4
 returns-4 c =
     lists-dirty _ _ _ _ _ _ _ _ _ (c .before .before .before .before .before .before .before .before .before .before .before .before .before .walk .ensures) (c .before .before .before .before .before .before .before .before .before .before .survey .given .1) (c .before .before .before .before .before .before .before .before .is-settled .ensures)
-      (c .before .before .before .before .before .before .before .if1 .left) (c .before .before .before .before .before .if2 .left) _ (c .before .before .before .sweep-bins .ensures) (c .enum-told2 .given .1)
+    (c .before .before .before .before .before .before .before .if1 .left) (c .before .before .before .before .before .if2 .left) _ (c .before .before .before .sweep-bins .ensures) (c .enum-told2 .given .1)
 
 returns-5 : tie.Need-returns-5
 returns-5 c =
     other-count _ _ _ _ _ _ _ _ _ (c .before .before .before .before .before .before .before .before .before .before .before .before .before .before .before .before .walk .ensures) (c .before .before .before .before .before .before .before .before .before .before .before .before .before .survey .given .1) (c .before .before .before .before .before .before .before .before .before .before .before .is-settled .ensures)
-      (c .before .before .before .before .before .before .before .before .before .before .if1 .left) (c .before .before .before .before .before .before .before .before .if2 .left) _ (c .before .before .before .before .before .before .sweep-bins .ensures) (c .before .before .before .sweep .given .1) (c .if3 .taken)
+    (c .before .before .before .before .before .before .before .before .before .before .if1 .left) (c .before .before .before .before .before .before .before .before .if2 .left) _ (c .before .before .before .before .before .before .sweep-bins .ensures) (c .before .before .before .sweep .given .1) (c .if3 .taken)
 
 returns-6 : tie.Need-returns-6
 returns-6 c =
     all-well _ _ _ _ _ _ _ _ _ (c .before .before .before .before .before .before .before .before .before .before .before .before .before .before .before .before .walk .ensures) (c .before .before .before .before .before .before .before .before .before .before .before .before .before .survey .given .1) (c .before .before .before .before .before .before .before .before .before .before .before .is-settled .ensures)
-      (c .before .before .before .before .before .before .before .before .before .before .if1 .left) (c .before .before .before .before .before .before .before .before .if2 .left) _ (c .before .before .before .before .before .before .sweep-bins .ensures) (c .before .before .before .sweep .given .1) (c .if3 .left)
+    (c .before .before .before .before .before .before .before .before .before .before .if1 .left) (c .before .before .before .before .before .before .before .before .if2 .left) _ (c .before .before .before .before .before .before .sweep-bins .ensures) (c .before .before .before .sweep .given .1) (c .if3 .left)
 
 pub walk-all-spec : {M : Type 1} → statement M
 walk-all-spec =

@@ -14,18 +14,18 @@ returns-2 c = not-marked _ _ _ _ _ _ (c .before .before .if1 .left) (c .before .
 returns-3 : tie.Need-returns-3
 returns-3 c =
     other-bin _ _ _ _ _ _ (c .before .before .before .before .before .if1 .left) (c .before .before .before .before .is-marked .ensures) (c .before .before .before .if2 .left)
-      (c .before .before .word .ensures) (c .before .bin-word .ensures) (c .if3 .taken)
+    (c .before .before .word .ensures) (c .before .bin-word .ensures) (c .if3 .taken)
 
 returns-4 : tie.Need-returns-4
 returns-4 c =
     other-before _ _ _ _ _ _ (c .before .before .before .before .before .before .before .if1 .left) (c .before .before .before .before .before .before .is-marked .ensures) (c .before .before .before .before .before .if2 .left)
-      (c .before .before .before .before .word .ensures) (c .before .before .before .bin-word .ensures) (c .before .before .if3 .left) (c .before .word2 .ensures) (c .if4 .taken)
+    (c .before .before .before .before .word .ensures) (c .before .before .before .bin-word .ensures) (c .before .before .if3 .left) (c .before .word2 .ensures) (c .if4 .taken)
 
 returns-5 : tie.Need-returns-5
 returns-5 c =
     by-size _ _ _ _ _ _ (c .before .before .before .before .before .before .before .before .before .if1 .left) (c .before .before .before .before .before .before .before .before .is-marked .ensures) (c .before .before .before .before .before .before .before .if2 .left)
-      (c .before .before .before .before .before .before .word .ensures) (c .before .before .before .before .before .bin-word .ensures) (c .before .before .before .before .if3 .left) (c .before .before .before .word2 .ensures) (c .before .before .if4 .left)
-      (c .before .word3 .ensures) (c .takes .ensures)
+    (c .before .before .before .before .before .before .word .ensures) (c .before .before .before .before .before .bin-word .ensures) (c .before .before .before .before .if3 .left) (c .before .before .before .word2 .ensures) (c .before .before .if4 .left)
+    (c .before .word3 .ensures) (c .takes .ensures)
 
 pub is-listed-spec : {M : Type 1} → statement M
 is-listed-spec =

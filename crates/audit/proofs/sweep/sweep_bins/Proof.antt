@@ -22,19 +22,20 @@ loop-holds c = (sweeping-begins _ _ _ _ _ _, refl)
 returns : tie.Need-returns Inv-loop μ-loop
 returns c =
     dirty-list _ _ _ _ _ _ _ _ _ (c .before .before .before .before .before .before .before .before .loop .inv .0) (c .before .before .before .before .before .before .before .loop-test .taken) (c .before .before .before .before .before .end-of .ensures)
-      (torn-is _ _ _ _ _ _ _ _ (c .before .before .before .before .sweep-list .ensures) (c .enum-told .given .1))
+    (torn-is _ _ _ _ _ _ _ _ (c .before .before .before .before .sweep-list .ensures) (c .enum-told .given .1))
 
 returns-2 : tie.Need-returns-2 Inv-loop μ-loop
 returns-2 c =
     dirty-tail _ _ _ _ _ _ _ _ _ (c .before .before .before .before .before .before .before .before .before .before .before .loop .inv .0) (c .before .before .before .before .before .before .before .before .before .before .loop-test .taken) (c .before .before .before .before .before .before .before .before .end-of .ensures) _
-      (whole-is _ _ _ _ _ _ _ _ (c .before .before .before .before .before .before .before .sweep-list .ensures) (c .before .before .before .swept .given .1)) (c .before .end-of2 .ensures) (c .if1 .taken)
+    (whole-is _ _ _ _ _ _ _ _ (c .before .before .before .before .before .before .before .sweep-list .ensures) (c .before .before .before .swept .given .1)) (c .before .end-of2 .ensures) (c .if1 .taken)
 
 loop-again : tie.Need-loop-again Inv-loop μ-loop
-loop-again c =
-    (sweeping-goes _ _ _ _ _ _ _ _ _ (c .before .before .before .before .before .before .before .before .before .before .before .before .loop .inv .0) (c .before .before .before .before .before .before .before .before .before .before .before .loop-test .taken) (c .before .before .before .before .before .before .before .before .before .end-of .ensures) _
+loop-again c = (
+  sweeping-goes _ _ _ _ _ _ _ _ _ (c .before .before .before .before .before .before .before .before .before .before .before .before .loop .inv .0) (c .before .before .before .before .before .before .before .before .before .before .before .loop-test .taken) (c .before .before .before .before .before .before .before .before .before .end-of .ensures) _
       (whole-is _ _ _ _ _ _ _ _ (c .before .before .before .before .before .before .before .before .sweep-list .ensures) (c .before .before .before .before .swept .given .1)) (c .before .before .end-of2 .ensures)
       (c .before .if1 .left) (c .wrapping-add-u32 .ensures),
-      search needs)
+  search needs,
+)
 
 returns-3 : tie.Need-returns-3 Inv-loop μ-loop
 returns-3 c = all-clean _ _ _ _ _ _ _ _ _ (c .before .loop .inv .0) (c .loop-test .left)

@@ -25,13 +25,14 @@ returns c =
 returns-2 : tie.Need-returns-2 Inv-loop μ-loop
 returns-2 c =
     torn-here _ _ _ _ _ _ _ _ _ _ _ (c .before .before .before .before .before .loop .inv .0) (c .before .before .before .before .loop-test .taken) (omega arith)
-      (c .before .is-listed .ensures) _ (c .if2 .taken)
+    (c .before .is-listed .ensures) _ (c .if2 .taken)
 
 loop-again : tie.Need-loop-again Inv-loop μ-loop
-loop-again c =
-    (combing-goes _ _ _ _ _ _ _ _ _ _ _ (c .before .before .before .before .before .before .before .before .before .before .loop .inv .0) (c .before .before .before .before .before .before .before .before .before .loop-test .taken) (omega arith)
+loop-again c = (
+  combing-goes _ _ _ _ _ _ _ _ _ _ _ (c .before .before .before .before .before .before .before .before .before .before .loop .inv .0) (c .before .before .before .before .before .before .before .before .before .loop-test .taken) (omega arith)
       (c .before .before .before .before .before .before .is-listed .ensures) (c .before .before .before .before .before .if2 .left) _ (c .before .before .before .flip .ensures) (c .word .ensures),
-      search needs)
+  search needs,
+)
 
 returns-3 : tie.Need-returns-3 Inv-loop μ-loop
 returns-3 c = whole-list _ _ _ _ _ _ _ _ _ _ _ (c .before .loop .inv .0) _ refl (c .loop-test .left)

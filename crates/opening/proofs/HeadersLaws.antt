@@ -1,0 +1,32 @@
+-- The words that the code stores are the rule's, in the rule's order, and all of them fall into the heap bytes. Assumes nothing.
+use mathlib.Core.Path.{_≡_}
+use Prim.Native.Nat.{ℕ, _+_, _-_, _/_, _%_, _^_, _≤_}
+use native.Mathlib.Decide.{ℕ-discrete}
+use native.Mathlib.Omega.{arith}
+use borrow.Author.Tests.{eq-eqb, ne-eqb}
+use Rattle.rules.specs.Setup.{firstHeaders}
+use Rattle.opening.specs.Opening.{startWords, endWords, freeWords, withoutDonor, withDonor, firstWords}
+use Rattle.opening.proofs.PrefixLaws.{Below}
+
+module _ (bytes donor : ℕ) (room : donor + 40 ≤ bytes) (few : bytes ≤ 65536) where
+  first-case : Dec (donor ≡ 0) → firstWords donor (8 + donor) (bytes - 8) ≡ firstHeaders bytes donor
+  unfolding firstWords withoutDonor withDonor startWords freeWords endWords
+  first-case (yes e) =
+      let top : 8 + donor + (bytes - 8 - (8 + donor)) ≡ bytes - 8 = omega arith in
+      let flag : (8 + donor + 1) % 2 ^ 32 ≡ 8 + donor + 1 = omega arith in
+      rw (eq-eqb donor 0 e, top, flag)
+  first-case (no ne) =
+      let top : 8 + donor + (bytes - 8 - (8 + donor)) ≡ bytes - 8 = omega arith in
+      let flag : (8 + donor + 1) % 2 ^ 32 ≡ 8 + donor + 1 = omega arith in
+      let size : 8 + donor - 8 ≡ donor = omega arith in
+      rw (ne-eqb donor 0 ne, top, flag, size)
+
+  pub first-words : firstWords donor (8 + donor) (bytes - 8) ≡ firstHeaders bytes donor
+  first-words = first-case (ℕ-discrete donor 0)
+
+  below-case : Dec (donor ≡ 0) → Below (bytes / 4) (firstHeaders bytes donor)
+  below-case (yes e) = rw (eq-eqb donor 0 e) (omega arith)
+  below-case (no ne) = rw (ne-eqb donor 0 ne) (omega arith)
+
+  pub first-below : Below (bytes / 4) (firstHeaders bytes donor)
+  first-below = below-case (ℕ-discrete donor 0)

@@ -1,0 +1,4 @@
+pub mod FreshLaws
+pub mod HeadersLaws
+pub mod PrefixLaws
+pub mod SetupLaws

@@ -1,0 +1,22 @@
+-- `headers::write_start` stores the start's two links. Assumes nothing.
+use borrow.Author.Needs.{needs}
+use Rattle.opening.specs.Opening.{startWords}
+use Rattle.opening.proofs.headers.write_start.Statement.{statement}
+use Rattle.opening.proofs.headers.write_start.Tie as tie
+
+returns : tie.Need-returns
+unfolding startWords
+returns c =
+    rw (
+      c .before .before .store2 .ensures,
+      c .before .before .before .before .before .before .store .ensures,
+    )
+
+pub write-start-spec : {M : Type 1} → statement M
+write-start-spec =
+    tie.close
+    (tie.spec
+    (λ c κs. search needs)
+    (λ c κs. search needs)
+    (λ c. search needs)
+    returns)

@@ -1,0 +1,30 @@
+-- `headers::write_with_donor` writes start, donor, top and end, call by call. Assumes nothing.
+use borrow.Author.Needs.{needs}
+use Rattle.opening.specs.Opening.{withDonor, startWords, freeWords, endWords}
+use Rattle.opening.proofs.headers.write_with_donor.Statement.{statement}
+use Rattle.opening.proofs.headers.write_with_donor.Tie as tie
+
+returns : tie.Need-returns
+unfolding withDonor startWords freeWords endWords
+returns c =
+    rw (
+      c .before .before .write-end .ensures,
+      c .before .before .before .before .before .before .write-no-bin2 .ensures,
+      c .before .before .before .before .before .before .before .before .before .before .write-no-bin .ensures,
+      c .before .before .before .before .before .before .before .before .before .before .before .before .before .before .write-free2 .ensures,
+      c .before .before .before .before .before .before .before .before .before .before .before .before .before .before .before .before .before .before .write-free .ensures,
+      c .before .before .before .before .before .before .before .before .before .before .before .before .before .before .before .before .before .before .before .before .before .before .write-start .ensures,
+    )
+
+pub write-with-donor-spec : {M : Type 1} → statement M
+write-with-donor-spec =
+    tie.close
+    (tie.spec
+    (λ c κs. search needs)
+    (λ c κs. search needs)
+    (λ c κs. search needs)
+    (λ c κs. search needs)
+    (λ c κs. search needs)
+    (λ c κs. search needs)
+    (λ c. search needs)
+    returns)

@@ -1,0 +1,26 @@
+-- `headers::write_without_donor` writes start, top and end, call by call. Assumes nothing.
+use borrow.Author.Needs.{needs}
+use Rattle.opening.specs.Opening.{withoutDonor, startWords, freeWords, endWords}
+use Rattle.opening.proofs.headers.write_without_donor.Statement.{statement}
+use Rattle.opening.proofs.headers.write_without_donor.Tie as tie
+
+returns : tie.Need-returns
+unfolding withoutDonor startWords freeWords endWords
+returns c =
+    rw (
+      c .before .before .write-end .ensures,
+      c .before .before .before .before .before .before .write-no-bin .ensures,
+      c .before .before .before .before .before .before .before .before .before .before .write-free .ensures,
+      c .before .before .before .before .before .before .before .before .before .before .before .before .before .before .write-start .ensures,
+    )
+
+pub write-without-donor-spec : {M : Type 1} → statement M
+write-without-donor-spec =
+    tie.close
+    (tie.spec
+    (λ c κs. search needs)
+    (λ c κs. search needs)
+    (λ c κs. search needs)
+    (λ c κs. search needs)
+    (λ c. search needs)
+    returns)

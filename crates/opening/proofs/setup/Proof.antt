@@ -1,0 +1,83 @@
+-- `opening::setup` refuses in the rule's order, and accepted it leaves the rule's headers and record. Assumes nothing.
+use mathlib.Core.Path.{sym, _∙_}
+use Prim.Native.Nat.{_*_, _/_}
+use native.Mathlib.Omega.{arith}
+use borrow.Author.Needs.{needs}
+use borrow.Author.Tests.{not-true, not-false}
+use lib.ListN.{length}
+use lib.Seq.{length-take-le}
+use Rattle.opening.proofs.SetupLaws.{fits-room, refuses-short, refuses-long, refuses-table, refuses-donor, accepts}
+use Rattle.opening.proofs.setup.Statement.{statement}
+use Rattle.opening.proofs.setup.Tie as tie
+
+returns : tie.Need-returns
+returns c = rw (c .refused .ensures) (refuses-short _ _ _ _ (omega arith))
+
+returns-2 : tie.Need-returns-2
+returns-2 c = rw (c .refused2 .ensures) (refuses-long _ _ _ _ (omega arith) (omega arith))
+
+returns-3 : tie.Need-returns-3
+returns-3 c =
+    rw (c .refused3 .ensures)
+    (refuses-table _ _ _ _ (omega arith) (omega arith)
+    (sym (c .before .before .valid .ensures) ∙ not-true _ (c .before .if3 .taken)))
+
+returns-4 : tie.Need-returns-4
+returns-4 c =
+    let b = c .before .before .before in
+    rw (c .refused4 .ensures)
+    (refuses-donor _ _ _ _ (omega arith) (omega arith)
+    (sym (b .before .valid .ensures) ∙ not-false _ (b .if3 .left))
+    _
+    (sym (c .before .before .donor-fits .ensures) ∙ not-true _ (c .before .if4 .taken))
+    (omega arith))
+
+add-t16 : tie.Need-add-t16
+add-t16 c =
+    let a = c .before .before .before .before .before .before .before .before .args in
+    let room =
+    fits-room (length (a .region .now) / 2 * 2 * 4) (a .donor)
+    (sym (c .before .donor-fits .ensures) ∙ not-false _ (c .if4 .left)) (omega arith) in
+    omega arith
+
+slice-aggregate-write-headers : tie.Need-slice-aggregate-write-headers
+slice-aggregate-write-headers c = sym (length-take-le _ _ (omega arith))
+
+returns-5 : tie.Need-returns-5
+returns-5 c =
+    let b = c .before .before .before .before .before .before .before in
+    let a = b .before .before .before .before .before .before .args in
+    rw (c .fresh .ensures, c .before .before .before .write-headers .ensures)
+    (accepts _ _ _ _ (omega arith) (omega arith)
+    (sym (b .before .valid .ensures) ∙ not-false _ (b .if3 .left))
+    _ (length (a .region .now) / 2 * 2)
+    (sym (c .before .before .before .before .before .before .donor-fits .ensures)
+    ∙ not-false _ (c .before .before .before .before .before .if4 .left))
+    (omega arith)
+    (omega arith))
+
+pub setup-spec : {M : Type 1} → statement M
+setup-spec =
+    tie.close
+    (tie.spec
+    (λ c κs. search needs)
+    returns
+    (λ c κs. search needs)
+    returns-2
+    (λ c κs. search needs)
+    (λ c κs. search needs)
+    returns-3
+    (λ c. search needs)
+    (λ c. search needs)
+    (λ c. search needs)
+    (λ c κs. search needs)
+    (λ c κs. search needs)
+    returns-4
+    add-t16
+    (λ c. search needs)
+    (λ c. search needs)
+    slice-aggregate-write-headers
+    (λ c κs. search needs)
+    (λ c κs. search needs)
+    (λ c. search needs)
+    returns-5)

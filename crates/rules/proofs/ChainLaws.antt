@@ -1,0 +1,72 @@
+-- What holds of the chain of any region, before anything is tested: places go up, so that each has one chunk. Assumes nothing.
+use mathlib.Core.Path.{_≡_, refl, sym, ap, _∙_}
+use mathlib.Core.List.{List, [], _∷_, List·Memᴰ·head, List·Memᴰ·tail, List·Memᴰ·not-nil}
+use Prim.Native.Nat.{ℕ, suc, _≤_, _<_}
+use native.Mathlib.Omega.{arith}
+use Rattle.lists.specs.Lists.{Mem, headOr, lastOr}
+use Rattle.region.specs.Words.{word, forward}
+use Rattle.rules.specs.Shape.{Entry, flagsAt, shape}
+use Rattle.rules.specs.Kinds.{outside}
+use Rattle.rules.proofs.ShapeLaws.{Up, lastEntry, upEntry, shape-is, chain-by}
+
+-- what holds of the first and of all others holds of each
+pub each-cons : {A : Type 0} {P : A → Type 0} {x : A} {xs : List A} → P x → ((y : A) → Mem y xs → P y)
+    → (y : A) → Mem y (x ∷ xs) → P y
+each-cons here rest y (List·Memᴰ·head e) = rw e here
+each-cons here rest y (List·Memᴰ·tail m) = rest y m
+
+-- places go up, the first of them from c on
+abbrev pub Rising : ℕ → List Entry → Type 0
+Rising c [] = Unit {0}
+Rising c (e ∷ es) = (c ≤ e .place) × Rising (suc (e .place)) es
+
+pub rising-from : (b c : ℕ) (es : List Entry) → b ≤ c → Rising c es → Rising b es
+rising-from b c [] l r = tt
+rising-from b c (e ∷ es) l r = (omega (arith, r .0), r .1)
+
+pub at-least : (c : ℕ) {e : Entry} (es : List Entry) → Rising c es → Mem e es → c ≤ e .place
+at-least c (d ∷ es) r (List·Memᴰ·head q) = rw q (r .0)
+at-least c (d ∷ es) r (List·Memᴰ·tail m) = omega (arith, r .0, at-least (suc (d .place)) es (r .1) m)
+
+-- so a place has one chunk
+pub same-place : (c : ℕ) {d e : Entry} (es : List Entry) → Rising c es → Mem d es → Mem e es → d .place ≡ e .place → d ≡ e
+same-place c (x ∷ es) r (List·Memᴰ·head p) (List·Memᴰ·head q) s = p ∙ sym q
+same-place c (x ∷ es) r (List·Memᴰ·head p) (List·Memᴰ·tail m) s =
+    let l = at-least (suc (x .place)) es (r .1) m in let b = ap (λ (y : Entry). y .place) p in absurd (omega arith)
+same-place c (x ∷ es) r (List·Memᴰ·tail n) (List·Memᴰ·head q) s =
+    let l = at-least (suc (x .place)) es (r .1) n in let b = ap (λ (y : Entry). y .place) q in absurd (omega arith)
+same-place c (x ∷ es) r (List·Memᴰ·tail n) (List·Memᴰ·tail m) s = same-place (suc (x .place)) es (r .1) n m s
+
+-- what is known of the chain from c on before anything is tested
+pub record Chain (ws : List ℕ) (bytes c : ℕ) (es : List Entry) : Type 0 where
+  pub first : headOr outside es .place ≡ c
+  pub has-first : Mem (headOr outside es) es
+  pub has-last : (d : Entry) → Mem (lastOr d es) es
+  pub rising : Rising c es
+  pub flags : (e : Entry) → Mem e es → e .flags ≡ flagsAt ws (e .place)
+  pub inside : c < bytes → (e : Entry) → Mem e es → e .place < bytes
+
+pub shape-chain : (ws : List ℕ) (bytes : ℕ) → Chain ws bytes 0 (shape ws bytes)
+shape-chain ws bytes = rw (shape-is ws bytes) (chain-by ws bytes (Chain ws bytes) last more 0)
+  where
+    last : (c : ℕ) → (Up ws bytes c → ⊥) → Chain ws bytes c (lastEntry ws bytes c ∷ [])
+    last c n =
+        record {
+          first = refl;
+          has-first = List·Memᴰ·head refl;
+          has-last = λ d. List·Memᴰ·head refl;
+          rising = (omega arith, tt);
+          flags = each-cons refl (λ e m. absurd (List·Memᴰ·not-nil m));
+          inside = λ l. each-cons l (λ e m. absurd (List·Memᴰ·not-nil m));
+        }
+
+    more : (c : ℕ) (es : List Entry) → Up ws bytes c → Chain ws bytes (word ws c forward) es → Chain ws bytes c (upEntry ws bytes c ∷ es)
+    more c es u r =
+        record {
+          first = refl;
+          has-first = List·Memᴰ·head refl;
+          has-last = λ d. List·Memᴰ·tail (r .has-last _);
+          rising = (omega arith, rising-from (suc c) (word ws c forward) es (u .0) (r .rising));
+          flags = each-cons refl (r .flags);
+          inside = λ l. each-cons l (r .inside (u .1));
+        }
