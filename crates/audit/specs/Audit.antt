@@ -8,8 +8,9 @@ use lib.Dec.{eqb, leb, ltb}
 use lib.ListN.{length, take, replicate}
 use Rattle.lists.specs.Lists.{total, numbersFrom}
 use Rattle.record.specs.declared.answers.Counts.{Counts}
+use Rattle.record.specs.declared.heap.Heap.{Heap}
 use Rattle.record.specs.Table.{validTable}
-use Rattle.rules.specs.Check.{unusedFrom}
+use Rattle.rules.specs.Check.{unusedFrom, passes, countsOf}
 use Rattle.rules.specs.Shape.{shape}
 use Rattle.audit.specs.declared.Audit.{Audit}
 use Rattle.audit.specs.declared.Audit.the-variants.{Passes, Fails}
@@ -57,3 +58,8 @@ module _ (ws table heads tails : List ℕ) (bytes donor top used : ℕ) where
   unfoldable pub WalkedIs : Audit → Type 0
   WalkedIs Fails = walksWell ≡ false
   WalkedIs (Passes c) = (walksWell ≡ true) × (c ≡ countsIn)
+
+-- what the check finds: it decides `passes`, and the counts are the rules'
+unfoldable pub AuditIs : List ℕ → Heap → Audit → Type 0
+AuditIs ws h Fails = passes ws h ≡ false
+AuditIs ws h (Passes c) = (passes ws h ≡ true) × (c ≡ countsOf h (shape ws (h .bytes)))

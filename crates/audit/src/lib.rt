@@ -1,7 +1,7 @@
 // The check, in time linear in the chunks: one walk of the chain that marks each ordinary chunk, one walk of each
 // bin's list that clears the marks. Nothing is written into the region.
 ghost use mathlib.Core.Path.{_≡_};
-ghost use Rattle.audit.specs.Audit.{fitsLength, settled, tabledAs, WalkedIs};
+ghost use Rattle.audit.specs.Audit.{fitsLength, settled, tabledAs, WalkedIs, AuditIs};
 ghost use Rattle.rules.specs.Check.{unusedFrom};
 use crate::survey::Survey;
 use crate::survey::Tally;
@@ -9,6 +9,7 @@ use crate::survey::walk;
 use crate::sweep::Sweep;
 use crate::sweep::sweep_bins;
 use record::answers::Counts;
+use record::heap::Heap;
 use record::table::valid;
 use region::Chunk;
 
@@ -120,4 +121,23 @@ pub fn walk_all(
         used: tally.used,
         free: tally.free,
     })
+}
+
+// The whole check. An odd last word is not lent to the walks, so that nothing below can reach it.
+pub fn check(region: &[u32], h: Heap) -> Audit
+    ensures { λ r. ⌜ AuditIs (now (region .entry)) h r ⌝ }
+{
+    let bytes = h.bytes;
+    if !fits_length(region.len(), bytes) {
+        return Audit::Fails;
+    }
+    let bins = h.bins as usize;
+    let sizes = h.sizes;
+    let heads = h.heads;
+    let tails = h.tails;
+    if !is_tabled(bins, &sizes, &heads, &tails) {
+        return Audit::Fails;
+    }
+    let even = (bytes / 4) as usize;
+    walk_all(&region[..even], &sizes[..bins], &heads, &tails, bytes, h.donor, h.top, h.used)
 }
