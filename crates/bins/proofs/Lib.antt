@@ -2,3 +2,4 @@ pub mod BooksSteps
 pub mod RunsLaws
 pub mod BooksLaws
 pub mod SearchLaws
+pub mod HeapBooks

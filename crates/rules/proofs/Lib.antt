@@ -2,5 +2,6 @@ pub mod ShapeLaws
 pub mod ChainLaws
 pub mod KindsLaws
 pub mod CheckLaws
+pub mod SpotLaws
 pub mod EvenLaws
 pub mod CasesLaws

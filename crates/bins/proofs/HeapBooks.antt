@@ -1,0 +1,134 @@
+-- The books of a heap that passes: each bin holds the list that is read from its head, no chunk is in two lists, members lie far apart,
+-- lists are short enough to be searched, and all ordinary chunks are in them. Assumes nothing.
+use mathlib.Core.Path.{_≡_, refl, sym, ap, _∙_}
+use mathlib.Core.Logic.{_≢_}
+use mathlib.Core.Bool.{true}
+use mathlib.Core.List.{List, [], _∷_, map, List·Memᴰ·head, List·Memᴰ·tail, Memᴰ·map, Memᴰ·cast}
+use Prim.Native.Nat.{ℕ, zero, suc, _*_, _≤_, _<_}
+use native.Mathlib.Decide.{ℕ-discrete, decLt}
+use native.Mathlib.Omega.{arith}
+use lib.ListN.{length, getD}
+use borrow.Author.Tests.{ne-eqb}
+use Rattle.lists.specs.Lists.{Mem, headOr}
+use Rattle.lists.proofs.CountLaws.{distinct-fits}
+use Rattle.record.specs.declared.heap.Heap.{Heap}
+use Rattle.record.specs.declared.table.Binned.the-variants.{Bin}
+use Rattle.record.specs.Heap.{tableOf}
+use Rattle.record.specs.Table.{binOf}
+use Rattle.region.specs.Words.{word, size, bin}
+use Rattle.rules.specs.Shape.{Entry, shape, membersFrom, members, binList}
+use Rattle.rules.specs.Kinds.{ordinary}
+use Rattle.rules.specs.Check.{Linked, Passes}
+use Rattle.rules.proofs.ShapeLaws.{Leads}
+use Rattle.rules.proofs.SpotLaws.{IsOrdinary, bounds, inside, far, few-chunks, is-ordinary}
+use Rattle.bins.specs.Books.{books}
+use Rattle.bins.proofs.RunsLaws.{Node}
+use Rattle.bins.proofs.BooksLaws.{Holds, Far}
+
+-- a reading with at least one step begins where it is read from
+read-head : (ws : List ℕ) (k c : ℕ) → 0 < k → c ≡ headOr 0 (membersFrom k ws c)
+read-head ws zero c l = absurd (omega arith)
+read-head ws (suc k) c l =
+    elim (ℕ-discrete c 0) [ yes z ↦ rw z refl | no n ↦ rw (ne-eqb c 0 n, membersFrom) ]
+
+read-none : (ws : List ℕ) (k : ℕ) → membersFrom k ws 0 ≡ []
+read-none ws zero = refl
+read-none ws (suc k) = refl
+
+linked-leads : (ws : List ℕ) (q : ℕ) (cs : List ℕ) → Linked ws q cs → ((c : ℕ) → Mem c cs → 0 < c) → Leads ws cs
+linked-leads ws q [] l f = tt
+linked-leads ws q (c ∷ cs) l f = (f c (List·Memᴰ·head refl), l .1, linked-leads ws c cs (l .2) (λ d m. f d (List·Memᴰ·tail m)))
+
+places-length : (es : List Entry) → length (map (λ e. e .place) es) ≡ length es
+places-length [] = refl
+places-length (e ∷ es) = let r = places-length es in omega arith
+
+-- the chunk e of the chain es stands at c, a member of bin i
+pub record Member (ws : List ℕ) (h : Heap) (es : List Entry) (i c : ℕ) (e : Entry) : Type 0 where
+  pub member : Mem e es
+  pub place : e .place ≡ c
+  pub kind : ordinary h e ≡ true
+  pub is : IsOrdinary ws h e
+  pub takes : binOf (tableOf h) (e .size) ≡ Bin i
+  pub sized : word ws c size ≡ e .size
+  pub binned : word ws c bin ≡ 8 * i
+
+module _ (ws : List ℕ) (h : Heap) (p : Passes ws h) where
+  abbrev pub es : List Entry
+  es = shape ws (h .bytes)
+
+  pub member-entry : (i c : ℕ) → i < h .bins → Mem c (binList ws h i) → (e : Entry) × Member ws h es i c e
+  member-entry i c l m =
+      let k = p .bins i l .chunks c m in
+      let o = is-ordinary ws h p (k .0) (k .1) (k .2 .1 .0) in (
+        k .0,
+        record {
+          member = k .1;
+          place = k .2 .0;
+          kind = k .2 .1 .0;
+          is = o;
+          takes = k .2 .1 .1;
+          sized = rw (k .2 .0) at (o .free .sized);
+          binned = p .bins i l .words c m;
+        },
+      )
+
+  pub list-nodes : (i : ℕ) → i < h .bins → (c : ℕ) → Mem c (binList ws h i) → Node (length ws) c
+  list-nodes i l c m =
+      let k = member-entry i c l m in
+      let b = bounds ws h p in
+      let o = inside ws h p (k .0) (k .1 .member) in
+      let r = k .1 in
+      record { eight = omega arith; some = omega arith; fits = omega arith }
+
+  pub list-head : (i : ℕ) → getD (h .heads) i 0 ≡ headOr 0 (binList ws h i)
+  unfolding members
+  list-head i = let b = bounds ws h p in read-head ws (h .bytes) (getD (h .heads) i 0) (omega arith)
+
+  pub heap-holds : (i : ℕ) → i < h .bins → Holds (books ws (h .heads) (h .tails)) i (binList ws h i)
+  heap-holds i l =
+      let k = p .bins i l in
+      record { head = list-head i; tail = k .tail; links = k .links; nodes = list-nodes i l; once = k .once }
+
+  pub members-far : (i j c d : ℕ) → i < h .bins → j < h .bins → Mem c (binList ws h i) → Mem d (binList ws h j) → c ≢ d → Far c d
+  members-far i j c d li lj m k n =
+      let a = member-entry i c li m in
+      let b = member-entry j d lj k in
+      let x = a .1 in
+      let y = b .1 in
+      rw (← x .place, ← y .place)
+      (far ws h p (a .0) (b .0) (x .member) (y .member) (λ q. n (omega arith)) (omega arith) (omega arith) (omega arith) (omega arith))
+
+  -- a chunk's bin word names one bin
+  pub lists-apart : (i j : ℕ) → i < h .bins → j < h .bins → i ≢ j → (c : ℕ) → Mem c (binList ws h i) → Mem c (binList ws h j) → ⊥
+  lists-apart i j li lj n c m k =
+      let a = member-entry i c li m .1 in
+      let b = member-entry j c lj k .1 in
+      let q : 8 * i ≡ 8 * j = sym (a .binned) ∙ b .binned in
+      n (omega arith)
+
+  pub leads-is : (i : ℕ) → i < h .bins → Leads ws (binList ws h i)
+  leads-is i l = linked-leads ws 0 (binList ws h i) (p .bins i l .links) (λ c m. list-nodes i l c m .some)
+
+  -- past the bin count all heads are 0
+  pub list-none : (i : ℕ) → h .bins ≤ i → binList ws h i ≡ []
+  unfolding members
+  list-none i l = rw (p .table .headsEnd i l) (read-none ws (h .bytes))
+
+  -- the members are places of the chain, and its chunks have at least 8 bytes each
+  pub list-short : (i : ℕ) → length (binList ws h i) ≤ 8192
+  list-short i = go (decLt i (h .bins))
+    where
+      go : Dec (i < h .bins) → length (binList ws h i) ≤ 8192
+      go (yes l) =
+          let place : Entry → ℕ = λ e. e .place in
+          let fits = distinct-fits (binList ws h i) (map place es) (p .bins i l .once)
+          (λ c m. let k = member-entry i c l m in Memᴰ·cast (sym (k .1 .place)) (Memᴰ·map place (k .1 .member))) in
+          let b = bounds ws h p in
+          let few = few-chunks ws h p in
+          omega (arith, places-length es)
+      go (no n) = let e = ap length (list-none i (omega arith)) in omega arith
+
+  pub ordinary-listed : (e : Entry) → Mem e es → ordinary h e ≡ true
+      → (i : ℕ) × (i < h .bins) × (binOf (tableOf h) (e .size) ≡ Bin i) × Mem (e .place) (binList ws h i)
+  ordinary-listed e m o = let b = p .binned e m o in (b .0, b .2 .0, b .1, b .2 .1)

@@ -1,0 +1,539 @@
+-- Where the chunks of a heap that passes lie: one behind the other from 0 to the end of the heap bytes, so that each knows its neighbours
+-- and two have no byte in common; start, end, top and donor among them; and the chain taken apart at one of its chunks. Assumes nothing.
+use mathlib.Core.Path.{_≡_, refl, sym, ap, _∙_}
+use mathlib.Core.Logic.{_⊎_, inl, inr}
+use mathlib.Core.Bool.{Bool, true, false, cond, _||_, false≢true}
+use mathlib.Core.List.{List, [], _∷_, _++_, append-assoc, List·Memᴰ·head, List·Memᴰ·tail, List·Memᴰ·not-nil, Memᴰ·append-right}
+use Prim.Native.Nat.{ℕ, _+_, _*_, _-_, _%_, _≤_, _<_}
+use native.Mathlib.Omega.{arith}
+use lib.ListN.{length, drop}
+use borrow.Author.Tests.{eqb-true, eq-eqb, ne-eqb}
+use Rattle.lists.specs.Lists.{Mem, headOr, lastOr, butLast, any, keep, upTo, past}
+use Rattle.lists.proofs.ListsLaws.{number-is, for-some}
+use Rattle.record.specs.declared.heap.Heap.{Heap}
+use Rattle.record.specs.declared.kinds.Kind.{Kind}
+use Rattle.record.specs.declared.kinds.Kind.the-variants.{Start, InUse, Ordinary, Donor, Top, End}
+use Rattle.region.specs.Words.{word, forward, backward, size}
+use Rattle.rules.specs.Shape.{Entry, flagsAt, shape}
+use Rattle.rules.specs.Kinds.{ordinaryKind, freeKind, liveKind, kindOf, ordinary, isFree, live, blockEnd, isAt, outside}
+use Rattle.rules.specs.Check.{Backed, Unbinned, Passes}
+use Rattle.rules.specs.Draft.{Spot, spot}
+use Rattle.rules.proofs.ShapeLaws.{Up, lastEntry, upEntry, shape-is, chain-by}
+use Rattle.rules.proofs.ChainLaws.{each-cons, same-place, shape-chain}
+use Rattle.rules.proofs.KindsLaws.{Being, being, kind-top, kind-donor}
+
+-- a list that is not empty, taken apart at its beginning and at its end
+module _ {A : Type 0} (o : A) where
+  pub begins-with : (l : List A) → (l ≡ [] → ⊥) → l ≡ headOr o l ∷ drop 1 l
+  begins-with [] n = absurd (n refl)
+  begins-with (x ∷ xs) n = refl
+
+  pub ends-with : (l : List A) → (l ≡ [] → ⊥) → l ≡ butLast l ++ lastOr o l ∷ []
+  ends-with [] n = absurd (n refl)
+  ends-with (x ∷ xs) n = go x xs
+    where
+      go : (x : A) (xs : List A) → x ∷ xs ≡ butLast (x ∷ xs) ++ lastOr x xs ∷ []
+      go x [] = refl
+      go x (y ∷ ys) = ap (λ (l : List A). x ∷ l) (go y ys)
+
+pub in-split : {A : Type 0} {l : List A} (low : List A) (e : A) (high : List A) → l ≡ low ++ e ∷ high → Mem e l
+in-split low e high s = rw s (Memᴰ·append-right low (List·Memᴰ·head refl))
+
+-- a list taken apart at the first member for which a test holds
+module _ (q : Entry → Bool) where
+  pub spot-splits : (l : List Entry) → any q l ≡ true
+      → (l ≡ spot q l .low ++ spot q l .here ∷ spot q l .high) × (q (spot q l .here) ≡ true)
+  spot-splits [] a = absurd (false≢true a)
+  spot-splits (x ∷ xs) a = go (q x) refl a (spot-splits xs)
+    where
+      go : (t : Bool) → q x ≡ t → (t || any q xs) ≡ true
+          → (any q xs ≡ true → (xs ≡ upTo q xs ++ headOr outside (keep q xs) ∷ past q xs) × (q (headOr outside (keep q xs)) ≡ true))
+          → (x ∷ xs ≡ cond t [] (x ∷ upTo q xs) ++ headOr outside (cond t (x ∷ keep q xs) (keep q xs)) ∷ cond t xs (past q xs))
+          × (q (headOr outside (cond t (x ∷ keep q xs) (keep q xs))) ≡ true)
+      go true e a f = (refl, e)
+      go false e a f = let r = f a in (ap (λ (l : List Entry). x ∷ l) (r .0), r .1)
+
+  pub spot-low : (l : List Entry) (d : Entry) → Mem d (spot q l .low) → q d ≡ false
+  spot-low [] d m = absurd (List·Memᴰ·not-nil m)
+  spot-low (x ∷ xs) d m = go (q x) refl m (spot-low xs d)
+    where
+      go : (t : Bool) → q x ≡ t → Mem d (cond t [] (x ∷ upTo q xs)) → (Mem d (upTo q xs) → q d ≡ false) → q d ≡ false
+      go true e m f = absurd (List·Memᴰ·not-nil m)
+      go false e (List·Memᴰ·head s) f = ap q s ∙ e
+      go false e (List·Memᴰ·tail k) f = f k
+
+  pub spot-member : (l : List Entry) → any q l ≡ true → Mem (spot q l .here) l
+  spot-member l a = in-split (spot q l .low) (spot q l .here) (spot q l .high) (spot-splits l a .0)
+
+  -- any way to take a list apart at its first such member is this one
+  pub spot-is : (low : List Entry) (e : Entry) (high : List Entry) → ((d : Entry) → Mem d low → q d ≡ false) → q e ≡ true
+      → spot q (low ++ e ∷ high) ≡ record { low = low; here = e; high = high }
+  spot-is [] e high none some = rw some refl
+  spot-is (x ∷ xs) e high none some =
+      let r = spot-is xs e high (λ d m. none d (List·Memᴰ·tail m)) some in
+      rw (none x (List·Memᴰ·head refl)) (ap (λ (s : Spot). record { low = x ∷ s .low; here = s .here; high = s .high }) r)
+
+-- the chunks lie one behind the other from a to b
+abbrev pub Tiled : ℕ → List Entry → ℕ → Type 0
+Tiled a [] b = a ≡ b
+Tiled a (e ∷ es) b = (e .place ≡ a) × (0 < e .size) × Tiled (blockEnd e) es b
+
+pub tiled-cut : (a b : ℕ) (xs ys : List Entry) → Tiled a (xs ++ ys) b → (m : ℕ) × Tiled a xs m × Tiled m ys b
+tiled-cut a b [] ys t = (a, refl, t)
+tiled-cut a b (x ∷ xs) ys t =
+    let r = tiled-cut (blockEnd x) b xs ys (t .2) in
+    (r .0, (t .0, t .1, r .1), r .2)
+
+pub tiled-up : (a b : ℕ) (es : List Entry) → Tiled a es b → a ≤ b
+tiled-up a b [] t = omega arith
+tiled-up a b (e ∷ es) t = let r = tiled-up (blockEnd e) b es (t .2) in omega arith
+
+-- each lies between a and b
+pub tiled-in : (a b : ℕ) {e : Entry} (es : List Entry) → Tiled a es b → Mem e es
+    → (a ≤ e .place) × (0 < e .size) × (blockEnd e ≤ b)
+tiled-in a b {e} (x ∷ es) t (List·Memᴰ·head q) =
+    let u = tiled-up (blockEnd x) b es (t .2) in
+    rw q (omega arith, t .1, u)
+tiled-in a b (x ∷ es) t (List·Memᴰ·tail m) =
+    let r = tiled-in (blockEnd x) b es (t .2) m in
+    (omega arith, r .1, r .2)
+
+pub tiled-apart : (a b : ℕ) {d e : Entry} (es : List Entry) → Tiled a es b → Mem d es → Mem e es → (d .place ≡ e .place → ⊥)
+    → (blockEnd d ≤ e .place) ⊎ (blockEnd e ≤ d .place)
+tiled-apart a b (x ∷ es) t (List·Memᴰ·head p) (List·Memᴰ·head q) n = absurd (n (ap (λ (y : Entry). y .place) (p ∙ sym q)))
+tiled-apart a b (x ∷ es) t (List·Memᴰ·head p) (List·Memᴰ·tail m) n = inl (rw p (tiled-in (blockEnd x) b es (t .2) m .0))
+tiled-apart a b (x ∷ es) t (List·Memᴰ·tail m) (List·Memᴰ·head p) n = inr (rw p (tiled-in (blockEnd x) b es (t .2) m .0))
+tiled-apart a b (x ∷ es) t (List·Memᴰ·tail m) (List·Memᴰ·tail k) n = tiled-apart (blockEnd x) b es (t .2) m k n
+
+-- where all begin at multiples of 8, as b is one, they end there too
+tiled-eights : (a b : ℕ) {e : Entry} (es : List Entry) → Tiled a es b → b % 8 ≡ 0 → ((d : Entry) → Mem d es → d .place % 8 ≡ 0)
+    → Mem e es → blockEnd e % 8 ≡ 0
+tiled-eights a b (x ∷ []) t z f (List·Memᴰ·head q) = rw q (omega arith)
+tiled-eights a b (x ∷ y ∷ es) t z f (List·Memᴰ·head q) =
+    let k = f y (List·Memᴰ·tail (List·Memᴰ·head refl)) in
+    rw q (omega arith)
+tiled-eights a b (x ∷ es) t z f (List·Memᴰ·tail m) =
+    tiled-eights (blockEnd x) b es (t .2) z (λ d k. f d (List·Memᴰ·tail k)) m
+
+tiled-empty : (a b : ℕ) (es : List Entry) → Tiled a es b → es ≡ [] → a ≡ b
+tiled-empty a b es t z = rw z at t
+
+-- the first is the only one if it reaches b
+tiled-one : (a b : ℕ) (es : List Entry) → Tiled a es b → a < b → b ≤ blockEnd (headOr outside es) → es ≡ headOr outside es ∷ []
+tiled-one a b [] t l q = absurd (omega arith)
+tiled-one a b (x ∷ []) t l q = refl
+tiled-one a b (x ∷ y ∷ es) t l q = let u = tiled-up (blockEnd y) b es (t .2 .2) in absurd (omega (arith, t .2 .0, t .2 .1))
+
+-- the least size bounds their number
+tiled-few : (a b : ℕ) (es : List Entry) → Tiled a es b → ((e : Entry) → Mem e es → 8 ≤ e .size) → a + 8 * length es ≤ b
+tiled-few a b [] t f = omega arith
+tiled-few a b (e ∷ es) t f =
+    let r = tiled-few (blockEnd e) b es (t .2) (λ d m. f d (List·Memᴰ·tail m)) in
+    let s = f e (List·Memᴰ·head refl) in
+    omega arith
+
+-- a chunk behind another names it
+backed-next : (ws : List ℕ) (q : ℕ) (low : List Entry) (e d : Entry) (high : List Entry) → Backed ws q (low ++ e ∷ d ∷ high)
+    → word ws (d .place) backward ≡ e .place + d .flags
+backed-next ws q [] e d high b = b .1 .0
+backed-next ws q (x ∷ low) e d high b = backed-next ws (x .place) low e d high (b .1)
+
+-- links forward of chunks that are not the last
+abbrev Forwards : List ℕ → ℕ → List Entry → Type 0
+Forwards ws bytes es = (e : Entry) → Mem e es → blockEnd e < bytes → word ws (e .place) forward ≡ blockEnd e
+
+abbrev Lies : List ℕ → ℕ → ℕ → List Entry → Type 0
+Lies ws bytes c es = c < bytes → Tiled c es bytes × Forwards ws bytes es
+
+chain-tiled : (ws : List ℕ) (bytes : ℕ) → 0 < bytes → Tiled 0 (shape ws bytes) bytes × Forwards ws bytes (shape ws bytes)
+chain-tiled ws bytes = rw (shape-is ws bytes) (chain-by ws bytes (Lies ws bytes) last more 0)
+  where
+    last : (c : ℕ) → (Up ws bytes c → ⊥) → Lies ws bytes c (lastEntry ws bytes c ∷ [])
+    last c n l = (
+      (refl, omega arith, omega arith),
+      each-cons (λ k. absurd (omega arith)) (λ e m. absurd (List·Memᴰ·not-nil m)),
+    )
+
+    more : (c : ℕ) (es : List Entry) → Up ws bytes c → Lies ws bytes (word ws c forward) es → Lies ws bytes c (upEntry ws bytes c ∷ es)
+    more c es u r l =
+        let s = r (u .1) in
+        let k : c + (word ws c forward - c) ≡ word ws c forward = omega (arith, u .0) in
+        ((refl, omega (arith, u .0), rw k (s .0)), each-cons (λ _. sym k) (s .1))
+
+-- what is known of the heap bytes
+pub record Bounds (ws : List ℕ) (h : Heap) : Type 0 where
+  pub eights : h .bytes % 8 ≡ 0
+  pub some : 40 ≤ h .bytes
+  pub few : h .bytes ≤ 65536
+  pub fits : h .bytes ≤ 4 * length ws
+
+-- of every chunk; the last has no link forward
+pub record Inside (ws : List ℕ) (h : Heap) (e : Entry) : Type 0 where
+  pub place : e .place % 8 ≡ 0
+  pub size : e .size % 8 ≡ 0
+  pub some : 8 ≤ e .size
+  pub ends : blockEnd e ≤ h .bytes
+  pub stands : e .flags ≡ flagsAt ws (e .place)
+  pub flags : e .flags ≤ 1
+  pub next : blockEnd e < h .bytes → word ws (e .place) forward ≡ blockEnd e
+
+-- of one that is neither start nor end
+pub record Between (h : Heap) (e : Entry) : Type 0 where
+  pub some : 24 ≤ e .size
+  pub above : 8 ≤ e .place
+  pub below : blockEnd e + 8 ≤ h .bytes
+
+-- of a free one
+pub record Free (ws : List ℕ) (h : Heap) (e : Entry) : Type 0 where
+  pub flags : e .flags ≡ 0
+  pub sized : word ws (e .place) size ≡ e .size
+  pub between : Between h e
+
+-- of an ordinary one
+pub record IsOrdinary (ws : List ℕ) (h : Heap) (e : Entry) : Type 0 where
+  pub free : Free ws h e
+  pub notTop : e .place ≡ h .top .0 → ⊥
+  pub notDonor : e .place ≡ h .donor .0 → ⊥
+
+-- the top: above it there is the end alone
+pub record IsTop (ws : List ℕ) (h : Heap) (es : List Entry) (e : Entry) : Type 0 where
+  pub member : Mem e es
+  pub place : e .place ≡ h .top .0
+  pub free : Free ws h e
+  pub out : Unbinned ws (h .top .0)
+  pub reaches : blockEnd e + 8 ≡ h .bytes
+  pub kind : kindOf h e ≡ Top
+  pub here : spot (isAt (h .top .0)) es .here ≡ e
+  pub high : spot (isAt (h .top .0)) es .high ≡ lastOr outside es ∷ []
+  pub split : es ≡ spot (isAt (h .top .0)) es .low ++ e ∷ lastOr outside es ∷ []
+
+-- the donor
+pub record IsDonor (ws : List ℕ) (h : Heap) (es : List Entry) (e : Entry) : Type 0 where
+  pub member : Mem e es
+  pub place : e .place ≡ h .donor .0
+  pub free : Free ws h e
+  pub out : Unbinned ws (h .donor .0)
+  pub below : h .donor .0 < h .top .0
+  pub kind : kindOf h e ≡ Donor
+  pub here : spot (isAt (h .donor .0)) es .here ≡ e
+  pub split : es ≡ spot (isAt (h .donor .0)) es .low ++ e ∷ spot (isAt (h .donor .0)) es .high
+
+-- start and end
+pub record Ends (h : Heap) (es : List Entry) : Type 0 where
+  pub begins : es ≡ headOr outside es ∷ drop 1 es
+  pub start : Mem (headOr outside es) es
+  pub startPlace : headOr outside es .place ≡ 0
+  pub startSize : headOr outside es .size ≡ 8
+  pub startFlags : headOr outside es .flags ≡ 1
+  pub finishes : es ≡ butLast es ++ lastOr outside es ∷ []
+  pub end : Mem (lastOr outside es) es
+  pub endPlace : lastOr outside es .place + 8 ≡ h .bytes
+  pub endSize : lastOr outside es .size ≡ 8
+  pub endFlags : lastOr outside es .flags ≡ 1
+
+-- the neighbours of a chunk e that is neither start nor end: the last below it and the first above it
+pub record Around (ws : List ℕ) (es low : List Entry) (e : Entry) (high : List Entry) : Type 0 where
+  pub lows : low ≡ butLast low ++ lastOr outside low ∷ []
+  pub highs : high ≡ headOr outside high ∷ drop 1 high
+  pub below : Mem (lastOr outside low) es
+  pub above : Mem (headOr outside high) es
+  pub belowEnd : blockEnd (lastOr outside low) ≡ e .place
+  pub abovePlace : headOr outside high .place ≡ blockEnd e
+  pub belowForward : word ws (lastOr outside low .place) forward ≡ e .place
+  pub ownForward : word ws (e .place) forward ≡ headOr outside high .place
+  pub ownBackward : word ws (e .place) backward ≡ lastOr outside low .place + e .flags
+  pub aboveBackward : word ws (headOr outside high .place) backward ≡ e .place + headOr outside high .flags
+
+-- what the record says makes a free chunk the top or the donor
+module _ (ws : List ℕ) (h : Heap) (e : Entry) (f : Free ws h e) where
+  top-kind : e .place ≡ h .top .0 → kindOf h e ≡ Top
+  top-kind q = sym (kind-top (h .bytes) (h .donor .0) (h .top .0) e (λ z. omega arith) (λ z. omega arith) (λ z. omega arith) q)
+
+  donor-kind : (e .place ≡ h .top .0 → ⊥) → e .place ≡ h .donor .0 → kindOf h e ≡ Donor
+  donor-kind n q =
+      sym (kind-donor (h .bytes) (h .donor .0) (h .top .0) e (λ z. omega arith) (λ z. omega arith) (λ z. omega arith) n q)
+
+module _ (ws : List ℕ) (h : Heap) (p : Passes ws h) where
+  abbrev pub es : List Entry
+  es = shape ws (h .bytes)
+
+  pub bounds : Bounds ws h
+  bounds =
+      let f = p .fits in
+      record { eights = omega arith; some = omega arith; few = omega arith; fits = omega arith }
+
+  lies : Tiled 0 es (h .bytes) × Forwards ws (h .bytes) es
+  lies = let b = bounds in chain-tiled ws (h .bytes) (omega arith)
+
+  pub tiled : Tiled 0 es (h .bytes)
+  tiled = lies .0
+
+  -- a place has one chunk
+  pub one-chunk : (d e : Entry) → Mem d es → Mem e es → d .place ≡ e .place → d ≡ e
+  one-chunk d e m k s = same-place 0 es (shape-chain ws (h .bytes) .rising) m k s
+
+  pub inside : (e : Entry) → Mem e es → Inside ws h e
+  inside e m =
+      let b = bounds in
+      let t = tiled-in 0 (h .bytes) es tiled m in
+      let z = p .chain .eights e m in
+      let y = tiled-eights 0 (h .bytes) es tiled (b .eights) (p .chain .eights) m in
+      let s : e .size % 8 ≡ 0 = omega arith in
+      record {
+        place = z;
+        size = s;
+        some = omega arith;
+        ends = t .2;
+        stands = shape-chain ws (h .bytes) .flags e m;
+        flags = p .chunks e m .flags;
+        next = lies .1 e m;
+      }
+
+  -- each has 8 bytes at least
+  pub few-chunks : 8 * length es ≤ h .bytes
+  few-chunks = let t = tiled-few 0 (h .bytes) es tiled (λ e m. inside e m .some) in omega arith
+
+  pub apart : (d e : Entry) → Mem d es → Mem e es → (d .place ≡ e .place → ⊥) → (blockEnd d ≤ e .place) ⊎ (blockEnd e ≤ d .place)
+  apart d e m k n = tiled-apart 0 (h .bytes) es tiled m k n
+
+  module _ (low : List Entry) (e : Entry) (high : List Entry) (split : es ≡ low ++ e ∷ high) where
+    cut : (m : ℕ) × Tiled 0 low m × Tiled m (e ∷ high) (h .bytes)
+    cut = tiled-cut 0 (h .bytes) low (e ∷ high) (rw split at tiled)
+
+    pub apart-low : (d : Entry) → Mem d low → blockEnd d ≤ e .place
+    apart-low d m =
+        let r = tiled-in 0 (cut .0) low (cut .1) m in
+        omega (arith, cut .2 .0)
+
+    pub apart-high : (d : Entry) → Mem d high → blockEnd e ≤ d .place
+    apart-high d m = tiled-in (blockEnd e) (h .bytes) high (cut .2 .2) m .0
+
+  -- a chunk, the one behind it, and the links between them
+  pub next-is : (low : List Entry) (e d : Entry) (high : List Entry) → es ≡ low ++ e ∷ d ∷ high
+      → (d .place ≡ blockEnd e) × (word ws (e .place) forward ≡ d .place) × (word ws (d .place) backward ≡ e .place + d .flags)
+  next-is low e d high s =
+      let c = cut low e (d ∷ high) s .2 .2 in
+      let u = tiled-up (blockEnd d) (h .bytes) high (c .2) in
+      let f = lies .1 e (in-split low e (d ∷ high) s) (omega arith) in
+      (c .0, f ∙ sym (c .0), backed-next ws 0 low e d high (rw s at (p .backward)))
+
+  pub ends : Ends h es
+  ends =
+      let c = shape-chain ws (h .bytes) in
+      let some : es ≡ [] → ⊥ = λ z. List·Memᴰ·not-nil (rw z at (c .has-last outside)) in
+      let l = inside _ (c .has-last outside) in
+      let r = p .chain .reachesEnd in
+      record {
+        begins = begins-with outside es some;
+        start = c .has-first;
+        startPlace = c .first;
+        startSize = p .ends .startSize;
+        startFlags = p .ends .startUsed;
+        finishes = ends-with outside es some;
+        end = c .has-last outside;
+        endPlace = r;
+        endSize = omega arith;
+        endFlags = p .ends .endUsed;
+      }
+
+  pub between : (e : Entry) → Mem e es → 0 < e .place → e .place + 8 < h .bytes → Between h e
+  between e m lo hi =
+      let i = inside e m in
+      let l = ends in
+      record {
+        some = p .chunks e m .room lo hi;
+        above = omega arith;
+        below = go (apart e (lastOr outside es) m (l .end) (λ q. omega arith));
+      }
+    where
+      go : (blockEnd e ≤ lastOr outside es .place) ⊎ (blockEnd (lastOr outside es) ≤ e .place) → blockEnd e + 8 ≤ h .bytes
+      go (inl k) = let l = ends .endPlace in omega arith
+      go (inr k) = let l = ends in absurd (omega arith)
+
+  -- two that are neither start nor end are so far apart that no header reaches into another
+  pub far : (d e : Entry) → Mem d es → Mem e es → (d .place ≡ e .place → ⊥)
+      → 0 < d .place → d .place + 8 < h .bytes → 0 < e .place → e .place + 8 < h .bytes
+      → 24 ≤ (d .place - e .place) + (e .place - d .place)
+  far d e m k n dlo dhi elo ehi = go (between d m dlo dhi) (between e k elo ehi) (apart d e m k n)
+    where
+      go : Between h d → Between h e → (blockEnd d ≤ e .place) ⊎ (blockEnd e ≤ d .place)
+          → 24 ≤ (d .place - e .place) + (e .place - d .place)
+      go x y (inl l) = omega arith
+      go x y (inr l) = omega arith
+
+  -- the chain taken apart at the chunk at a place
+  pub spot-at : (c : ℕ) (e : Entry) → Mem e es → e .place ≡ c
+      → (any (isAt c) es ≡ true) × (spot (isAt c) es .here ≡ e) × (es ≡ spot (isAt c) es .low ++ e ∷ spot (isAt c) es .high)
+  spot-at c e m q =
+      let a : any (isAt c) es ≡ true = for-some (λ x. number-is (x .place) c) es .1 (e, m, q) in
+      let s = spot-splits (isAt c) es a in
+      let i : spot (isAt c) es .here ≡ e = one-chunk _ e (spot-member (isAt c) es a) m (eqb-true _ _ (s .1) ∙ sym q) in
+      (a, i, s .0 ∙ ap (λ (x : Entry). spot (isAt c) es .low ++ x ∷ spot (isAt c) es .high) i)
+
+  pub at-place : (e : Entry) → Mem e es → any (isAt (e .place)) es ≡ true
+  at-place e m = spot-at (e .place) e m refl .0
+
+  pub here-is : (e : Entry) → Mem e es → spot (isAt (e .place)) es .here ≡ e
+  here-is e m = spot-at (e .place) e m refl .1
+
+  -- there is no other way
+  pub spot-split : (low : List Entry) (e : Entry) (high : List Entry) → es ≡ low ++ e ∷ high
+      → spot (isAt (e .place)) es ≡ record { low = low; here = e; high = high }
+  spot-split low e high s =
+      ap (spot (isAt (e .place))) s
+      ∙ spot-is (isAt (e .place)) low e high
+      (λ d m.
+      let a = apart-low low e high s d m in
+      let i = tiled-in 0 _ low (cut low e high s .1) m in
+      ne-eqb (d .place) (e .place) (λ q. omega arith))
+      (eq-eqb (e .place) (e .place) refl)
+
+  -- the chunk is not the first, which is at 0, nor the last, which reaches the end of the heap bytes
+  pub around : (low : List Entry) (e : Entry) (high : List Entry) → es ≡ low ++ e ∷ high → 0 < e .place → e .place + 8 < h .bytes
+      → Around ws es low e high
+  around low e high s lo hi =
+      let b = between e (in-split low e high s) lo hi in
+      let c = cut low e high s in
+      let ls = ends-with outside low (λ z. let k = tiled-empty 0 (c .0) low (c .1) z in omega (arith, c .2 .0)) in
+      let hs = begins-with outside high (λ z. let k = tiled-empty (blockEnd e) (h .bytes) high (c .2 .2) z in omega arith) in
+      let es-low : es ≡ butLast low ++ lastOr outside low ∷ e ∷ high =
+      s ∙ ap (λ (l : List Entry). l ++ e ∷ high) ls ∙ append-assoc (butLast low) (lastOr outside low ∷ []) (e ∷ high) in
+      let es-high : es ≡ low ++ e ∷ headOr outside high ∷ drop 1 high = s ∙ ap (λ (l : List Entry). low ++ e ∷ l) hs in
+      let down = next-is (butLast low) (lastOr outside low) e high es-low in
+      let up = next-is low e (headOr outside high) (drop 1 high) es-high in
+      record {
+        lows = ls;
+        highs = hs;
+        below = in-split (butLast low) _ (e ∷ high) es-low;
+        above = in-split (low ++ e ∷ []) _ (drop 1 high) (es-high ∙ sym (append-assoc low (e ∷ []) _));
+        belowEnd = sym (down .0);
+        abovePlace = up .0;
+        belowForward = down .1;
+        ownForward = up .1;
+        ownBackward = down .2;
+        aboveBackward = up .2;
+      }
+
+  -- a free chunk is neither start nor end, since those are in use
+  pub free-between : (e : Entry) → Mem e es → e .flags ≡ 0 → Between h e
+  free-between e m f =
+      let l = ends in
+      let i = inside e m in
+      let not-start : e .place ≡ 0 → ⊥ =
+      λ q. let s = ap (λ (x : Entry). x .flags) (one-chunk e (headOr outside es) m (l .start) (q ∙ sym (l .startPlace))) in omega arith in
+      let not-end : e .place + 8 ≡ h .bytes → ⊥ =
+      λ q. let s = ap (λ (x : Entry). x .flags) (one-chunk e (lastOr outside es) m (l .end) (omega arith)) in omega arith in
+      between e m (omega arith) (omega arith)
+
+  -- free by its flags, and by its kind
+  pub flags-free : (e : Entry) → Mem e es → e .flags ≡ 0 → Free ws h e
+  flags-free e m f = record { flags = f; sized = p .chunks e m .sized f; between = free-between e m f }
+
+  pub kind-free : (e : Entry) → Mem e es → isFree h e ≡ true → Free ws h e
+  kind-free e m f =
+      let z = even (kindOf h e) (being (h .bytes) (h .donor .0) (h .top .0) e) f in
+      let i = inside e m in
+      flags-free e m (omega arith)
+    where
+      even : (k : Kind) → Being (h .bytes) (h .donor .0) (h .top .0) e k → freeKind k ≡ true → e .flags % 2 ≡ 0
+      even Ordinary b t = b .2
+      even Donor b t = b .2
+      even Top b t = b .2
+      even Start b t = absurd (false≢true t)
+      even InUse b t = absurd (false≢true t)
+      even End b t = absurd (false≢true t)
+
+  -- the chunk of a live block
+  pub live-between : (e : Entry) → Mem e es → live h e ≡ true → (e .flags ≡ 1) × Between h e
+  live-between e m f = go (kindOf h e) (being (h .bytes) (h .donor .0) (h .top .0) e) f
+    where
+      go : (k : Kind) → Being (h .bytes) (h .donor .0) (h .top .0) e k → liveKind k ≡ true → (e .flags ≡ 1) × Between h e
+      go InUse b t =
+          let i = inside e m in
+          let z = b .2 in
+          (omega arith, between e m (b .0) (omega (arith, b .1)))
+      go Ordinary b t = absurd (false≢true t)
+      go Donor b t = absurd (false≢true t)
+      go Top b t = absurd (false≢true t)
+      go Start b t = absurd (false≢true t)
+      go End b t = absurd (false≢true t)
+
+  pub is-ordinary : (e : Entry) → Mem e es → ordinary h e ≡ true → IsOrdinary ws h e
+  is-ordinary e m o =
+      let f = kind-free e m (free (kindOf h e) o) in
+      let not-top : e .place ≡ h .top .0 → ⊥ = λ q. false≢true (ap ordinaryKind (sym (top-kind ws h e f q)) ∙ o) in
+      record {
+        free = f;
+        notTop = not-top;
+        notDonor = λ q. false≢true (ap ordinaryKind (sym (donor-kind ws h e f not-top q)) ∙ o);
+      }
+    where
+      free : (k : Kind) → ordinaryKind k ≡ true → freeKind k ≡ true
+      free Ordinary t = refl
+      free Donor t = refl
+      free Top t = refl
+      free Start t = t
+      free InUse t = t
+      free End t = t
+
+  the-top : IsTop ws h es (p .top .0)
+  the-top =
+      let t : Entry = p .top .0 in
+      let m = p .top .1 in
+      let r = p .top .2 .0 in
+      let reaches : blockEnd t + 8 ≡ h .bytes = p .top .2 .1 in
+      let f = flags-free t m (r .free) in
+      let s = spot-at (h .top .0) t m (r .here) in
+      let a : Spot = spot (isAt (h .top .0)) es in
+      let high = only-end (a .low) t (a .high) (s .2) reaches (around (a .low) t (a .high) (s .2) (omega arith) (omega arith)) in
+      record {
+        member = m;
+        place = r .here;
+        free = f;
+        out = r .out;
+        reaches = reaches;
+        kind = top-kind ws h t f (r .here);
+        here = s .1;
+        high = high;
+        split = s .2 ∙ ap (λ (l : List Entry). a .low ++ t ∷ l) high;
+      }
+    where
+      only-end : (low : List Entry) (e : Entry) (high : List Entry) → es ≡ low ++ e ∷ high → blockEnd e + 8 ≡ h .bytes
+          → Around ws es low e high → high ≡ lastOr outside es ∷ []
+      only-end low e high s r a =
+          let l = ends in
+          let i = inside _ (a .above) in
+          tiled-one (blockEnd e) (h .bytes) high (cut low e high s .2 .2) (omega arith) (omega arith)
+          ∙ ap (λ (d : Entry). d ∷ []) (one-chunk _ _ (a .above) (l .end) (omega arith))
+
+  pub is-top : (e : Entry) → Mem e es → e .place ≡ h .top .0 → IsTop ws h es e
+  is-top e m q = rw (one-chunk e (p .top .0) m (the-top .member) (q ∙ sym (the-top .place))) the-top
+
+  pub top-here : IsTop ws h es (spot (isAt (h .top .0)) es .here)
+  top-here = rw (the-top .here) the-top
+
+  the-donor : (l : 0 < h .donor .0) → IsDonor ws h es (p .donor l .0)
+  the-donor l =
+      let t : Entry = p .donor l .0 in
+      let m = p .donor l .1 in
+      let r = p .donor l .2 .0 in
+      let below : h .donor .0 < h .top .0 = p .donor l .2 .1 in
+      let f = flags-free t m (r .free) in
+      let s = spot-at (h .donor .0) t m (r .here) in
+      record {
+        member = m;
+        place = r .here;
+        free = f;
+        out = r .out;
+        below = below;
+        kind = donor-kind ws h t f (λ q. omega arith) (r .here);
+        here = s .1;
+        split = s .2;
+      }
+
+  pub is-donor : (e : Entry) → Mem e es → 0 < h .donor .0 → e .place ≡ h .donor .0 → IsDonor ws h es e
+  is-donor e m l q =
+      let d = the-donor l in rw (one-chunk e (p .donor l .0) m (d .member) (q ∙ sym (d .place))) d
+
+  pub donor-here : 0 < h .donor .0 → IsDonor ws h es (spot (isAt (h .donor .0)) es .here)
+  donor-here l = rw (the-donor l .here) (the-donor l)

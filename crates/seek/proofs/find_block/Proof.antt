@@ -1,0 +1,35 @@
+-- `seek::find_block` seeks the chunk eight bytes below and asks whether it has a live block. Assumes nothing.
+use borrow.Author.Needs.{needs}
+use Rattle.seek.proofs.SeekLaws.{block-nowhere, block-dead, block-found}
+use Rattle.seek.proofs.find_block.Statement.{statement}
+use Rattle.seek.proofs.find_block.Tie as tie
+
+returns : tie.Need-returns
+returns c =
+    block-nowhere _ _ _ _ _ (c .before .before .before .chunk-of .ensures) (c .before .before .find-chunk .ensures)
+    (c .enum-told .given .1)
+
+returns-2 : tie.Need-returns-2
+returns-2 c =
+    block-dead _ _ _ _ _ (c .before .before .before .before .before .before .chunk-of .ensures)
+    (c .before .before .before .before .before .find-chunk .ensures) _ (c .before .before .before .sought .given .1) _
+    (c .before .is-live .ensures) (c .if1 .taken)
+
+returns-3 : tie.Need-returns-3
+returns-3 c =
+    block-found _ _ _ _ _ (c .before .before .before .before .before .before .chunk-of .ensures)
+    (c .before .before .before .before .before .find-chunk .ensures) _ (c .before .before .before .sought .given .1) _
+    (c .before .is-live .ensures) (c .if1 .left)
+
+pub find-block-spec : {M : Type 1} → statement M
+find-block-spec =
+    tie.close
+    (tie.spec
+    (λ c κs. search needs)
+    (λ c κs. search needs)
+    (λ c. search needs)
+    (λ c. search needs)
+    returns
+    (λ c κs. search needs)
+    returns-2
+    returns-3)

@@ -1,0 +1,29 @@
+-- What a walk of the chain finds: the first chunk that meets a test, with the place of the one below it.
+-- It mirrors the code; that it is the spot of the rules (`spot`) is proved.
+use mathlib.Core.Bool.{Bool, false, not, cond, _&&_}
+use mathlib.Core.List.{List, [], _∷_}
+use Prim.Native.Nat.{ℕ, _+_, _%_}
+use lib.Dec.{eqb}
+use Rattle.record.specs.Heap.{at}
+use Rattle.rules.specs.Kinds.{blockOf, blockEnd}
+use Rattle.rules.specs.Shape.{Entry}
+use Rattle.seek.specs.declared.Place.{Place}
+use Rattle.seek.specs.declared.Sought.{Sought}
+use Rattle.seek.specs.declared.Sought.the-variants.{Found, Nowhere}
+
+-- the chunk e, above one at p
+abbrev pub placed : ℕ → Entry → Place
+placed p e = record { before = at p; chunk = at (e .place); end = blockEnd e; flags = e .flags }
+
+-- the first of es that meets the test, where the chunk below es is at p
+unfoldable pub soughtIn : (Entry → Bool) → ℕ → List Entry → Sought
+soughtIn q p [] = Nowhere
+soughtIn q p (e ∷ es) = cond (q e) (Found (placed p e)) (soughtIn q (e .place) es)
+
+-- a chunk with these flags at c has a live block
+unfoldable pub liveAt : ℕ → ℕ → ℕ → Bool
+liveAt bytes c flags = not (eqb c 0) && not (eqb (c + 8) bytes) && eqb (flags % 2) 1
+
+-- the chunk e has a live block, and it is at b
+unfoldable pub hasBlock : ℕ → ℕ → Entry → Bool
+hasBlock bytes b e = cond (liveAt bytes (e .place) (e .flags)) (eqb (blockOf e) b) false
