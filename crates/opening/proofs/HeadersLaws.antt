@@ -5,7 +5,8 @@ use native.Mathlib.Decide.{ℕ-discrete}
 use native.Mathlib.Omega.{arith}
 use borrow.Author.Tests.{eq-eqb, ne-eqb}
 use Rattle.rules.specs.Setup.{firstHeaders}
-use Rattle.opening.specs.Opening.{startWords, endWords, freeWords, withoutDonor, withDonor, firstWords}
+use Rattle.headers.specs.Headers.{freeWords}
+use Rattle.opening.specs.Opening.{startWords, endWords, withoutDonor, withDonor, firstWords}
 use Rattle.opening.proofs.PrefixLaws.{Below}
 
 module _ (bytes donor : ℕ) (room : donor + 40 ≤ bytes) (few : bytes ≤ 65536) where

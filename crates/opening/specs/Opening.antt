@@ -2,7 +2,7 @@
 -- Nobody needs to believe them: `proofs/` shows that where a setup is accepted they are what the rule says.
 use mathlib.Core.Bool.{Bool, cond}
 use mathlib.Core.List.{List, [], _∷_, _++_}
-use Prim.Native.Nat.{ℕ, _+_, _-_, _%_, _^_, min}
+use Prim.Native.Nat.{ℕ, _+_, _%_, _^_, min}
 use lib.Dec.{eqb}
 use lib.ListN.{length, take, drop}
 use Rattle.record.specs.declared.answers.Answer.the-variants.{Refused}
@@ -10,7 +10,8 @@ use Rattle.record.specs.declared.answers.Refusal.{Refusal}
 use Rattle.record.specs.declared.answers.Reply.{Reply}
 use Rattle.record.specs.declared.heap.Heap.{Heap}
 use Rattle.record.specs.Heap.{places, at, zeros, empty}
-use Rattle.region.specs.Words.{Store, put, forward, backward, size}
+use Rattle.headers.specs.Headers.{freeWords}
+use Rattle.region.specs.Words.{Store, put, forward, backward}
 use Rattle.rules.specs.Draft.{noBinWords}
 
 abbrev pub refusal : Refusal → Reply
@@ -42,10 +43,6 @@ startWords = put 0 forward 8 ∷ put 0 backward 1 ∷ []
 
 unfoldable pub endWords : ℕ → ℕ → List Store
 endWords top end = put end forward 0 ∷ put end backward ((top + 1) % 2 ^ 32) ∷ []
-
--- the links and the size of a free chunk at c, between the chunks at `before` and at `next`
-unfoldable pub freeWords : ℕ → ℕ → ℕ → List Store
-freeWords before c next = put c forward next ∷ put c backward before ∷ put c size (next - c) ∷ []
 
 unfoldable pub withoutDonor : ℕ → ℕ → List Store
 withoutDonor top end = startWords ++ freeWords 0 top end ++ noBinWords top ++ endWords top end

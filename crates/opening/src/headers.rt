@@ -1,17 +1,13 @@
 // The headers of a fresh heap: start, donor if there is one, top and end. Every store falls into the region or is dropped.
 // Whether the sizes fit the region is asked before.
 ghost use mathlib.Core.Path.{_≡_};
-ghost use Prim.Native.Nat.{_-_};
 ghost use Rattle.region.specs.Words.{written};
-ghost use Rattle.rules.specs.Draft.{noBinWords};
-ghost use Rattle.opening.specs.Opening.{startWords, endWords, freeWords, withoutDonor, withDonor, firstWords};
+ghost use Rattle.opening.specs.Opening.{startWords, endWords, withoutDonor, withDonor, firstWords};
+use headers::write_free;
+use headers::write_no_bin;
 use region::BACKWARD;
-use region::BIN;
 use region::Chunk;
 use region::FORWARD;
-use region::NEXT_IN_BIN;
-use region::PREVIOUS_IN_BIN;
-use region::SIZE;
 use region::store;
 
 // The ends are in use for ever, so that nothing ever joins them: their flag is 1.
@@ -28,31 +24,6 @@ fn write_end(region: &mut [u32], top: Chunk, end: Chunk)
 {
     store(region, end, FORWARD, 0);
     store(region, end, BACKWARD, std::num::wrapping_add_u32(top.0, 1));
-}
-
-// Of places in the wrong order, which no accepted setup has, the distance is 0.
-fn distance(from: u32, to: u32) -> u32
-    ensures { λ r. ⌜ r ≡ to - from ⌝ }
-{
-    if from <= to { to - from } else { 0 }
-}
-
-// The first three words of a free chunk, which reaches up to the next one.
-fn write_free(region: &mut [u32], before: Chunk, chunk: Chunk, next: Chunk)
-    ensures { λ _. ⌜ now (region .exit) ≡ written (now (region .entry)) (freeWords (before .0) (chunk .0) (next .0)) ⌝ }
-{
-    store(region, chunk, FORWARD, next.0);
-    store(region, chunk, BACKWARD, before.0);
-    store(region, chunk, SIZE, distance(chunk.0, next.0));
-}
-
-// Donor and top are in no bin.
-fn write_no_bin(region: &mut [u32], chunk: Chunk)
-    ensures { λ _. ⌜ now (region .exit) ≡ written (now (region .entry)) (noBinWords (chunk .0)) ⌝ }
-{
-    store(region, chunk, NEXT_IN_BIN, 0);
-    store(region, chunk, PREVIOUS_IN_BIN, 0);
-    store(region, chunk, BIN, 0);
 }
 
 // Here the top starts above the start chunk.

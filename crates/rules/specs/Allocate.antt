@@ -5,10 +5,11 @@ use Prim.Native.Nat.{ℕ, _*_}
 use Rattle.lists.specs.Lists.{numbersFrom}
 use Rattle.record.specs.declared.answers.Refusal.the-variants.{BlockSize, NoRoom, NoBinTakes}
 use Rattle.record.specs.declared.heap.Heap.{Heap}
+use Rattle.record.specs.declared.sources.Source.{Source}
 use Rattle.region.specs.Words.{Store, put}
 use Rattle.rules.specs.Shape.{Entry}
 use Rattle.rules.specs.Kinds.{overhead, blockOf, blockWords}
-use Rattle.rules.specs.Serve.{need, permitted, chosen, nowhere, Source}
+use Rattle.rules.specs.Serve.{need, permitted, chosen, nowhere}
 use Rattle.rules.specs.Draft.{Draft, asRead, alsoWrites}
 use Rattle.rules.specs.Cut.{Grant, grantFrom}
 use Rattle.rules.specs.Outcome.{Outcome, judged, heapFails, made, grants}

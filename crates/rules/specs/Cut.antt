@@ -4,12 +4,13 @@ use mathlib.Core.List.{List, [], _∷_}
 use Prim.Native.Nat.{ℕ, _+_, _-_}
 use lib.Dec.{eqb, leb}
 use Rattle.lists.specs.Lists.{keep}
+use Rattle.record.specs.declared.sources.Source.{Source}
+use Rattle.record.specs.declared.sources.Source.the-variants.{FromBin, FromDonor, FromTop, Nowhere}
 use Rattle.record.specs.Table.{least}
 use Rattle.record.specs.declared.kinds.Kind.{Kind}
 use Rattle.record.specs.declared.kinds.Kind.the-variants.{Start, InUse, Ordinary, Donor, Top, End}
 use Rattle.rules.specs.Shape.{Entry, entry}
 use Rattle.rules.specs.Kinds.{unused, used, isAt, outside}
-use Rattle.rules.specs.Serve.{Source, FromBin, FromDonor, FromTop, Nowhere}
 use Rattle.rules.specs.Draft.{Draft, Spot, spot, leaveBin, relink, settle, nowUses}
 
 -- the parts of a cut chunk: what stays below the granted part, the granted part, what stays above it
@@ -58,7 +59,7 @@ grantAt kind s n d =
 
 -- n bytes from the source that was chosen
 unfoldable pub grantFrom : Source → ℕ → Draft → Grant
-grantFrom (FromBin c) n d = grantAt Ordinary (spot (isAt c) (d .chain)) n d
+grantFrom (FromBin c) n d = grantAt Ordinary (spot (isAt (c .0)) (d .chain)) n d
 grantFrom FromDonor n d = grantAt Donor (spot (isAt (d .heap .donor .0)) (d .chain)) n d
 grantFrom FromTop n d = grantAt Top (spot (isAt (d .heap .top .0)) (d .chain)) n d
 grantFrom Nowhere n d = record { granted = outside; draft = d }

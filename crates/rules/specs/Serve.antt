@@ -5,9 +5,11 @@ use Prim.Native.Nat.{ℕ, suc, _+_, _*_, _-_, _/_, max}
 use lib.Dec.{eqb, leb}
 use Rattle.lists.specs.Lists.{headOr, keep, numbersFrom, gathered}
 use Rattle.record.specs.declared.heap.Heap.{Heap}
+use Rattle.record.specs.declared.sources.Source.{Source}
+use Rattle.record.specs.declared.sources.Source.the-variants.{FromBin, FromDonor, FromTop, Nowhere}
 use Rattle.record.specs.declared.table.Binned.{Binned}
 use Rattle.record.specs.declared.table.Binned.the-variants.{Bin, NoBin}
-use Rattle.record.specs.Heap.{tableOf}
+use Rattle.record.specs.Heap.{at, tableOf}
 use Rattle.record.specs.Table.{least, small, binOf}
 use Rattle.rules.specs.Shape.{Entry}
 use Rattle.rules.specs.Kinds.{inUse, isAt, outside}
@@ -35,14 +37,9 @@ serves table donor top n e =
     (cond (eqb (e .place) donor) (leb (n + least) (e .size) && small table n)
     (leb n (e .size)))
 
--- from where a need is met
-pub data Source : Type 0 where
-  FromBin : ℕ → Source
-  FromDonor FromTop Nowhere : Source
-
 -- the chunk at the place c of a bin's list; there is none at 0
 abbrev pub fromBin : ℕ → Source
-fromBin c = cond (eqb c 0) Nowhere (FromBin c)
+fromBin c = cond (eqb c 0) Nowhere (FromBin (at c))
 
 abbrev pub sizeOn : List Entry → ℕ → ℕ
 sizeOn es c = headOr outside (keep (isAt c) es) .size

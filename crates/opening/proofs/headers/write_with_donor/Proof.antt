@@ -1,6 +1,7 @@
 -- `headers::write_with_donor` writes start, donor, top and end, call by call. Assumes nothing.
 use borrow.Author.Needs.{needs}
-use Rattle.opening.specs.Opening.{withDonor, startWords, freeWords, endWords}
+use Rattle.headers.specs.Headers.{freeWords}
+use Rattle.opening.specs.Opening.{withDonor, startWords, endWords}
 use Rattle.opening.proofs.headers.write_with_donor.Statement.{statement}
 use Rattle.opening.proofs.headers.write_with_donor.Tie as tie
 

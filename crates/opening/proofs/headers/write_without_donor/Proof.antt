@@ -1,6 +1,7 @@
 -- `headers::write_without_donor` writes start, top and end, call by call. Assumes nothing.
 use borrow.Author.Needs.{needs}
-use Rattle.opening.specs.Opening.{withoutDonor, startWords, freeWords, endWords}
+use Rattle.headers.specs.Headers.{freeWords}
+use Rattle.opening.specs.Opening.{withoutDonor, startWords, endWords}
 use Rattle.opening.proofs.headers.write_without_donor.Statement.{statement}
 use Rattle.opening.proofs.headers.write_without_donor.Tie as tie
 

@@ -1,7 +1,7 @@
 -- `headers::write_no_bin` clears a chunk's bin words. Assumes nothing.
 use borrow.Author.Needs.{needs}
-use Rattle.opening.proofs.headers.write_no_bin.Statement.{statement}
-use Rattle.opening.proofs.headers.write_no_bin.Tie as tie
+use Rattle.headers.proofs.write_no_bin.Statement.{statement}
+use Rattle.headers.proofs.write_no_bin.Tie as tie
 
 returns : tie.Need-returns
 returns c =

@@ -1,8 +1,8 @@
 -- `headers::write_free` stores a free chunk's links and size. Assumes nothing.
 use borrow.Author.Needs.{needs}
-use Rattle.opening.specs.Opening.{freeWords}
-use Rattle.opening.proofs.headers.write_free.Statement.{statement}
-use Rattle.opening.proofs.headers.write_free.Tie as tie
+use Rattle.headers.specs.Headers.{freeWords}
+use Rattle.headers.proofs.write_free.Statement.{statement}
+use Rattle.headers.proofs.write_free.Tie as tie
 
 returns : tie.Need-returns
 unfolding freeWords
