@@ -1,0 +1,73 @@
+// The four tries, in turn: the bin of the need, the donor, a larger bin, the top. Nothing is written here.
+ghost use mathlib.Core.Path.{_≡_};
+ghost use Rattle.grant.specs.Choose.{chooseM, donorM, largerM, ownM, topM};
+use bins::end_of;
+use bins::first_fit;
+use bins::next_occupied;
+use record::sources::Source;
+use record::table::Binned;
+use record::table::bin_of;
+use record::table::is_small;
+use region::Chunk;
+use region::SIZE;
+use region::word;
+
+// The first chunk of the bin, in list order, that is large enough; Chunk(0) if there is none.
+pub fn own_bin(region: &[u32], heads: &[u32], binned: Binned, need: u32) -> Chunk
+    ensures { λ r. ⌜ r .0 ≡ ownM (now (region .entry)) (now (heads .entry)) need binned ⌝ }
+{
+    match binned {
+        Binned::Bin(bin) => first_fit(region, Chunk(end_of(heads, bin)), need),
+        Binned::NoBin => Chunk(0),
+    }
+}
+
+// Every chunk of a larger bin is large enough: the first one of the next that has any.
+pub fn larger_bin(heads: &[u32], bins: usize, binned: Binned) -> Chunk
+    ensures { λ r. ⌜ r .0 ≡ largerM (now (heads .entry)) bins binned ⌝ }
+{
+    match binned {
+        Binned::Bin(bin) => next_occupied(heads, bin, bins),
+        Binned::NoBin => Chunk(0),
+    }
+}
+
+// 24 bytes stay behind, so that the donor is never used up.
+pub fn donor_serves(region: &[u32], table: &[u32], donor: Chunk, need: u32) -> bool
+    ensures { λ r. ⌜ r ≡ donorM (now (region .entry)) (now (table .entry)) (donor .0) need ⌝ }
+{
+    if !is_small(table, need) {
+        return false;
+    }
+    if donor.0 == 0 {
+        return false;
+    }
+    need as u64 + 24 <= word(region, donor, SIZE) as u64
+}
+
+pub fn top_serves(region: &[u32], top: Chunk, need: u32) -> bool
+    ensures { λ r. ⌜ r ≡ topM (now (region .entry)) (top .0) need ⌝ }
+{
+    need as u64 + 24 <= word(region, top, SIZE) as u64
+}
+
+pub fn choose(region: &[u32], table: &[u32], heads: &[u32], donor: Chunk, top: Chunk, need: u32) -> Source
+    ensures { λ r. ⌜ r ≡ chooseM (now (region .entry)) (now (table .entry)) (now (heads .entry)) (donor .0) (top .0) need ⌝ }
+{
+    let binned = bin_of(table, need);
+    let own = own_bin(region, heads, binned, need);
+    if own.0 != 0 {
+        return Source::FromBin(own);
+    }
+    if donor_serves(region, table, donor, need) {
+        return Source::FromDonor;
+    }
+    let larger = larger_bin(heads, table.len(), binned);
+    if larger.0 != 0 {
+        return Source::FromBin(larger);
+    }
+    if top_serves(region, top, need) {
+        return Source::FromTop;
+    }
+    Source::Nowhere
+}
