@@ -16,7 +16,9 @@ use Rattle.lists.proofs.ListsLaws.{Decides, number-is, at-most, itself, both, o
 use Rattle.lists.proofs.MembersLaws.{kept-from, kept-has, kept-few}
 use Rattle.marks.specs.Marks.{marked, flipped}
 use Rattle.marks.proofs.MarksLaws.{length-flipped}
+use Rattle.record.specs.declared.answers.Answer.the-variants.{Counted, Refused}
 use Rattle.record.specs.declared.answers.Counts.{Counts}
+use Rattle.record.specs.declared.answers.Refusal.the-variants.{HeapFails}
 use Rattle.record.specs.declared.heap.Heap.{Heap}
 use Rattle.record.specs.declared.kinds.Kind.{Kind}
 use Rattle.record.specs.declared.kinds.Kind.the-variants.{Start, InUse, Ordinary, Donor, Top, End}
@@ -27,6 +29,7 @@ use Rattle.record.proofs.TableLaws.{valid-iff}
 use Rattle.region.specs.Words.{word, size, bin}
 use Rattle.rules.specs.Check.{Tabled, Sound, Listed, InItsBin, BelongsTo, unusedFrom, usedBytes, countsOf, passes, Passes, Fits}
 use Rattle.rules.specs.Kinds.{ordinary, ordinaryKind, kindAt, kindOf, inUse}
+use Rattle.rules.specs.Merge.{checked}
 use Rattle.rules.specs.Shape.{Entry, shape, shapeFrom, binList, members, membersFrom}
 use Rattle.rules.proofs.CheckLaws.{passes-iff}
 use Rattle.rules.proofs.EvenLaws.{evenPart, even-passes, even-fits, even-agrees, same-shape}
@@ -397,3 +400,15 @@ lent-sizes bins sizes heads tails e =
         (itself (unusedFrom bins heads)))
       (itself (unusedFrom bins tails))
       .0 e .0 .0 .0 .0
+
+-- the answer of the check, by what was found
+module _ (ws : List ℕ) (h : Heap) (r : Audit) (k : AuditIs ws h r) where
+  pub answer-fails : r ≡ found.Fails → Refused HeapFails ≡ checked ws h
+  unfolding AuditIs checked
+  answer-fails e = rw (subst (λ (q : Audit). AuditIs ws h q) e k)
+
+  pub answer-counts : (c : Counts) → r ≡ found.Passes c → Counted c ≡ checked ws h
+  unfolding AuditIs checked
+  answer-counts c e =
+      let j : (passes ws h ≡ true) × (c ≡ countsOf h (shape ws (h .bytes))) = subst (λ (q : Audit). AuditIs ws h q) e k in
+      rw (j .0) (ap Counted (j .1))

@@ -3,12 +3,15 @@
 ghost use mathlib.Core.Path.{_≡_};
 ghost use Rattle.audit.specs.Audit.{fitsLength, settled, tabledAs, WalkedIs, AuditIs};
 ghost use Rattle.rules.specs.Check.{unusedFrom};
+ghost use Rattle.rules.specs.Merge.{checked};
 use crate::survey::Survey;
 use crate::survey::Tally;
 use crate::survey::walk;
 use crate::sweep::Sweep;
 use crate::sweep::sweep_bins;
+use record::answers::Answer;
 use record::answers::Counts;
+use record::answers::Refusal;
 use record::heap::Heap;
 use record::table::valid;
 use region::Chunk;
@@ -140,4 +143,15 @@ pub fn check(region: &[u32], h: Heap) -> Audit
     }
     let even = (bytes / 4) as usize;
     walk_all(&region[..even], &sizes[..bins], &heads, &tails, bytes, h.donor, h.top, h.used)
+}
+
+// The check as a call answers it: the four counts, or the refusal.
+pub fn verdict(region: &[u32], h: Heap) -> Answer
+    ensures { λ r. ⌜ r ≡ checked (now (region .entry)) h ⌝ }
+{
+    let found = check(region, h);
+    match found {
+        Audit::Passes(counts) => Answer::Counted(counts),
+        Audit::Fails => Answer::Refused(Refusal::HeapFails),
+    }
 }

@@ -3,3 +3,4 @@ pub mod RunsLaws
 pub mod BooksLaws
 pub mod SearchLaws
 pub mod HeapBooks
+pub mod WayLaws

@@ -3,7 +3,7 @@
 use mathlib.Core.Bool.{true, false, cond}
 use mathlib.Core.List.{List}
 use Prim.Native.Nat.{ℕ, zero, suc, _*_, _-_, _/_, _%_}
-use lib.Dec.{eqb, leb}
+use lib.Dec.{eqb, leb, ltb}
 use lib.ListN.{getD, set}
 use Rattle.region.specs.Words.{word, store, size, nextInBin, previousInBin, bin}
 
@@ -44,6 +44,10 @@ putM b i before c after =
     let own : List ℕ = store (store (front .words) c previousInBin before) c nextInBin after in
     let back : Side = linkM (side own (b .tails)) i after previousInBin c in
     books (store (back .words) c bin (i % 32 * 8)) (front .ends) (back .ends)
+
+-- at the head of a bin of the small array, at the tail of any other
+unfoldable pub putIntoM : Books → ℕ → ℕ → ℕ → Books
+putIntoM b small i c = cond (ltb i small) (putM b i 0 c (getD (b .heads) i 0)) (putM b i (getD (b .tails) i 0) c 0)
 
 unfoldable pub firstFitM : ℕ → List ℕ → ℕ → ℕ → ℕ
 firstFitM zero ws need c = 0

@@ -3,7 +3,7 @@
 ghost use mathlib.Core.Path.{_≡_};
 ghost use Prim.Native.Nat.{_*_, _%_};
 ghost use lib.ListN.{getD, set};
-ghost use Rattle.bins.specs.Books.{books, side, linkM, leaveM, putM, firstFitM, nextOccupiedM};
+ghost use Rattle.bins.specs.Books.{books, side, linkM, leaveM, putM, firstFitM, nextOccupiedM, putIntoM};
 use region::BIN;
 use region::Chunk;
 use region::NEXT_IN_BIN;
@@ -90,6 +90,17 @@ pub fn put_tail(region: &mut [u32], heads: &mut [u32], tails: &mut [u32], bin: u
 {
     let last = end_of(tails, bin);
     put_between(region, heads, tails, bin, last, chunk, 0);
+}
+
+// Where a chunk is put: at the head of a bin of the small array, whose chunks are all of one size, at the tail of any other.
+pub fn put(region: &mut [u32], heads: &mut [u32], tails: &mut [u32], small: usize, bin: usize, chunk: Chunk)
+    ensures { λ _. ⌜ books (now (region .exit)) (now (heads .exit)) (now (tails .exit)) ≡ putIntoM (books (now (region .entry)) (now (heads .entry)) (now (tails .entry))) small bin (chunk .0) ⌝ }
+{
+    if bin < small {
+        put_head(region, heads, tails, bin, chunk);
+        return;
+    }
+    put_tail(region, heads, tails, bin, chunk);
 }
 
 // More steps than the largest region has chunks: damaged links might go round for ever.

@@ -16,14 +16,14 @@ use Rattle.rules.specs.Setup.{setup}
 use Rattle.rules.specs.Allocate.{allocate, allocateCleared}
 use Rattle.rules.specs.Free.{freeBlock, free}
 use Rattle.rules.specs.Reallocate.{resized, resize, reallocate}
-use Rattle.rules.specs.Merge.{setMerge, check}
+use Rattle.rules.specs.Merge.{setMerge, checked, check}
 use Rattle.rules.specs.Ask.{askChunk, askBin}
 use Rattle.rules.specs.Calls.{step, next}
 use Rattle.rules.specs.Cases.{cases, caseHolds}
 
 -- opens all that a call's outcome is computed by: `unfolding computes`
 unfoldable pub computes : ℕ
-unfolding word store validTable shape members inUse kindAt passesAs passes chosen asRead leave putBetween putInto leaveBin putInBin settle relink cut grantAt grantFrom joining release setup allocate allocateCleared freeBlock free resized resize reallocate setMerge check askChunk askBin step next
+unfolding word store validTable shape members inUse kindAt passesAs passes chosen asRead leave putBetween putInto leaveBin putInBin settle relink cut grantAt grantFrom joining release setup allocate allocateCleared freeBlock free resized resize reallocate setMerge checked check askChunk askBin step next
 computes = 0
 
 pub marked-cases : every caseHolds cases ≡ true

@@ -1,19 +1,24 @@
 -- The merge setting and the check as calls (document 01, "The calls", "The check"); refusal 4.
-use mathlib.Core.Bool.{Bool}
+use mathlib.Core.Bool.{Bool, cond}
 use mathlib.Core.List.{List, [], _∷_}
 use Prim.Native.Nat.{ℕ}
-use Rattle.record.specs.declared.answers.Answer.the-variants.{Done, Counted}
+use Rattle.record.specs.declared.answers.Answer.{Answer}
+use Rattle.record.specs.declared.answers.Answer.the-variants.{Done, Counted, Refused}
+use Rattle.record.specs.declared.answers.Refusal.the-variants.{HeapFails}
 use Rattle.record.specs.declared.heap.Heap.{Heap}
 use Rattle.record.specs.Heap.{withMerge}
 use Rattle.rules.specs.Shape.{shape}
-use Rattle.rules.specs.Check.{countsOf}
+use Rattle.rules.specs.Check.{passes, countsOf}
 use Rattle.rules.specs.Outcome.{Outcome, judged, heapFails, unchanged}
 
 -- on or off, and no other field
 unfoldable pub setMerge : List ℕ → Heap → Bool → Outcome
 setMerge ws h on = judged h (heapFails ws h ∷ []) (unchanged (withMerge h on) Done)
 
--- the four counts, and nothing changed
+-- the four counts, or refusal 4
+unfoldable pub checked : List ℕ → Heap → Answer
+checked ws h = cond (passes ws h) (Counted (countsOf h (shape ws (h .bytes)))) (Refused HeapFails)
+
+-- as a call: nothing is changed
 unfoldable pub check : List ℕ → Heap → Outcome
-check ws h =
-    judged h (heapFails ws h ∷ []) (unchanged h (Counted (countsOf h (shape ws (h .bytes)))))
+check ws h = unchanged h (checked ws h)

@@ -1,0 +1,344 @@
+-- Books half-way through a call, when chunks have left bins or were put into them and other words were written in between:
+-- step by step the bins hold the lists that the rules name, and words elsewhere stay as they were. Assumes nothing.
+use mathlib.Core.Path.{_≡_, refl, sym, ap, _∙_}
+use mathlib.Core.Logic.{_≢_, _⊎_, inl, inr}
+use mathlib.Core.Bool.{Bool, true, false, cond}
+use mathlib.Core.List.{List, [], _∷_, _++_, append-nil, List·Memᴰ·head, List·Memᴰ·tail, List·Memᴰ·not-nil, Memᴰ·append-left, Memᴰ·append-right, List·Memᴰ·append-cases}
+use Prim.Native.Nat.{ℕ, _+_, _*_, _-_, _/_, _%_, _≤_, _<_}
+use native.Mathlib.Decide.{ℕ-discrete, decLt}
+use native.Mathlib.Omega.{arith}
+use lib.Dec.{eqb}
+use lib.ListN.{length, getD, length-set}
+use borrow.Author.Tests.{eq-eqb, ne-eqb}
+use Rattle.lists.specs.Lists.{Mem, headOr, lastOr, upTo, past}
+use Rattle.lists.proofs.MembersLaws.{member-with, member-without, distinct-parts}
+use Rattle.record.specs.declared.heap.Heap.{Heap}
+use Rattle.region.specs.Words.{word, Store, put, written, nextInBin, previousInBin, bin}
+use Rattle.region.proofs.WordsLaws.{Off, off, word-same, length-written, written-append}
+use Rattle.rules.specs.Shape.{binList}
+use Rattle.rules.specs.Check.{Linked, Passes}
+use Rattle.rules.specs.Draft.{meet}
+use Rattle.rules.proofs.ShapeLaws.{Leads}
+use Rattle.bins.specs.Books.{Books, books, leaveM, putM}
+use Rattle.bins.proofs.RunsLaws.{Node, NoLink, meet-off, run-keeps, run-whole, whole-run}
+use Rattle.bins.proofs.BooksLaws.{Holds, Far, left, putAt, putStores, leave-is, leave-holds, leave-others, put-off, put-is, put-holds, put-others, put-head-is, put-tail-is}
+use Rattle.bins.proofs.HeapBooks.{heap-holds, members-far, lists-apart}
+
+-- the lists of n bins are what the books hold; no chunk is in two of them, members lie 24 bytes apart, and each says its bin
+pub record OnWay (b : Books) (lists : ℕ → List ℕ) (n : ℕ) : Type 0 where
+  pub few : n ≤ 32
+  pub heads : n ≤ length (b .heads)
+  pub tails : n ≤ length (b .tails)
+  pub holds : (j : ℕ) → j < n → Holds b j (lists j)
+  pub apart : (i j : ℕ) → i < n → j < n → i ≢ j → (c : ℕ) → Mem c (lists i) → Mem c (lists j) → ⊥
+  pub far : (i j c d : ℕ) → i < n → j < n → Mem c (lists i) → Mem d (lists j) → c ≢ d → Far c d
+  pub binned : (j c : ℕ) → j < n → Mem c (lists j) → word (b .words) c bin ≡ 8 * j
+
+-- the lists with that of bin i replaced
+abbrev pub relisted : ℕ → List ℕ → (ℕ → List ℕ) → ℕ → List ℕ
+relisted i cs lists j = cond (eqb j i) cs (lists j)
+
+module _ (i : ℕ) (cs : List ℕ) (lists : ℕ → List ℕ) where
+  pub relisted-same : relisted i cs lists i ≡ cs
+  relisted-same = rw (eq-eqb i i refl)
+
+  pub relisted-other : (j : ℕ) → j ≢ i → relisted i cs lists j ≡ lists j
+  relisted-other j ne = rw (ne-eqb j i ne)
+
+  pub relisted-id : lists i ≡ cs → (j : ℕ) → relisted i cs lists j ≡ lists j
+  relisted-id e j = go (ℕ-discrete j i)
+    where
+      go : Dec (j ≡ i) → relisted i cs lists j ≡ lists j
+      go (yes q) = rw (eq-eqb j i q, q) (sym e)
+      go (no ne) = relisted-other j ne
+
+  pub member-relisted : (j : ℕ) {d : ℕ} → Mem d (relisted i cs lists j) → ((j ≡ i) × Mem d cs) ⊎ ((j ≢ i) × Mem d (lists j))
+  member-relisted j {d} m = go (ℕ-discrete j i)
+    where
+      go : Dec (j ≡ i) → ((j ≡ i) × Mem d cs) ⊎ ((j ≢ i) × Mem d (lists j))
+      go (yes q) = inl (q, rw (eq-eqb j i q) at m)
+      go (no ne) = inr (ne, rw (ne-eqb j i ne) at m)
+
+-- a list taken apart at a member
+pub split-at-member : {c : ℕ} {cs : List ℕ} → Mem c cs → cs ≡ upTo (eqb c) cs ++ c ∷ past (eqb c) cs
+split-at-member {c} (List·Memᴰ·head {x = x} {xs = xs} e) = rw (eq-eqb c x e) (ap (λ (y : ℕ). y ∷ xs) (sym e))
+split-at-member {c} (List·Memᴰ·tail {x = x} {xs = xs} m) = go (split-at-member m) (ℕ-discrete c x)
+  where
+    go : xs ≡ upTo (eqb c) xs ++ c ∷ past (eqb c) xs → Dec (c ≡ x)
+        → x ∷ xs ≡ upTo (eqb c) (x ∷ xs) ++ c ∷ past (eqb c) (x ∷ xs)
+    go r (yes e) = rw (eq-eqb c x e) (ap (λ (y : ℕ). y ∷ xs) (sym e))
+    go r (no ne) = rw (ne-eqb c x ne) (ap (λ (l : List ℕ). x ∷ l) r)
+
+-- what stands before and after it is of the list
+module _ (p : ℕ → Bool) where
+  pub before-from : (cs : List ℕ) {d : ℕ} → Mem d (upTo p cs) → Mem d cs
+  before-from [] m = absurd (List·Memᴰ·not-nil m)
+  before-from (x ∷ xs) {d} m = go (p x) m (λ k. before-from xs k)
+    where
+      go : (t : Bool) → Mem d (cond t [] (x ∷ upTo p xs)) → (Mem d (upTo p xs) → Mem d xs) → Mem d (x ∷ xs)
+      go true k f = absurd (List·Memᴰ·not-nil k)
+      go false (List·Memᴰ·head e) f = List·Memᴰ·head e
+      go false (List·Memᴰ·tail k) f = List·Memᴰ·tail (f k)
+
+  pub after-from : (cs : List ℕ) {d : ℕ} → Mem d (past p cs) → Mem d cs
+  after-from [] m = absurd (List·Memᴰ·not-nil m)
+  after-from (x ∷ xs) {d} m = go (p x) m (λ k. after-from xs k)
+    where
+      go : (t : Bool) → Mem d (cond t xs (past p xs)) → (Mem d (past p xs) → Mem d xs) → Mem d (x ∷ xs)
+      go true k f = List·Memᴰ·tail k
+      go false k f = List·Memᴰ·tail (f k)
+
+-- words that a step leaves alone: none but the links of members, and the links and the bin word of the chunk that is put
+pub leave-off : (c : ℕ) (cs : List ℕ) (x : ℕ) → NoLink x cs → Off x (meet (upTo (eqb c) cs) (past (eqb c) cs))
+leave-off c cs x f =
+    meet-off x (upTo (eqb c) cs) (past (eqb c) cs) (λ d m. f d (before-from (eqb c) cs m)) (λ d m. f d (after-from (eqb c) cs m))
+
+module _ (b : Books) (i c d k : ℕ) where
+  pub leave-word : (cs : List ℕ) → NoLink (d / 4 + k) cs
+      → word (left b i (upTo (eqb c) cs) (past (eqb c) cs) .words) d k ≡ word (b .words) d k
+  leave-word cs f = off (meet (upTo (eqb c) cs) (past (eqb c) cs)) (b .words) d k (leave-off c cs (d / 4 + k) f)
+
+  pub put-word : (xs ys : List ℕ) → NoLink (d / 4 + k) (xs ++ ys)
+      → (d / 4 + k ≢ c / 4 + nextInBin) × (d / 4 + k ≢ c / 4 + previousInBin) × (d / 4 + k ≢ c / 4 + bin)
+      → word (putAt b i xs c ys .words) d k ≡ word (b .words) d k
+  put-word xs ys f h =
+      off (putStores i xs c ys) (b .words) d k
+      (put-off b i xs c ys (d / 4 + k) (λ x m. f x (Memᴰ·append-left ys m)) (λ y m. f y (Memᴰ·append-right xs m)) h)
+
+-- words of a chunk that are no links of members, if members are the chunk itself or far from it
+pub no-link : (d k : ℕ) (cs : List ℕ) → k < 6 → k ≢ nextInBin → k ≢ previousInBin → d % 8 ≡ 0
+    → ((c : ℕ) → Mem c cs → (c % 8 ≡ 0) × (d ≢ c → Far d c)) → NoLink (d / 4 + k) cs
+no-link d k cs s n3 n4 z f = λ c m. at c (f c m .0) (f c m .1) (ℕ-discrete d c)
+  where
+    at : (c : ℕ) → c % 8 ≡ 0 → (d ≢ c → Far d c) → Dec (d ≡ c) → (d / 4 + k ≢ c / 4 + nextInBin) × (d / 4 + k ≢ c / 4 + previousInBin)
+    at c e g (yes q) = omega arith
+    at c e g (no ne) = let r = g ne in omega arith
+
+-- of the first three words of a header, if members below it end below it
+pub header-no-link : (d k : ℕ) (cs : List ℕ) → k < 3 → d % 8 ≡ 0
+    → ((c : ℕ) → Mem c cs → (c % 8 ≡ 0) × (c < d → c + 24 ≤ d)) → NoLink (d / 4 + k) cs
+header-no-link d k cs s z f = λ c m. at c (f c m .0) (f c m .1) (decLt c d)
+  where
+    at : (c : ℕ) → c % 8 ≡ 0 → (c < d → c + 24 ≤ d) → Dec (c < d) → (d / 4 + k ≢ c / 4 + nextInBin) × (d / 4 + k ≢ c / 4 + previousInBin)
+    at c e g (yes q) = let r = g q in omega arith
+    at c e g (no ne) = omega arith
+
+pub left-length : (b : Books) (i : ℕ) (xs ys : List ℕ) → length (left b i xs ys .words) ≡ length (b .words)
+left-length b i xs ys = length-written (meet xs ys) (b .words)
+
+pub put-length : (b : Books) (i : ℕ) (xs : List ℕ) (c : ℕ) (ys : List ℕ) → length (putAt b i xs c ys .words) ≡ length (b .words)
+put-length b i xs c ys = length-written (putStores i xs c ys) (b .words)
+
+pub way-begins : (ws : List ℕ) (h : Heap) → Passes ws h → OnWay (books ws (h .heads) (h .tails)) (binList ws h) (h .bins)
+way-begins ws h p =
+    let t = p .table in
+    record {
+      few = omega arith;
+      heads = omega arith;
+      tails = omega arith;
+      holds = heap-holds ws h p;
+      apart = lists-apart ws h p;
+      far = members-far ws h p;
+      binned = λ j c l m. p .bins j l .words c m;
+    }
+
+linked-leads : (ws : List ℕ) (q : ℕ) (cs : List ℕ) → Linked ws q cs → ((c : ℕ) → Mem c cs → 0 < c) → Leads ws cs
+linked-leads ws q [] l f = tt
+linked-leads ws q (c ∷ cs) l f = (f c (List·Memᴰ·head refl), l .1, linked-leads ws c cs (l .2) (λ d m. f d (List·Memᴰ·tail m)))
+
+module _ (b : Books) (lists : ℕ → List ℕ) (n : ℕ) (w : OnWay b lists n) where
+  pub way-leads : (j : ℕ) → j < n → Leads (b .words) (lists j)
+  way-leads j l = let h = w .holds j l in linked-leads (b .words) 0 (lists j) (h .links) (λ c m. h .nodes c m .some)
+
+  -- only what the lists are counts
+  pub way-same : (same : ℕ → List ℕ) → ((j : ℕ) → j < n → same j ≡ lists j) → OnWay b same n
+  way-same same e =
+      record {
+        few = w .few;
+        heads = w .heads;
+        tails = w .tails;
+        holds = λ j l. rw (e j l) (w .holds j l);
+        apart = λ i j li lj ne c m k. w .apart i j li lj ne c (rw (e i li) at m) (rw (e j lj) at k);
+        far = λ i j c d li lj m k ne. w .far i j c d li lj (rw (e i li) at m) (rw (e j lj) at k) ne;
+        binned = λ j c l m. w .binned j c l (rw (e j l) at m);
+      }
+
+  -- stores that are to no link and to no bin word of a member
+  pub way-keeps : (ss : List Store)
+      → ((j c : ℕ) → j < n → Mem c (lists j) → Off (c / 4 + nextInBin) ss × Off (c / 4 + previousInBin) ss × Off (c / 4 + bin) ss)
+      → OnWay (books (written (b .words) ss) (b .heads) (b .tails)) lists n
+  way-keeps ss f =
+      record {
+        few = w .few;
+        heads = w .heads;
+        tails = w .tails;
+        holds = λ j l. kept j l (w .holds j l);
+        apart = w .apart;
+        far = w .far;
+        binned = λ j c l m. off ss (b .words) c bin (f j c l m .2) ∙ w .binned j c l m;
+      }
+    where
+      kept : (j : ℕ) → j < n → Holds b j (lists j) → Holds (books (written (b .words) ss) (b .heads) (b .tails)) j (lists j)
+      kept j l h =
+          record {
+            head = h .head;
+            tail = h .tail;
+            links =
+                run-whole _ 0 (lists j)
+                (run-keeps ss (b .words) 0 0 (lists j) (λ d m. let o = f j d l m in (o .0, o .1)) (whole-run (b .words) 0 (lists j) (h .links)));
+            nodes = rw length-written (h .nodes);
+            once = h .once;
+          }
+
+  -- no word of a member but its links is a link of a member
+  pub way-no-link : (i j d k : ℕ) → i < n → j < n → Mem d (lists j) → k < 6 → k ≢ nextInBin → k ≢ previousInBin → NoLink (d / 4 + k) (lists i)
+  way-no-link i j d k li lj m s n3 n4 =
+      no-link d k (lists i) s n3 n4 (w .holds j lj .nodes d m .eight)
+      (λ c e. (w .holds i li .nodes c e .eight, λ ne. w .far j i d c lj li m e ne))
+
+  -- the chunk at c, between xs and ys, leaves bin i
+  module _ (i c : ℕ) (l : i < n) (xs ys : List ℕ) (s : lists i ≡ xs ++ c ∷ ys) where
+    before : Holds b i (xs ++ c ∷ ys)
+    before = rw s at (w .holds i l)
+
+    here : Mem c (lists i)
+    here = rw s (Memᴰ·append-right xs (List·Memᴰ·head refl))
+
+    -- all others stay
+    stays : (j : ℕ) {d : ℕ} → Mem d (relisted i (xs ++ ys) lists j) → Mem d (lists j)
+    stays j {d} k = go (member-relisted i (xs ++ ys) lists j k)
+      where
+        go : ((j ≡ i) × Mem d (xs ++ ys)) ⊎ ((j ≢ i) × Mem d (lists j)) → Mem d (lists j)
+        go (inl q) = rw (q .0, s) (member-with xs c ys (q .1))
+        go (inr q) = q .1
+
+    leave-each : (j : ℕ) → j < n → Holds (left b i xs ys) j (relisted i (xs ++ ys) lists j)
+    leave-each j lj = go (ℕ-discrete j i)
+      where
+        go : Dec (j ≡ i) → Holds (left b i xs ys) j (relisted i (xs ++ ys) lists j)
+        go (yes q) = rw (eq-eqb j i q, q) (leave-holds b i xs c ys before (omega arith) (omega arith))
+        go (no ne) =
+            rw (ne-eqb j i ne)
+            (leave-others b i xs c ys j (lists j) (w .holds j lj) ne before (λ d m k. w .apart j i lj l ne d m (rw s k)))
+
+    pub way-leaves-between : (leaveM b c ≡ left b i xs ys) × OnWay (left b i xs ys) (relisted i (xs ++ ys) lists) n
+    way-leaves-between = (
+      leave-is b i xs c ys before (w .binned i c l here),
+      record {
+        few = w .few;
+        heads = rw length-set (w .heads);
+        tails = rw length-set (w .tails);
+        holds = leave-each;
+        apart = λ i₁ j l₁ lj ne d m k. w .apart i₁ j l₁ lj ne d (stays i₁ m) (stays j k);
+        far = λ i₁ j d e l₁ lj m k ne. w .far i₁ j d e l₁ lj (stays i₁ m) (stays j k) ne;
+        binned =
+            λ j d lj m.
+            let f : NoLink (d / 4 + bin) (xs ++ c ∷ ys) = rw s at (way-no-link i j d bin l lj (stays j m) (omega arith) (omega arith) (omega arith)) in
+            off (meet xs ys) (b .words) d bin
+            (meet-off _ xs ys (λ x k. f x (Memᴰ·append-left (c ∷ ys) k)) (λ y k. f y (Memᴰ·append-right xs (List·Memᴰ·tail k))))
+            ∙ w .binned j d lj (stays j m);
+      },
+    )
+
+    -- it is far from all that stay, so that it can be put again
+    left-far : (j d : ℕ) → j < n → Mem d (relisted i (xs ++ ys) lists j) → Far c d
+    left-far j d lj m = w .far i j c d l lj here (stays j m) (λ e. gone e (member-relisted i (xs ++ ys) lists j m))
+      where
+        twice : c ≡ d → Mem d xs ⊎ Mem d ys → ⊥
+        twice e (inl k) = distinct-parts xs (c ∷ ys) (before .once) .none d k (List·Memᴰ·head (sym e))
+        twice e (inr k) = distinct-parts xs (c ∷ ys) (before .once) .right .0 (rw (← e) at k)
+
+        gone : c ≡ d → ((j ≡ i) × Mem d (xs ++ ys)) ⊎ ((j ≢ i) × Mem d (lists j)) → ⊥
+        gone e (inl q) = twice e (List·Memᴰ·append-cases xs (q .1))
+        gone e (inr q) = w .apart j i lj l (q .0) d (q .1) (rw e at here)
+
+  -- the chunk at c, far from all members, is put into bin i between xs and ys
+  module _ (i c : ℕ) (l : i < n) (gc : Node (length (b .words)) c) (free : (j d : ℕ) → j < n → Mem d (lists j) → Far c d)
+      (xs ys : List ℕ) (s : lists i ≡ xs ++ ys) where
+    held : Holds b i (xs ++ ys)
+    held = rw s at (w .holds i l)
+
+    -- a member is one that was, or it is the chunk at c
+    is-from : (j : ℕ) {d : ℕ} → Mem d (relisted i (xs ++ c ∷ ys) lists j) → Mem d (lists j) ⊎ ((j ≡ i) × (d ≡ c))
+    is-from j {d} k = go (member-relisted i (xs ++ c ∷ ys) lists j k)
+      where
+        own : (j ≡ i) → (d ≡ c) ⊎ Mem d (xs ++ ys) → Mem d (lists j) ⊎ ((j ≡ i) × (d ≡ c))
+        own q (inl e) = inr (q, e)
+        own q (inr m) = inl (rw (q, s) m)
+
+        go : ((j ≡ i) × Mem d (xs ++ c ∷ ys)) ⊎ ((j ≢ i) × Mem d (lists j)) → Mem d (lists j) ⊎ ((j ≡ i) × (d ≡ c))
+        go (inl q) = own (q .0) (member-without xs c ys (q .1))
+        go (inr q) = inl (q .1)
+
+    put-each : (j : ℕ) → j < n → Holds (putAt b i xs c ys) j (relisted i (xs ++ c ∷ ys) lists j)
+    put-each j lj = go (ℕ-discrete j i)
+      where
+        go : Dec (j ≡ i) → Holds (putAt b i xs c ys) j (relisted i (xs ++ c ∷ ys) lists j)
+        go (yes q) =
+            rw (eq-eqb j i q, q)
+            (put-holds b i xs c ys held gc (λ d m. free i d l (rw s m)) (omega arith) (omega arith))
+        go (no ne) =
+            rw (ne-eqb j i ne)
+            (put-others b i xs c ys j (lists j) (w .holds j lj) ne held gc (λ d m. free j d lj m) (λ d m k. w .apart j i lj l ne d m (rw s k)))
+
+    put-apart : (i₁ j d : ℕ) → i₁ < n → j < n → i₁ ≢ j → Mem d (lists i₁) ⊎ ((i₁ ≡ i) × (d ≡ c)) → Mem d (lists j) ⊎ ((j ≡ i) × (d ≡ c)) → ⊥
+    put-apart i₁ j d l₁ lj ne (inl m) (inl k) = w .apart i₁ j l₁ lj ne d m k
+    put-apart i₁ j d l₁ lj ne (inl m) (inr q) = let f = free i₁ d l₁ m in omega arith
+    put-apart i₁ j d l₁ lj ne (inr p) (inl k) = let f = free j d lj k in omega arith
+    put-apart i₁ j d l₁ lj ne (inr p) (inr q) = omega arith
+
+    put-far : (i₁ j d e : ℕ) → i₁ < n → j < n → d ≢ e → Mem d (lists i₁) ⊎ ((i₁ ≡ i) × (d ≡ c)) → Mem e (lists j) ⊎ ((j ≡ i) × (e ≡ c)) → Far d e
+    put-far i₁ j d e l₁ lj ne (inl m) (inl k) = w .far i₁ j d e l₁ lj m k ne
+    put-far i₁ j d e l₁ lj ne (inl m) (inr q) = let f = free i₁ d l₁ m in omega arith
+    put-far i₁ j d e l₁ lj ne (inr p) (inl k) = let f = free j e lj k in omega arith
+    put-far i₁ j d e l₁ lj ne (inr p) (inr q) = omega arith
+
+    put-binned : (j d : ℕ) → j < n → Mem d (lists j) ⊎ ((j ≡ i) × (d ≡ c)) → word (putAt b i xs c ys .words) d bin ≡ 8 * j
+    put-binned j d lj (inl m) =
+        let g = w .holds j lj .nodes d m in
+        let f = free j d lj m in
+        put-word b i c d bin xs ys (rw s at (way-no-link i j d bin l lj m (omega arith) (omega arith) (omega arith))) (omega arith)
+        ∙ w .binned j d lj m
+    put-binned j d lj (inr q) =
+        let ss : List Store = meet xs (c ∷ []) ++ meet (c ∷ []) ys in
+        let k = length-written ss (b .words) in
+        rw (q .0, q .1, written-append ss (put c bin (8 * i) ∷ []) (b .words)) (word-same _ c bin (8 * i) (omega arith))
+
+    pub way-puts : (putM b i (lastOr 0 xs) c (headOr 0 ys) ≡ putAt b i xs c ys) × OnWay (putAt b i xs c ys) (relisted i (xs ++ c ∷ ys) lists) n
+    way-puts = (
+      put-is b i xs c ys held (omega arith),
+      record {
+        few = w .few;
+        heads = rw length-set (w .heads);
+        tails = rw length-set (w .tails);
+        holds = put-each;
+        apart = λ i₁ j l₁ lj ne d m k. put-apart i₁ j d l₁ lj ne (is-from i₁ m) (is-from j k);
+        far = λ i₁ j d e l₁ lj m k ne. put-far i₁ j d e l₁ lj ne (is-from i₁ m) (is-from j k);
+        binned = λ j d lj m. put-binned j d lj (is-from j m);
+      },
+    )
+
+  -- the chunk at c, a member of bin i, leaves it
+  module _ (i c : ℕ) (l : i < n) (m : Mem c (lists i)) where
+    pub way-leaves : let xs = upTo (eqb c) (lists i) in
+        let ys = past (eqb c) (lists i) in
+        (leaveM b c ≡ left b i xs ys) × OnWay (left b i xs ys) (relisted i (xs ++ ys) lists) n
+    way-leaves = way-leaves-between i c l (upTo (eqb c) (lists i)) (past (eqb c) (lists i)) (split-at-member m)
+
+    pub way-left-far : (j d : ℕ) → j < n → Mem d (relisted i (upTo (eqb c) (lists i) ++ past (eqb c) (lists i)) lists j) → Far c d
+    way-left-far = left-far i c l (upTo (eqb c) (lists i)) (past (eqb c) (lists i)) (split-at-member m)
+
+    pub way-stays : (j : ℕ) {d : ℕ} → Mem d (relisted i (upTo (eqb c) (lists i) ++ past (eqb c) (lists i)) lists j) → Mem d (lists j)
+    way-stays = stays i c l (upTo (eqb c) (lists i)) (past (eqb c) (lists i)) (split-at-member m)
+
+  -- at its head, at its tail
+  module _ (i c : ℕ) (l : i < n) (gc : Node (length (b .words)) c) (free : (j d : ℕ) → j < n → Mem d (lists j) → Far c d) where
+    pub way-puts-head : (putM b i 0 c (getD (b .heads) i 0) ≡ putAt b i [] c (lists i))
+        × OnWay (putAt b i [] c (lists i)) (relisted i (c ∷ lists i) lists) n
+    way-puts-head =
+        (put-head-is b i (lists i) c (w .holds i l) (omega arith), way-puts i c l gc free [] (lists i) refl .1)
+
+    pub way-puts-tail : (putM b i (getD (b .tails) i 0) c 0 ≡ putAt b i (lists i) c [])
+        × OnWay (putAt b i (lists i) c []) (relisted i (lists i ++ c ∷ []) lists) n
+    way-puts-tail =
+        (put-tail-is b i (lists i) c (w .holds i l) (omega arith), way-puts i c l gc free (lists i) [] (sym (append-nil (lists i))) .1)
