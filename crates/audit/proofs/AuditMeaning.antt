@@ -158,7 +158,7 @@ module _ (ws : List ℕ) (h : Heap) (big : 40 ≤ h .bytes) (small : h .bytes �
           links = b .links;
           once = b .once;
           chunks = λ c m. chunk c m;
-          words = λ c m. let w = b .members c m .bins in let n = table .bins in omega arith
+          words = λ c m. let w = b .members c m .bins in let n = table .bins in omega arith;
         }
       where
         chunk : (c : ℕ) → Mem c (membersFrom (h .bytes) ws (getD (h .heads) i 0)) → (e : Entry) × Mem e es × ((e .place ≡ c) × BelongsTo h i e)
@@ -175,7 +175,7 @@ module _ (ws : List ℕ) (h : Heap) (big : 40 ≤ h .bytes) (small : h .bytes �
           tail = b .tail;
           links = b .links;
           once = b .once;
-          members = λ c m. member c m
+          members = λ c m. member c m;
         }
       where
         member : (c : ℕ) → Mem c (membersFrom (h .bytes) ws (getD (h .heads) i 0)) → MemberFacts ws (tableOf h) (table .valid) all i c
@@ -187,7 +187,7 @@ module _ (ws : List ℕ) (h : Heap) (big : 40 ≤ h .bytes) (small : h .bytes �
             record {
               known = rw (r .2 .0) at (known-of (r .0) (r .1) (r .2 .1 .0));
               bins = omega arith;
-              takes = rw s (r .2 .1 .1)
+              takes = rw s (r .2 .1 .1);
             }
 
     covered-binned : ((i : ℕ) → i < h .bins → HasBin i)
@@ -223,48 +223,49 @@ module _ (ws : List ℕ) (h : Heap) (big : 40 ≤ h .bytes) (small : h .bytes �
       → tallyFor h es .used ≡ h .used → Rest ws h
   rest facts d e u =
       let r =
-        combs-bins ws (tableOf h) (table .valid) all (h .heads) (h .tails) (h .bytes) (omega arith) (eights facts) bounded (h .bins) marked-all few
-          marks-long (marks facts) (ordinaries-once ws h)
-          (record {
-            whole = rw bins-are at d;
-            count = (rw bins-are at e) ∙ sym (length-map (keep (ordinary h) es) (λ (d : Entry). d .place))
-          }) in
+      combs-bins ws (tableOf h) (table .valid) all (h .heads) (h .tails) (h .bytes) (omega arith) (eights facts) bounded (h .bins) marked-all few
+      marks-long (marks facts) (ordinaries-once ws h)
+      (record {
+        whole = rw bins-are at d;
+        count = (rw bins-are at e) ∙ sym (length-map (keep (ordinary h) es) (λ (d : Entry). d .place));
+      }) in
       record {
         chain = facts;
         bins = λ i l. to-listed facts i l (r .0 i l);
         binned = covered-binned facts (r .0) (r .1);
-        used = sym u ∙ tally-used h es
+        used = sym u ∙ tally-used h es;
       }
 
   combs : (r : Rest ws h)
       → Combs ws (tableOf h) (table .valid) all (h .heads) (h .tails) (h .bytes) (omega arith) (eights (r .chain)) bounded (h .bins) marked-all
   combs r =
       bins-combs ws (tableOf h) (table .valid) all (h .heads) (h .tails) (h .bytes) (omega arith) (eights (r .chain)) bounded (h .bins) marked-all few
-        marks-long (marks (r .chain)) (ordinaries-once ws h)
-        (λ i l. of-listed (r .chain) i l (r .bins i l)) (binned-covered (r .chain) (r .binned))
+      marks-long (marks (r .chain)) (ordinaries-once ws h)
+      (λ i l. of-listed (r .chain) i l (r .bins i l)) (binned-covered (r .chain) (r .binned))
 
   -- the walks come through exactly when the facts hold
   pub well-iff : Decides (walksWell ws (tableOf h) (h .heads) (h .tails) (h .bytes) (h .donor .0) (h .top .0) (h .used)) (Rest ws h)
   unfolding walksWell
   well-iff =
       meaning
-        (both (both (both (both
-          (itself (allSound ws (h .bytes) (h .donor .0) (h .top .0) 0 es))
-          (settled-iff (tallyFor h es) (h .bytes) (h .donor .0)))
-          (number-is (tallyFor h es .used) (h .used)))
-          (itself (allWhole ws (tableOf h) (h .heads) (h .tails) (h .bytes) marked-all (numbersFrom 0 (length (tableOf h))))))
-          (number-is (metAll ws (tableOf h) (h .heads) (h .tails) (h .bytes) (h .donor .0) (h .top .0) (h .used)) (tallyFor h es .ordinary)))
-        (λ t.
-          let facts =
-            found-facts ws h big
-              (record { sound = t .0 .0 .0 .0; end = t .0 .0 .0 .1 .0; top = t .0 .0 .0 .1 .1; donor = t .0 .0 .0 .1 .2 }) in
-          rest facts (t .0 .1) (t .1 ∙ tally-ordinary h es) (t .0 .0 .1))
-        (λ r.
-          let f = facts-found ws h big (r .chain) in
-          let c = combs r in
-          ((((f .sound, (f .end, f .top, f .donor)), tally-used h es ∙ sym (r .used)), subst (λ (n : ℕ). allWhole ws (tableOf h) (h .heads) (h .tails) (h .bytes) marked-all (numbersFrom 0 n) ≡ true) (sym bins-are) (c .whole)),
-            subst (λ (n : ℕ). total (λ i. length (listAt ws (tableOf h) (h .heads) (h .tails) (h .bytes) i)) (numbersFrom 0 n) % 2 ^ 32 ≡ length all) (sym bins-are) (c .count)
-            ∙ length-map (keep (ordinary h) es) (λ (d : Entry). d .place) ∙ sym (tally-ordinary h es)))
+      (both (both (both (both
+      (itself (allSound ws (h .bytes) (h .donor .0) (h .top .0) 0 es))
+      (settled-iff (tallyFor h es) (h .bytes) (h .donor .0)))
+      (number-is (tallyFor h es .used) (h .used)))
+      (itself (allWhole ws (tableOf h) (h .heads) (h .tails) (h .bytes) marked-all (numbersFrom 0 (length (tableOf h))))))
+      (number-is (metAll ws (tableOf h) (h .heads) (h .tails) (h .bytes) (h .donor .0) (h .top .0) (h .used)) (tallyFor h es .ordinary)))
+      (λ t.
+      let facts =
+      found-facts ws h big
+      (record { sound = t .0 .0 .0 .0; end = t .0 .0 .0 .1 .0; top = t .0 .0 .0 .1 .1; donor = t .0 .0 .0 .1 .2 }) in
+      rest facts (t .0 .1) (t .1 ∙ tally-ordinary h es) (t .0 .0 .1))
+      (λ r.
+      let f = facts-found ws h big (r .chain) in
+      let c = combs r in (
+        (((f .sound, (f .end, f .top, f .donor)), tally-used h es ∙ sym (r .used)), subst (λ (n : ℕ). allWhole ws (tableOf h) (h .heads) (h .tails) (h .bytes) marked-all (numbersFrom 0 n) ≡ true) (sym bins-are) (c .whole)),
+        subst (λ (n : ℕ). total (λ i. length (listAt ws (tableOf h) (h .heads) (h .tails) (h .bytes) i)) (numbersFrom 0 n) % 2 ^ 32 ≡ length all) (sym bins-are) (c .count)
+            ∙ length-map (keep (ordinary h) es) (λ (d : Entry). d .place) ∙ sym (tally-ordinary h es),
+      ))
 
 -- the record's arrays have their places, as every record of the code has
 pub record Places (h : Heap) : Type 0 where
@@ -276,31 +277,31 @@ length-iff : (ws : List ℕ) (h : Heap) → Decides (fitsLength (length ws) (h .
 unfolding fitsLength
 length-iff ws h =
     meaning (both (both (at-most 10 (length ws)) (at-most (length ws) 16384)) (number-is (length ws / 2 * 8) (h .bytes)))
-      (λ t. record { enough = t .0 .0; notTooMany = t .0 .1; bytes = omega (arith, t .1) })
-      (λ f. ((f .enough, f .notTooMany), omega (arith, f .bytes)))
+    (λ t. record { enough = t .0 .0; notTooMany = t .0 .1; bytes = omega (arith, t .1) })
+    (λ f. ((f .enough, f .notTooMany), omega (arith, f .bytes)))
 
 tabled-iff : (h : Heap) → Places h → Decides (tabledAs (h .bins) (h .sizes) (h .heads) (h .tails)) (Tabled h)
 unfolding tabledAs
 tabled-iff h p =
     meaning
-      (both (both (both (both
-        (at-most (h .bins) (length (h .sizes)))
-        (valid-iff (tableOf h)))
-        (zeros-from (h .bins) (h .sizes)))
-        (zeros-from (h .bins) (h .heads)))
-        (zeros-from (h .bins) (h .tails)))
-      (λ t.
-        record {
-          sizePlaces = p .sizes;
-          headPlaces = p .heads;
-          tailPlaces = p .tails;
-          bins = omega (arith, p .sizes, t .0 .0 .0 .0);
-          valid = t .0 .0 .0 .1;
-          sizesEnd = t .0 .0 .1;
-          headsEnd = t .0 .1;
-          tailsEnd = t .1
-        })
-      (λ f. ((((omega (arith, p .sizes, f .bins), f .valid), f .sizesEnd), f .headsEnd), f .tailsEnd))
+    (both (both (both (both
+    (at-most (h .bins) (length (h .sizes)))
+    (valid-iff (tableOf h)))
+    (zeros-from (h .bins) (h .sizes)))
+    (zeros-from (h .bins) (h .heads)))
+    (zeros-from (h .bins) (h .tails)))
+    (λ t.
+    record {
+      sizePlaces = p .sizes;
+      headPlaces = p .heads;
+      tailPlaces = p .tails;
+      bins = omega (arith, p .sizes, t .0 .0 .0 .0);
+      valid = t .0 .0 .0 .1;
+      sizesEnd = t .0 .0 .1;
+      headsEnd = t .0 .1;
+      tailsEnd = t .1;
+    })
+    (λ f. ((((omega (arith, p .sizes, f .bins), f .valid), f .sizesEnd), f .headsEnd), f .tailsEnd))
 
 module _ (ws : List ℕ) (h : Heap) where
   pub audit-short : fitsLength (length ws) (h .bytes) ≡ false → AuditIs ws h found.Fails
@@ -331,35 +332,35 @@ module _ (ws : List ℕ) (h : Heap) where
           let q = even-passes ws h fits .0 p in
           record {
             chain =
-              record {
-                chain = q .chain;
-                ends = q .ends;
-                backward = q .backward;
-                chunks = q .chunks;
-                top = q .top;
-                donor = q .donor
-              };
+                record {
+                  chain = q .chain;
+                  ends = q .ends;
+                  backward = q .backward;
+                  chunks = q .chunks;
+                  top = q .top;
+                  donor = q .donor;
+                };
             bins = q .bins;
             binned = q .binned;
-            used = q .used
+            used = q .used;
           }
 
       passes-of : Rest (evenPart ws) h → Passes ws h
       passes-of r =
           even-passes ws h fits .1
-            (record {
-              fits = even-fits ws h fits;
-              table = table;
-              chain = r .chain .chain;
-              ends = r .chain .ends;
-              backward = r .chain .backward;
-              chunks = r .chain .chunks;
-              top = r .chain .top;
-              donor = r .chain .donor;
-              bins = r .bins;
-              binned = r .binned;
-              used = r .used
-            })
+          (record {
+            fits = even-fits ws h fits;
+            table = table;
+            chain = r .chain .chain;
+            ends = r .chain .ends;
+            backward = r .chain .backward;
+            chunks = r .chain .chunks;
+            top = r .chain .top;
+            donor = r .chain .donor;
+            bins = r .bins;
+            binned = r .binned;
+            used = r .used;
+          })
 
       -- the counts over the even part are those over the region
       counts-are : Passes ws h
@@ -370,8 +371,8 @@ module _ (ws : List ℕ) (h : Heap) where
         where
           counts : (ds : List Entry)
               → _≡_ {A = Counts}
-                (record { chunks = length ds; ordinary = tallyFor h ds .ordinary; used = tallyFor h ds .used; free = tallyFor h ds .free })
-                (countsOf h ds)
+              (record { chunks = length ds; ordinary = tallyFor h ds .ordinary; used = tallyFor h ds .used; free = tallyFor h ds .free })
+              (countsOf h ds)
           counts ds = rw (tally-ordinary h ds, tally-used h ds, tally-free h ds)
 
       pub audit-walked : (r : Audit)
@@ -396,10 +397,10 @@ pub lent-sizes : (bins : ℕ) (sizes heads tails : List ℕ) → tabledAs bins s
 unfolding tabledAs
 lent-sizes bins sizes heads tails e =
     both
-      (both (both (both (at-most bins (length sizes)) (itself (validTable (take bins sizes)))) (itself (unusedFrom bins sizes)))
-        (itself (unusedFrom bins heads)))
-      (itself (unusedFrom bins tails))
-      .0 e .0 .0 .0 .0
+    (both (both (both (at-most bins (length sizes)) (itself (validTable (take bins sizes)))) (itself (unusedFrom bins sizes)))
+    (itself (unusedFrom bins heads)))
+    (itself (unusedFrom bins tails))
+    .0 e .0 .0 .0 .0
 
 -- the answer of the check, by what was found
 module _ (ws : List ℕ) (h : Heap) (r : Audit) (k : AuditIs ws h r) where

@@ -142,7 +142,16 @@ pub fn check(region: &[u32], h: Heap) -> Audit
         return Audit::Fails;
     }
     let even = (bytes / 4) as usize;
-    walk_all(&region[..even], &sizes[..bins], &heads, &tails, bytes, h.donor, h.top, h.used)
+    walk_all(
+        &region[..even],
+        &sizes[..bins],
+        &heads,
+        &tails,
+        bytes,
+        h.donor,
+        h.top,
+        h.used,
+    )
 }
 
 // The check as a call answers it: the four counts, or the refusal.

@@ -93,7 +93,14 @@ pub fn put_tail(region: &mut [u32], heads: &mut [u32], tails: &mut [u32], bin: u
 }
 
 // Where a chunk is put: at the head of a bin of the small array, whose chunks are all of one size, at the tail of any other.
-pub fn put(region: &mut [u32], heads: &mut [u32], tails: &mut [u32], small: usize, bin: usize, chunk: Chunk)
+pub fn put(
+    region: &mut [u32],
+    heads: &mut [u32],
+    tails: &mut [u32],
+    small: usize,
+    bin: usize,
+    chunk: Chunk,
+)
     ensures { λ _. ⌜ books (now (region .exit)) (now (heads .exit)) (now (tails .exit)) ≡ putIntoM (books (now (region .entry)) (now (heads .entry)) (now (tails .entry))) small bin (chunk .0) ⌝ }
 {
     if bin < small {

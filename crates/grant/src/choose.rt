@@ -51,7 +51,14 @@ pub fn top_serves(region: &[u32], top: Chunk, need: u32) -> bool
     need as u64 + 24 <= word(region, top, SIZE) as u64
 }
 
-pub fn choose(region: &[u32], table: &[u32], heads: &[u32], donor: Chunk, top: Chunk, need: u32) -> Source
+pub fn choose(
+    region: &[u32],
+    table: &[u32],
+    heads: &[u32],
+    donor: Chunk,
+    top: Chunk,
+    need: u32,
+) -> Source
     ensures { λ r. ⌜ r ≡ chooseM (now (region .entry)) (now (table .entry)) (now (heads .entry)) (donor .0) (top .0) need ⌝ }
 {
     let binned = bin_of(table, need);

@@ -44,12 +44,22 @@ pub fn write_used(region: &mut [u32], before: Chunk, chunk: Chunk, next: Chunk)
     ensures { λ _. ⌜ now (region .exit) ≡ written (now (region .entry)) (usedWords (before .0) (chunk .0) (next .0)) ⌝ }
 {
     store(region, chunk, FORWARD, next.0);
-    store(region, chunk, BACKWARD, std::num::wrapping_add_u32(before.0, 1));
+    store(
+        region,
+        chunk,
+        BACKWARD,
+        std::num::wrapping_add_u32(before.0, 1),
+    );
 }
 
 // The chunk above names this one, and keeps its flags.
 pub fn write_above(region: &mut [u32], chunk: Chunk, above: Chunk, flags: u32)
     ensures { λ _. ⌜ now (region .exit) ≡ written (now (region .entry)) (aboveWords (chunk .0) (above .0) flags) ⌝ }
 {
-    store(region, above, BACKWARD, std::num::wrapping_add_u32(chunk.0, flags));
+    store(
+        region,
+        above,
+        BACKWARD,
+        std::num::wrapping_add_u32(chunk.0, flags),
+    );
 }

@@ -98,3 +98,9 @@ module _ {A : Type 0} (p : A → Bool) where
       go : (t : Bool) → length (keep p xs) ≤ length xs → length (cond t (x ∷ keep p xs) (keep p xs)) ≤ suc (length xs)
       go true h = omega arith
       go false h = omega arith
+
+-- two tests that agree on the members keep the same ones
+pub kept-same : {A : Type 0} (p q : A → Bool) (xs : List A) → ((x : A) → Mem x xs → p x ≡ q x) → keep p xs ≡ keep q xs
+kept-same p q [] h = refl
+kept-same p q (x ∷ xs) h =
+    rw (h x (List·Memᴰ·head refl), kept-same p q xs (λ y m. h y (List·Memᴰ·tail m)))

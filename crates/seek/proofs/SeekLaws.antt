@@ -116,7 +116,7 @@ module _ (bytes c flags : ℕ) where
     live-by-flag n = rw (ne-eqb c 0 some, ne-eqb (c + 8) bytes n)
 
 -- the donor and the top are free, so that the record does not matter to what is live
-live-is : (bytes donor top : ℕ) (e : Entry) → liveAt bytes (e .place) (e .flags) ≡ liveKind (kindAt bytes donor top e)
+pub live-is : (bytes donor top : ℕ) (e : Entry) → liveAt bytes (e .place) (e .flags) ≡ liveKind (kindAt bytes donor top e)
 unfolding kindAt inUse
 live-is bytes donor top e =
     go (ℕ-discrete (e .place) 0) (ℕ-discrete (e .place + 8) bytes) (eqb (e .flags % 2) 1) refl

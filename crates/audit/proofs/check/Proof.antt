@@ -17,17 +17,17 @@ returns-2 c =
     let h = c .before .before .before .before .before .before .before .before .before .before .before .before .args .h in
     let g = c .before .before .before .before .before .before .before .before .before .before .before .before .good in
     audit-untabled _ h
-      (record { sizes = length-unmapped ℕ (h .sizes) 32 (search needs); heads = length-unmapped ℕ (h .heads) 32 (search needs); tails = length-unmapped ℕ (h .tails) 32 (search needs) })
-      (sym (c .before .is-tabled .ensures) ∙ not-true _ (c .if2 .taken))
+    (record { sizes = length-unmapped ℕ (h .sizes) 32 (search needs); heads = length-unmapped ℕ (h .heads) 32 (search needs); tails = length-unmapped ℕ (h .tails) 32 (search needs) })
+    (sym (c .before .is-tabled .ensures) ∙ not-true _ (c .if2 .taken))
 
 returns-3 : tie.Need-returns-3
 returns-3 c =
     let h = c .before .before .before .before .before .before .before .before .before .before .before .before .before .before .before .before .before .args .h in
     let g = c .before .before .before .before .before .before .before .before .before .before .before .before .before .before .before .before .before .good in
     audit-walked _ h
-      (record { sizes = length-unmapped ℕ (h .sizes) 32 (search needs); heads = length-unmapped ℕ (h .heads) 32 (search needs); tails = length-unmapped ℕ (h .tails) 32 (search needs) })
-      (sym (c .before .before .before .before .before .before .before .before .before .before .before .before .before .before .before .fits-length .ensures) ∙ not-false _ (c .before .before .before .before .before .before .before .before .before .before .before .before .before .before .if1 .left))
-      (sym (c .before .before .before .before .before .before .is-tabled .ensures) ∙ not-false _ (c .before .before .before .before .before .if2 .left)) _ (c .walk-all .ensures)
+    (record { sizes = length-unmapped ℕ (h .sizes) 32 (search needs); heads = length-unmapped ℕ (h .heads) 32 (search needs); tails = length-unmapped ℕ (h .tails) 32 (search needs) })
+    (sym (c .before .before .before .before .before .before .before .before .before .before .before .before .before .before .before .fits-length .ensures) ∙ not-false _ (c .before .before .before .before .before .before .before .before .before .before .before .before .before .before .if1 .left))
+    (sym (c .before .before .before .before .before .before .is-tabled .ensures) ∙ not-false _ (c .before .before .before .before .before .if2 .left)) _ (c .walk-all .ensures)
 
 pub check-spec : {M : Type 1} → statement M
 check-spec =

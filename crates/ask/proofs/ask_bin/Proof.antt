@@ -1,0 +1,41 @@
+-- `ask::ask_bin` goes through its questions in turn. Assumes nothing.
+use borrow.Author.Needs.{needs}
+use Rattle.ask.proofs.AskLaws.{no-bin, count-told, first-told, last-told, no-question}
+use Rattle.ask.proofs.ask_bin.Statement.{statement}
+use Rattle.ask.proofs.ask_bin.Tie as tie
+
+returns : tie.Need-returns
+returns c = no-bin _ _ _ _ _ _ _ (c .if1 .taken)
+
+returns-2 : tie.Need-returns-2
+returns-2 c =
+    count-told _ _ _ _ _ _ _ (c .before .before .before .if1 .left) (c .before .before .end-of .ensures) (c .before .if2 .taken)
+    (c .count-members .ensures)
+
+returns-3 : tie.Need-returns-3
+returns-3 c =
+    first-told _ _ _ _ _ _ _ (c .before .before .before .if1 .left) (c .before .before .end-of .ensures) (c .before .if2 .left)
+    (c .if3 .taken)
+
+returns-4 : tie.Need-returns-4
+returns-4 c =
+    last-told _ _ _ _ _ _ _ (c .before .before .before .before .before .if1 .left) (c .before .before .before .before .end-of .ensures)
+    (c .before .before .before .if2 .left) (c .before .before .if3 .left) (c .before .if4 .taken) (c .end-of2 .ensures)
+
+returns-5 : tie.Need-returns-5
+returns-5 c =
+    no-question _ _ _ _ _ _ _ (c .before .before .before .before .if1 .left) (c .before .before .before .end-of .ensures)
+    (c .before .before .if2 .left) (c .before .if3 .left) (c .if4 .left)
+
+pub ask-bin-spec : {M : Type 1} → statement M
+ask-bin-spec =
+    tie.close
+    (tie.spec
+    returns
+    (λ c κs. search needs)
+    (λ c κs. search needs)
+    returns-2
+    returns-3
+    (λ c κs. search needs)
+    returns-4
+    returns-5)

@@ -1,0 +1,33 @@
+-- `ask::of_chunk` asks the place, or the bin of an ordinary chunk. Assumes nothing.
+use borrow.Author.Needs.{needs}
+use Rattle.ask.proofs.AskLaws.{of-place-told, no-member, member-told}
+use Rattle.ask.proofs.of_chunk.Statement.{statement}
+use Rattle.ask.proofs.of_chunk.Tie as tie
+
+returns : tie.Need-returns
+returns c =
+    of-place-told _ _ _ _ _ _ _ (c .before .before .asks-of-bin .ensures) (c .before .if1 .taken) (c .of-place .ensures)
+
+returns-2 : tie.Need-returns-2
+returns-2 c =
+    no-member _ _ _ _ _ _ _ (c .before .before .before .before .asks-of-bin .ensures) (c .before .before .before .if1 .left)
+    _ (c .before .before .kind-of .ensures) (c .before .is-ordinary .ensures) (c .if2 .taken)
+
+returns-3 : tie.Need-returns-3
+returns-3 c =
+    member-told _ _ _ _ _ _ _ (c .before .before .before .before .before .asks-of-bin .ensures)
+    (c .before .before .before .before .if1 .left) _ (c .before .before .before .kind-of .ensures)
+    (c .before .before .is-ordinary .ensures) (c .before .if2 .left) (c .of-member .ensures)
+
+pub of-chunk-spec : {M : Type 1} → statement M
+of-chunk-spec =
+    tie.close
+    (tie.spec
+    (λ c κs. search needs)
+    (λ c κs. search needs)
+    returns
+    (λ c κs. search needs)
+    (λ c κs. search needs)
+    returns-2
+    (λ c κs. search needs)
+    returns-3)

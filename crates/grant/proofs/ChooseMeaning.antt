@@ -1,0 +1,93 @@
+-- On a heap that passes, the source that the code chooses is the one that the rule names (`choose-is`). Assumes nothing.
+use mathlib.Core.Path.{_≡_, refl, sym, _∙_, ap}
+use mathlib.Core.Bool.{Bool, true, false, not, cond, _&&_}
+use mathlib.Core.List.{List, [], _∷_}
+use Prim.Native.Nat.{ℕ, suc, _+_, _-_, _≤_, _<_}
+use native.Mathlib.Decide.{ℕ-discrete}
+use native.Mathlib.Omega.{arith}
+use lib.Dec.{eqb, leb}
+use lib.ListN.{length, getD}
+use lib.Seq.{length-take-le}
+use borrow.Author.Tests.{eq-eqb, ne-eqb}
+use Rattle.bins.specs.Books.{firstFitM, nextOccupiedM}
+use Rattle.bins.proofs.HeapBooks.{Member, member-entry, list-head, list-nodes, list-short, leads-is}
+use Rattle.bins.proofs.SearchLaws.{first-fit-is, next-occupied-is}
+use Rattle.lists.specs.Lists.{Mem, headOr, keep, numbersFrom, gathered}
+use Rattle.lists.proofs.MembersLaws.{kept-same}
+use Rattle.record.specs.declared.heap.Heap.{Heap}
+use Rattle.record.specs.declared.sources.Source.{Source}
+use Rattle.record.specs.declared.sources.Source.the-variants.{FromDonor, FromTop, Nowhere}
+use Rattle.record.specs.declared.table.Binned.{Binned}
+use Rattle.record.specs.declared.table.Binned.the-variants.{Bin, NoBin}
+use Rattle.record.specs.Heap.{tableOf}
+use Rattle.record.specs.Table.{TakenBy, small, binOf}
+use Rattle.record.proofs.TableLaws.{bin-taken}
+use Rattle.region.specs.Words.{word, size}
+use Rattle.rules.specs.Check.{Passes}
+use Rattle.rules.specs.Serve.{sizeOn, fromBin, firstFit, ownBin, tryDonor, largerBin, tryTop, firstOf, chosen}
+use Rattle.rules.specs.Shape.{Entry, shape, binList}
+use Rattle.rules.proofs.SpotLaws.{spot-at, top-here, donor-here}
+use Rattle.grant.specs.Choose.{ownM, largerM, donorM, topM, chooseM}
+
+module _ (ws : List ℕ) (h : Heap) (p : Passes ws h) (n : ℕ) where
+  abbrev es : List Entry
+  es = shape ws (h .bytes)
+
+  bins-are : length (tableOf h) ≡ h .bins
+  bins-are = let a = p .table .bins in let b = p .table .sizePlaces in length-take-le (h .bins) (h .sizes) (omega arith)
+
+  -- the size word of a member, of the donor and of the top is the distance to the next chunk
+  size-on : (c : ℕ) (e : Entry) → Mem e es → e .place ≡ c → sizeOn es c ≡ e .size
+  size-on c e m q = ap (λ (d : Entry). d .size) (spot-at ws h p c e m q .1)
+
+  member-size : (i c : ℕ) → i < h .bins → Mem c (binList ws h i) → word ws c size ≡ sizeOn es c
+  member-size i c l m =
+      let r = member-entry ws h p i c l m in
+      r .1 .sized ∙ sym (size-on c (r .0) (r .1 .member) (r .1 .place))
+
+  top-size : word ws (h .top .0) size ≡ sizeOn es (h .top .0)
+  top-size = let t = top-here ws h p in rw (t .place) at (t .free .sized)
+
+  donor-size : 0 < h .donor .0 → word ws (h .donor .0) size ≡ sizeOn es (h .donor .0)
+  donor-size l = let t = donor-here ws h p l in rw (t .place) at (t .free .sized)
+
+  own-is : (b : Binned) → TakenBy (tableOf h) n b → fromBin (ownM ws (h .heads) n b) ≡ ownBin es (binList ws h) n b
+  unfolding ownM
+  own-is (Bin i) k =
+      let l : i < h .bins = rw bins-are at (k .inside) in
+      ap fromBin
+      (ap (firstFitM 8192 ws n) (list-head ws h p i)
+      ∙ first-fit-is ws n (binList ws h i) (leads-is ws h p i l) (list-short ws h p i)
+      ∙ ap (headOr 0) (kept-same _ _ (binList ws h i) (λ c m. ap (leb n) (member-size i c l m))))
+  own-is NoBin k = refl
+
+  larger-is : (b : Binned) → TakenBy (tableOf h) n b → fromBin (largerM (h .heads) (length (tableOf h)) b) ≡ largerBin h (binList ws h) b
+  unfolding largerM
+  larger-is (Bin i) k =
+      ap fromBin
+      (ap (nextOccupiedM (h .heads) i) bins-are
+      ∙ next-occupied-is (h .heads) (binList ws h) (h .bins) (λ j l. list-head ws h p j) (λ j l c m. list-nodes ws h p j l c m .some) i)
+  larger-is NoBin k = refl
+
+  donor-is : cond (donorM ws (tableOf h) (h .donor .0) n) FromDonor Nowhere ≡ tryDonor h es n
+  unfolding donorM
+  donor-is = go (ℕ-discrete (h .donor .0) 0)
+    where
+      -- without a donor nothing is compared
+      none : (a x y : Bool) → cond (a && false && x) FromDonor Nowhere ≡ cond (a && false && y) FromDonor Nowhere
+      none true x y = refl
+      none false x y = refl
+
+      go : Dec (h .donor .0 ≡ 0) → cond (donorM ws (tableOf h) (h .donor .0) n) FromDonor Nowhere ≡ tryDonor h es n
+      go (yes e) = rw (eq-eqb (h .donor .0) 0 e) (none (small (tableOf h) n) _ _)
+      go (no k) = rw (donor-size (omega arith))
+
+  top-is : cond (topM ws (h .top .0) n) FromTop Nowhere ≡ tryTop h es n
+  unfolding topM
+  top-is = rw top-size
+
+  pub choose-is : chooseM ws (tableOf h) (h .heads) (h .donor .0) (h .top .0) n ≡ chosen h es (binList ws h) n
+  unfolding chooseM chosen
+  choose-is =
+      let t = bin-taken (tableOf h) n in
+      rw (own-is (binOf (tableOf h) n) t, donor-is, larger-is (binOf (tableOf h) n) t, top-is)

@@ -1,0 +1,2 @@
+pub mod ChooseLaws
+pub mod ChooseMeaning
