@@ -1,9 +1,8 @@
 -- The answers part by part, as the code finds them, and the walk that counts a list. Assumes nothing.
-use mathlib.Core.Path.{_≡_, refl, _∙_, ap}
+use mathlib.Core.Path.{_≡_, _∙_, ap}
 use mathlib.Core.Bool.{Bool, true, false, not}
-use mathlib.Core.List.{List, [], _∷_}
-use Prim.Native.Nat.{ℕ, zero, suc, _+_, _-_, _%_, _≤_, _<_}
-use native.Mathlib.Numerals.{sub-one}
+use mathlib.Core.List.{List}
+use Prim.Native.Nat.{ℕ, suc, _+_, _-_, _%_, _≤_, _<_}
 use native.Mathlib.Omega.{arith}
 use lib.Dec.{eqb}
 use lib.ListN.{length, getD}
@@ -20,6 +19,7 @@ use Rattle.region.specs.Places.{blockAt}
 use Rattle.region.specs.Words.{word, nextInBin, previousInBin}
 use Rattle.rules.specs.Kinds.{isAt, kindAt, ordinaryKind}
 use Rattle.rules.specs.Shape.{entry, membersFrom, shape}
+use Rattle.rules.proofs.ShapeLaws.{read-none, read-spent, read-more}
 use Rattle.seek.specs.declared.Place.{Place}
 use Rattle.seek.specs.declared.Sought.{Sought}
 use Rattle.seek.specs.declared.Sought.the-variants.{Found, Nowhere}
@@ -155,20 +155,8 @@ module _ (ws table : List ℕ) (bytes donor top q place : ℕ) where
       unfolding askChunkM
       place-asked h ea = rw (ne-eqb q 3 not-three, le-leb 1 q from, le-leb q 9 h) ea
 
--- how the reading of a list goes on, and the count of what was passed
+-- the count of what a reading has passed
 module _ (ws : List ℕ) where
-  read-none : (k : ℕ) → membersFrom k ws 0 ≡ []
-  read-none zero = refl
-  read-none (suc k) = refl
-
-  read-spent : (k c : ℕ) → k ≡ 0 → membersFrom k ws c ≡ []
-  read-spent zero c e = refl
-  read-spent (suc k) c e = absurd (omega arith)
-
-  read-more : (k c : ℕ) → (c ≡ 0 → ⊥) → 0 < k → membersFrom k ws c ≡ c ∷ membersFrom (k - 1) ws (word ws c nextInBin)
-  read-more zero c n h = absurd (omega arith)
-  read-more (suc k) c n h = rw (ne-eqb c 0 n, membersFrom, sub-one (suc k))
-
   pub record Counting (steps first c met : ℕ) : Type 0 where
     pub within : met ≤ steps
     pub count : met + length (membersFrom (steps - met) ws c) ≡ length (membersFrom steps ws first)
@@ -182,17 +170,17 @@ module _ (ws : List ℕ) where
     module _ (c met : ℕ) (o : Counting steps first c met) where
       pub counted-all : c ≡ 0 → met ≡ length (membersFrom steps ws first)
       counted-all e =
-          let r : length (membersFrom (steps - met) ws c) ≡ 0 = ap length (ap (membersFrom (steps - met) ws) e ∙ read-none (steps - met)) in
+          let r : length (membersFrom (steps - met) ws c) ≡ 0 = ap length (ap (membersFrom (steps - met) ws) e ∙ read-none ws (steps - met)) in
           omega (arith, o .count)
 
       pub counted-most : steps ≤ met → met ≡ length (membersFrom steps ws first)
       counted-most h =
-          let r : length (membersFrom (steps - met) ws c) ≡ 0 = ap length (read-spent (steps - met) c (omega (arith, o .within))) in
+          let r : length (membersFrom (steps - met) ws c) ≡ 0 = ap length (read-spent ws (steps - met) c (omega (arith, o .within))) in
           omega (arith, o .count)
 
       pub counting-goes : (c ≡ 0 → ⊥) → met < steps → {d : ℕ} → d ≡ word ws c nextInBin → Counting steps first d (met + 1)
       counting-goes n h ed =
-          let r : length (membersFrom (steps - met) ws c) ≡ suc (length (membersFrom (steps - met - 1) ws (word ws c nextInBin))) = ap length (read-more (steps - met) c n (omega arith)) in
+          let r : length (membersFrom (steps - met) ws c) ≡ suc (length (membersFrom (steps - met - 1) ws (word ws c nextInBin))) = ap length (read-more ws (steps - met) c n (omega arith)) in
           let q : steps - (met + 1) ≡ steps - met - 1 = omega arith in
           rw ed (record { within = omega arith; count = rw q (omega (arith, o .count)) })
 

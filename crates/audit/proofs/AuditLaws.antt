@@ -1,18 +1,16 @@
 -- The tests before and after the two walks, part by part as the code makes them. Assumes nothing.
-use mathlib.Core.Path.{_≡_, refl, sym, _∙_, ap, subst}
-use mathlib.Core.Bool.{Bool, true, false, not, _&&_, _||_}
-use mathlib.Core.List.{List, [], _∷_}
+use mathlib.Core.Path.{_≡_, sym, _∙_, ap, subst}
+use mathlib.Core.Bool.{Bool, true, false, not, _&&_}
+use mathlib.Core.List.{List}
 use Prim.Native.Nat.{ℕ, suc, _+_, _*_, _/_, _≤_, _<_}
-use native.Mathlib.Omega.{arith}
 use lib.Dec.{eqb, leb}
-use lib.ListN.{length, getD, take, drop, drop-of-length-le}
+use lib.ListN.{length, getD, take, drop-of-length-le}
 use lib.Seq.{drop-cons}
 use borrow.Author.Tests.{eq-eqb, ne-eqb, le-leb, lt-leb, not-true, not-false}
 use Rattle.record.specs.Table.{validTable}
 use Rattle.rules.specs.Check.{unusedFrom}
 use Rattle.lists.specs.Lists.{numbersFrom}
 use Rattle.rules.specs.Shape.{shape}
-use Rattle.record.specs.declared.answers.Counts.{Counts}
 use Rattle.audit.specs.declared.Audit.the-variants.{Passes, Fails}
 use Rattle.audit.specs.declared.survey.Survey.{Survey}
 use Rattle.audit.specs.declared.survey.Survey.the-variants.{Surveyed, Broken}

@@ -2,19 +2,17 @@
 -- of the check hold (`well-iff`). Assumes nothing.
 use mathlib.Core.Path.{_≡_, refl, sym, _∙_, ap, subst}
 use mathlib.Core.Logic.{_⊎_, inl, inr}
-use mathlib.Core.Bool.{Bool, true, false, not, cond, _&&_, _||_, false≢true}
+use mathlib.Core.Bool.{Bool, true, false, cond, false≢true}
 use mathlib.Core.List.{List, [], _∷_, List·Memᴰ·not-nil, Memᴰ·map, Memᴰ·of-map}
 use Prim.Native.Nat.{ℕ, zero, suc, _+_, _*_, _-_, _/_, _%_, _^_, _≤_, _<_, max}
 use native.Mathlib.Decide.{ℕ-discrete}
 use native.Mathlib.Omega.{arith}
-use lib.Dec.{eqb}
 use lib.ListN.{length, getD, take, length-map, length-replicate}
 use lib.Seq.{length-take-le}
-use borrow.Author.Tests.{eq-eqb, ne-eqb, eqb-true, eqb-false, not-true}
-use Rattle.lists.specs.Lists.{Mem, keep, total, numbersFrom, Distinct}
+use Rattle.lists.specs.Lists.{Mem, keep, total, numbersFrom}
 use Rattle.lists.proofs.ListsLaws.{Decides, number-is, at-most, itself, both, or-else, denied, not-so, zeros-from, meaning}
 use Rattle.lists.proofs.MembersLaws.{kept-from, kept-has, kept-few}
-use Rattle.marks.specs.Marks.{marked, flipped}
+use Rattle.marks.specs.Marks.{flipped}
 use Rattle.marks.proofs.MarksLaws.{length-flipped}
 use Rattle.record.specs.declared.answers.Answer.the-variants.{Counted, Refused}
 use Rattle.record.specs.declared.answers.Counts.{Counts}
@@ -22,28 +20,27 @@ use Rattle.record.specs.declared.answers.Refusal.the-variants.{HeapFails}
 use Rattle.record.specs.declared.heap.Heap.{Heap}
 use Rattle.record.specs.declared.kinds.Kind.{Kind}
 use Rattle.record.specs.declared.kinds.Kind.the-variants.{Start, InUse, Ordinary, Donor, Top, End}
-use Rattle.record.specs.declared.table.Binned.the-variants.{Bin}
 use Rattle.record.specs.Heap.{tableOf}
-use Rattle.record.specs.Table.{ValidTable, validTable, binOf}
+use Rattle.record.specs.Table.{validTable}
 use Rattle.record.proofs.TableLaws.{valid-iff}
-use Rattle.region.specs.Words.{word, size, bin}
-use Rattle.rules.specs.Check.{Tabled, Sound, Listed, InItsBin, BelongsTo, unusedFrom, usedBytes, countsOf, passes, Passes, Fits}
-use Rattle.rules.specs.Kinds.{ordinary, ordinaryKind, kindAt, kindOf, inUse}
+use Rattle.region.specs.Words.{word, size}
+use Rattle.rules.specs.Check.{Tabled, Listed, InItsBin, BelongsTo, unusedFrom, usedBytes, countsOf, passes, Passes, Fits}
+use Rattle.rules.specs.Kinds.{ordinary, ordinaryKind, kindAt, kindOf}
 use Rattle.rules.specs.Merge.{checked}
-use Rattle.rules.specs.Shape.{Entry, shape, shapeFrom, binList, members, membersFrom}
+use Rattle.rules.specs.Shape.{Entry, shape, binList, members, membersFrom}
 use Rattle.rules.proofs.CheckLaws.{passes-iff}
 use Rattle.rules.proofs.EvenLaws.{evenPart, even-passes, even-fits, even-agrees, same-shape}
-use Rattle.rules.proofs.ChainLaws.{same-place, shape-chain}
+use Rattle.rules.proofs.ChainLaws.{shape-chain}
 use Rattle.rules.proofs.KindsLaws.{Being, being}
 use Rattle.rules.proofs.ShapeLaws.{shape-is}
 use Rattle.audit.specs.declared.Audit.{Audit}
 use Rattle.audit.specs.declared.Audit.the-variants as found
 use Rattle.audit.specs.Audit.{fitsLength, tabledAs, settled, noMarks, marksOf, metAll, countsIn, walksWell, WalkedIs, AuditIs}
-use Rattle.audit.specs.Survey.{allSound, marking, markAll, tallyOf}
+use Rattle.audit.specs.Survey.{allSound, marking, markAll}
 use Rattle.audit.specs.Sweep.{listAt, allWhole}
 use Rattle.audit.specs.declared.survey.Tally.{Tally}
 use Rattle.audit.proofs.SurveyLaws.{chunks-few}
-use Rattle.audit.proofs.SurveyMeaning.{ChainFacts, Found, found-facts, facts-found, tally-ordinary, tally-used, tally-free, tallyFor}
+use Rattle.audit.proofs.SurveyMeaning.{ChainFacts, found-facts, facts-found, tally-ordinary, tally-used, tally-free, tallyFor}
 use Rattle.audit.proofs.MarksMeaning.{ordinaries, ordinaries-once, marks-are}
 use Rattle.audit.proofs.SweepMeaning.{Marks, MemberFacts, BinIs, Combs, Covered, combs-bins, bins-combs}
 

@@ -1,6 +1,6 @@
 -- The tests of one chunk: what the look at a chunk finds, from the tests that it makes. Assumes nothing.
-use mathlib.Core.Path.{_≡_, refl, sym, _∙_, ap}
-use mathlib.Core.Bool.{Bool, true, false, not, cond, _&&_}
+use mathlib.Core.Path.{_≡_, sym, _∙_, ap}
+use mathlib.Core.Bool.{Bool, true, false, not, cond}
 use mathlib.Core.List.{List}
 use Prim.Native.Nat.{ℕ, _%_}
 use borrow.Author.Tests.{not-true, not-false}
@@ -9,7 +9,6 @@ use Rattle.record.specs.declared.kinds.Kind.{Kind}
 use Rattle.region.specs.Words.{word, backward}
 use Rattle.rules.specs.Kinds.{kindAt}
 use Rattle.rules.specs.Shape.{entry, flagsAt}
-use Rattle.audit.specs.declared.chunks.Seen.{Seen}
 use Rattle.audit.specs.declared.chunks.Seen.the-variants.{Sound, Unsound}
 use Rattle.audit.specs.Chunks.{backedAt, soundAs, soundAt, seenAt}
 

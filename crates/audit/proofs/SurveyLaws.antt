@@ -1,27 +1,25 @@
 -- The walk of the chain, step by step: what is left to do and what is done always come to the whole. Assumes nothing.
 use mathlib.Core.Path.{_≡_, refl, sym, _∙_, ap}
-use mathlib.Core.Bool.{Bool, true, false, not, cond, _&&_}
+use mathlib.Core.Bool.{Bool, true, false, cond}
 use mathlib.Core.List.{List, [], _∷_}
-use Prim.Native.Nat.{ℕ, zero, suc, _+_, _-_, _%_, _^_, _≤_, _<_, max}
+use Prim.Native.Nat.{ℕ, suc, _+_, _-_, _%_, _^_, _≤_, _<_, max}
 use native.Mathlib.Decide.{ℕ-discrete}
 use native.Mathlib.Nat.{zero-add, add-zero, add-assoc}
 use native.Mathlib.Omega.{arith}
-use lib.Dec.{ltb}
 use lib.ListN.{length}
-use borrow.Author.Tests.{lt-ltb}
 use Rattle.lists.specs.Lists.{lastOr, total}
-use Rattle.lists.proofs.ListsLaws.{less, both, not-so}
 use Rattle.chain.specs.Chain.{endOf}
+use Rattle.chain.proofs.EndLaws.{endAt, hereAt, chain-here, chain-next}
 use Rattle.record.specs.declared.kinds.Kind.{Kind}
 use Rattle.record.specs.declared.kinds.Kind.the-variants.{Start, InUse, Ordinary, Donor, Top, End}
 use Rattle.region.specs.Words.{word, forward}
 use Rattle.rules.specs.Kinds.{kindAt, outside}
-use Rattle.rules.specs.Shape.{Entry, entry, flagsAt, shape}
-use Rattle.rules.proofs.ShapeLaws.{Up, up?, lastEntry, upEntry, chainFrom, shape-goes, shape-stops, shape-is, chain-by}
+use Rattle.rules.specs.Shape.{Entry, shape}
+use Rattle.rules.proofs.ShapeLaws.{chainFrom, shape-is, chain-by}
 use Rattle.audit.specs.declared.chunks.Seen.{Seen}
 use Rattle.audit.specs.declared.chunks.Seen.the-variants.{Sound, Unsound}
 use Rattle.audit.specs.declared.survey.Share.{Share}
-use Rattle.audit.specs.declared.survey.Survey.the-variants.{Surveyed, Broken}
+use Rattle.audit.specs.declared.survey.Survey.the-variants.{Surveyed}
 use Rattle.audit.specs.declared.survey.Tally.{Tally}
 use Rattle.audit.specs.Chunks.{soundAt, seenAt}
 use Rattle.audit.specs.Survey.{shareOf, added, marking, shareAt, allSound, markAll, tallyOf, SurveyIs}
@@ -62,37 +60,6 @@ module _ (ws : List ℕ) (bytes : ℕ) where
   -- the chain is never empty
   chain-last : (d f : Entry) (c : ℕ) → lastOr d (chainFrom ws bytes c) ≡ lastOr f (chainFrom ws bytes c)
   chain-last d f = chain-by ws bytes (λ c es. lastOr d es ≡ lastOr f es) (λ c n. refl) (λ c es u r. refl)
-
-  -- the chunk at c, as the code finds it
-  abbrev pub endAt : ℕ → ℕ
-  endAt c = endOf bytes c (word ws c forward)
-
-  abbrev pub hereAt : ℕ → Entry
-  hereAt c = entry c (endAt c - c) (flagsAt ws c)
-
-  end-up : (c : ℕ) → Up ws bytes c → endAt c ≡ word ws c forward
-  unfolding endOf
-  end-up c u = rw (lt-ltb c (word ws c forward) (u .0), lt-ltb (word ws c forward) bytes (u .1))
-
-  end-stop : (c : ℕ) → (Up ws bytes c → ⊥) → endAt c ≡ bytes
-  unfolding endOf
-  end-stop c n = rw (not-so (both (less c (word ws c forward)) (less (word ws c forward) bytes)) n)
-
-  -- the chain from c on is this chunk alone, or goes on where it ends
-  pub chain-here : (c : ℕ) → endAt c ≡ bytes → chainFrom ws bytes c ≡ hereAt c ∷ []
-  chain-here c e = shape-stops ws bytes c stop ∙ rw e
-    where
-      stop : Up ws bytes c → ⊥
-      stop u = let a = end-up c u in omega (arith, u .1)
-
-  pub chain-next : (c : ℕ) → (endAt c ≡ bytes → ⊥)
-      → (c < endAt c) × (endAt c < bytes) × (chainFrom ws bytes c ≡ hereAt c ∷ chainFrom ws bytes (endAt c))
-  chain-next c n = go (up? ws bytes c)
-    where
-      go : Dec (Up ws bytes c)
-          → (c < endAt c) × (endAt c < bytes) × (chainFrom ws bytes c ≡ hereAt c ∷ chainFrom ws bytes (endAt c))
-      go (yes u) = rw (end-up c u) (u .0, u .1, shape-goes ws bytes c u)
-      go (no k) = absurd (n (end-stop c k))
 
 module _ (ws : List ℕ) (bytes donor top : ℕ) where
   -- what is counted already, and what is left
@@ -240,14 +207,6 @@ module _ (ws : List ℕ) (bytes donor top : ℕ) where
                 ∙ recounted t (hereAt ws bytes c) c (chainFrom ws bytes (endAt ws bytes c)) (chain-last ws bytes outside (hereAt ws bytes c) (endAt ws bytes c))
                 ∙ (rw (r .2) at (o .tally));
           })
-
--- a chunk ends above its place
-pub past-end : (ws : List ℕ) (bytes c n e : ℕ) → n ≡ word ws c forward → e ≡ endOf bytes c n → c ≤ bytes → c ≤ e
-past-end ws bytes c n e en ee h = rw (ee, en) (go (ℕ-discrete (endAt ws bytes c) bytes))
-  where
-    go : Dec (endAt ws bytes c ≡ bytes) → c ≤ endAt ws bytes c
-    go (yes q) = omega arith
-    go (no m) = omega (arith, chain-next ws bytes c m .0)
 
 -- what the code holds when it has looked at the chunk at c: its forward link n, its end e, and what was seen
 module _ (ws : List ℕ) (bytes donor top p c n e : ℕ) (seen : Seen) (en : n ≡ word ws c forward) (ee : e ≡ endOf bytes c n)

@@ -1,10 +1,10 @@
 -- The walk of the chain and three tests after it find exactly the check's facts about the chain (`found-facts`, `facts-found`),
 -- and its counts are the check's counts. Assumes nothing.
-use mathlib.Core.Path.{_≡_, refl, sym, ap, _∙_}
+use mathlib.Core.Path.{_≡_, refl, sym, _∙_}
 use mathlib.Core.Bool.{Bool, true, false, cond}
 use mathlib.Core.List.{List, [], _∷_, List·Memᴰ·head, List·Memᴰ·tail, List·Memᴰ·not-nil}
-use Prim.Native.Nat.{ℕ, suc, _+_, _-_, _%_, _≤_, _<_}
-use native.Mathlib.Decide.{ℕ-discrete, decLt}
+use Prim.Native.Nat.{ℕ, _+_, _-_, _%_, _≤_, _<_}
+use native.Mathlib.Decide.{decLt}
 use native.Mathlib.Omega.{arith}
 use lib.ListN.{length}
 use Rattle.lists.specs.Lists.{Mem, headOr, lastOr, keep, total}
@@ -14,11 +14,10 @@ use Rattle.record.specs.declared.kinds.Kind.{Kind}
 use Rattle.record.specs.declared.kinds.Kind.the-variants.{Start, InUse, Ordinary, Donor, Top, End}
 use Rattle.region.specs.Words.{word, forward, backward, size, nextInBin, previousInBin, bin}
 use Rattle.rules.specs.Shape.{Entry, flagsAt, shape}
-use Rattle.rules.specs.Kinds.{kindAt, kindOf, ordinary, isFree, live, ordinaryKind, freeKind, liveKind, outside}
+use Rattle.rules.specs.Kinds.{kindOf, ordinary, isFree, live, ordinaryKind, freeKind, liveKind, outside}
 use Rattle.rules.specs.Check.{Chained, Ended, Backed, Sound, Unbinned, Reserved, TopIs, DonorIs, usedBytes, freeBytes}
-use Rattle.rules.proofs.ChainLaws.{each-cons, at-least, same-place, Chain, shape-chain}
-use Rattle.rules.proofs.KindsLaws.{Being, being, kind-start, kind-end, kind-in-use, kind-top, kind-donor, kind-ordinary}
-use Rattle.rules.proofs.ShapeLaws.{Up, lastEntry, upEntry, shape-is, chain-by}
+use Rattle.rules.proofs.ChainLaws.{each-cons, same-place, Chain, shape-chain}
+use Rattle.rules.proofs.KindsLaws.{Being, being, kind-start, kind-end, kind-top, kind-donor}
 use Rattle.audit.specs.declared.survey.Tally.{Tally}
 use Rattle.audit.specs.Chunks.{backedAt, sizedAt, startIs, endIs, reservedAt, donorAt, topAt, soundAs, soundAt}
 use Rattle.audit.specs.Survey.{shareOf, allSound, tallyOf}

@@ -1,12 +1,11 @@
 -- The walk of the bins' lists, step by step: what is left and what is done always come to the whole. Assumes nothing.
 use mathlib.Core.Path.{_≡_, refl, sym, _∙_, ap, subst}
-use mathlib.Core.Bool.{Bool, true, false, not, _&&_}
+use mathlib.Core.Bool.{Bool, true, false, not}
 use mathlib.Core.List.{List, [], _∷_}
-use Prim.Native.Nat.{ℕ, zero, suc, _+_, _*_, _-_, _%_, _^_, _≤_, _<_}
+use Prim.Native.Nat.{ℕ, suc, _+_, _*_, _-_, _%_, _^_, _≤_, _<_}
 use native.Mathlib.Nat.{zero-add}
-use native.Mathlib.Numerals.{sub-one, add-one}
+use native.Mathlib.Numerals.{add-one}
 use native.Mathlib.Omega.{arith}
-use lib.Dec.{eqb}
 use lib.ListN.{length, getD}
 use borrow.Author.Tests.{eq-eqb, ne-eqb, not-true, not-false}
 use Rattle.lists.specs.Lists.{lastOr, total, numbersFrom}
@@ -14,6 +13,7 @@ use Rattle.marks.specs.Marks.{marked, flipped}
 use Rattle.record.specs.Table.{takesBin}
 use Rattle.region.specs.Words.{word, size, nextInBin, previousInBin, bin}
 use Rattle.rules.specs.Shape.{membersFrom}
+use Rattle.rules.proofs.ShapeLaws.{read-none, read-spent, read-more}
 use Rattle.audit.specs.declared.sweep.Sweep.the-variants.{Clean, Dirty}
 use Rattle.audit.specs.declared.sweep.Swept.{Swept}
 use Rattle.audit.specs.declared.sweep.Swept.the-variants.{Whole, Torn}
@@ -56,20 +56,6 @@ module _ (ws table : List ℕ) (i : ℕ) (ms : List ℕ) (p c : ℕ) where
               ← es,
             )
             eu
-
--- how the reading of a list goes on
-module _ (ws : List ℕ) where
-  pub read-none : (k : ℕ) → membersFrom k ws 0 ≡ []
-  read-none zero = refl
-  read-none (suc k) = refl
-
-  pub read-spent : (k c : ℕ) → k ≡ 0 → membersFrom k ws c ≡ []
-  read-spent zero c e = refl
-  read-spent (suc k) c e = absurd (omega arith)
-
-  pub read-more : (k c : ℕ) → (c ≡ 0 → ⊥) → 0 < k → membersFrom k ws c ≡ c ∷ membersFrom (k - 1) ws (word ws c nextInBin)
-  read-more zero c n h = absurd (omega arith)
-  read-more (suc k) c n h = rw (ne-eqb c 0 n, membersFrom, sub-one (suc k))
 
 -- where the walk of one list stands, at c behind p, with `left` steps left
 module _ (ws table : List ℕ) (i steps : ℕ) (ms₀ : List ℕ) (first : ℕ) where

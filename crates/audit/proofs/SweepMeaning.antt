@@ -1,13 +1,11 @@
 -- What the walk of the bins' lists finds is what the check asks of them, both ways: each list is linked from head to tail,
 -- its members are ordinary chunks of its bin, and all of those are in some list. Assumes nothing.
-use mathlib.Core.Path.{_≡_, refl, sym, _∙_, ap, subst}
-use mathlib.Core.Logic.{_↔_}
-use mathlib.Core.Bool.{Bool, true, false, not, _&&_, false≢true}
-use mathlib.Core.List.{List, [], _∷_, _++_, List·Memᴰ·head, List·Memᴰ·tail, List·Memᴰ·not-nil}
-use Prim.Native.Nat.{ℕ, zero, suc, _+_, _*_, _-_, _/_, _%_, _^_, _≤_, _<_}
+use mathlib.Core.Path.{_≡_, refl, sym, _∙_, ap}
+use mathlib.Core.Bool.{true, false, not, false≢true}
+use mathlib.Core.List.{List, [], _∷_, List·Memᴰ·head, List·Memᴰ·tail, List·Memᴰ·not-nil}
+use Prim.Native.Nat.{ℕ, zero, suc, _+_, _*_, _/_, _%_, _^_, _≤_, _<_}
 use native.Mathlib.Decide.{ℕ-discrete}
 use native.Mathlib.Omega.{arith}
-use lib.Dec.{eqb}
 use borrow.Author.Tests.{ne-eqb}
 use lib.ListN.{length, getD}
 use Rattle.lists.specs.Lists.{Mem, headOr, lastOr, total, numbersFrom, gathered, Distinct}
@@ -15,14 +13,14 @@ use Rattle.lists.proofs.ListsLaws.{Decides, number-is, both, both-if, meaning}
 use Rattle.lists.proofs.CountLaws.{distinct-fits, distinct-covers, gathered-length, gathered-from, gathered-has, gathered-once}
 use Rattle.marks.specs.Marks.{marked, flipped}
 use Rattle.marks.proofs.MarksLaws.{flip-same, flip-other, length-flipped}
-use Rattle.record.specs.declared.table.Binned.the-variants.{Bin, NoBin}
-use Rattle.record.specs.Table.{ValidTable, binOf, takesBin}
+use Rattle.record.specs.declared.table.Binned.the-variants.{Bin}
+use Rattle.record.specs.Table.{ValidTable, binOf}
 use Rattle.record.proofs.TableLaws.{takes-iff}
 use Rattle.region.specs.Words.{word, size, nextInBin, previousInBin, bin}
 use Rattle.rules.specs.Check.{Linked}
 use Rattle.rules.specs.Shape.{membersFrom}
 use Rattle.audit.proofs.SweepLaws.{off-eights}
-use Rattle.audit.specs.Sweep.{flipAll, listedAt, combed, beyond, wholeList, listAt, allWhole}
+use Rattle.audit.specs.Sweep.{flipAll, listedAt, combed, beyond, listAt, allWhole}
 
 module _ (ws table : List ℕ) (valid : ValidTable table) (all : List ℕ) where
   -- the marks say which chunks of `all` have not been met yet

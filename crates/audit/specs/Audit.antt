@@ -2,9 +2,9 @@
 -- It mirrors the code; that it is the check of the rules, on every region and record, is proved.
 use mathlib.Core.Path.{_≡_}
 use mathlib.Core.Bool.{Bool, true, false, not, _&&_, _||_}
-use mathlib.Core.List.{List, [], _∷_}
-use Prim.Native.Nat.{ℕ, _+_, _*_, _/_, _%_, _^_, min}
-use lib.Dec.{eqb, leb, ltb}
+use mathlib.Core.List.{List}
+use Prim.Native.Nat.{ℕ, _+_, _*_, _/_, _%_, _^_}
+use lib.Dec.{eqb, leb}
 use lib.ListN.{length, take, replicate}
 use Rattle.lists.specs.Lists.{total, numbersFrom}
 use Rattle.record.specs.declared.answers.Counts.{Counts}

@@ -7,7 +7,7 @@ use mathlib.Core.List.{List, [], _∷_, map, List·Memᴰ·head, List·Memᴰ·t
 use Prim.Native.Nat.{ℕ, zero, suc, _*_, _≤_, _<_}
 use native.Mathlib.Decide.{ℕ-discrete, decLt}
 use native.Mathlib.Omega.{arith}
-use lib.ListN.{length, getD}
+use lib.ListN.{length, getD, length-map}
 use borrow.Author.Tests.{ne-eqb}
 use Rattle.lists.specs.Lists.{Mem, headOr}
 use Rattle.lists.proofs.CountLaws.{distinct-fits}
@@ -19,7 +19,7 @@ use Rattle.region.specs.Words.{word, size, bin}
 use Rattle.rules.specs.Shape.{Entry, shape, membersFrom, members, binList}
 use Rattle.rules.specs.Kinds.{ordinary}
 use Rattle.rules.specs.Check.{Linked, Passes}
-use Rattle.rules.proofs.ShapeLaws.{Leads}
+use Rattle.rules.proofs.ShapeLaws.{Leads, read-none}
 use Rattle.rules.proofs.SpotLaws.{IsOrdinary, bounds, inside, far, few-chunks, is-ordinary}
 use Rattle.bins.specs.Books.{books}
 use Rattle.bins.proofs.RunsLaws.{Node}
@@ -31,17 +31,10 @@ read-head ws zero c l = absurd (omega arith)
 read-head ws (suc k) c l =
     elim (ℕ-discrete c 0) [ yes z ↦ rw z refl | no n ↦ rw (ne-eqb c 0 n, membersFrom) ]
 
-read-none : (ws : List ℕ) (k : ℕ) → membersFrom k ws 0 ≡ []
-read-none ws zero = refl
-read-none ws (suc k) = refl
-
-linked-leads : (ws : List ℕ) (q : ℕ) (cs : List ℕ) → Linked ws q cs → ((c : ℕ) → Mem c cs → 0 < c) → Leads ws cs
+-- along the links of a list the reading goes
+pub linked-leads : (ws : List ℕ) (q : ℕ) (cs : List ℕ) → Linked ws q cs → ((c : ℕ) → Mem c cs → 0 < c) → Leads ws cs
 linked-leads ws q [] l f = tt
 linked-leads ws q (c ∷ cs) l f = (f c (List·Memᴰ·head refl), l .1, linked-leads ws c cs (l .2) (λ d m. f d (List·Memᴰ·tail m)))
-
-places-length : (es : List Entry) → length (map (λ e. e .place) es) ≡ length es
-places-length [] = refl
-places-length (e ∷ es) = let r = places-length es in omega arith
 
 -- the chunk e of the chain es stands at c, a member of bin i
 pub record Member (ws : List ℕ) (h : Heap) (es : List Entry) (i c : ℕ) (e : Entry) : Type 0 where
@@ -126,7 +119,7 @@ module _ (ws : List ℕ) (h : Heap) (p : Passes ws h) where
           (λ c m. let k = member-entry i c l m in Memᴰ·cast (sym (k .1 .place)) (Memᴰ·map place (k .1 .member))) in
           let b = bounds ws h p in
           let few = few-chunks ws h p in
-          omega (arith, places-length es)
+          omega (arith, length-map es (λ (e : Entry). e .place))
       go (no n) = let e = ap length (list-none i (omega arith)) in omega arith
 
   pub ordinary-listed : (e : Entry) → Mem e es → ordinary h e ≡ true

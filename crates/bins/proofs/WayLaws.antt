@@ -4,7 +4,7 @@ use mathlib.Core.Path.{_≡_, refl, sym, ap, _∙_}
 use mathlib.Core.Logic.{_≢_, _⊎_, inl, inr}
 use mathlib.Core.Bool.{Bool, true, false, cond}
 use mathlib.Core.List.{List, [], _∷_, _++_, append-nil, List·Memᴰ·head, List·Memᴰ·tail, List·Memᴰ·not-nil, Memᴰ·append-left, Memᴰ·append-right, List·Memᴰ·append-cases}
-use Prim.Native.Nat.{ℕ, _+_, _*_, _-_, _/_, _%_, _≤_, _<_}
+use Prim.Native.Nat.{ℕ, _+_, _*_, _/_, _%_, _≤_, _<_}
 use native.Mathlib.Decide.{ℕ-discrete, decLt}
 use native.Mathlib.Omega.{arith}
 use lib.Dec.{eqb}
@@ -16,13 +16,13 @@ use Rattle.record.specs.declared.heap.Heap.{Heap}
 use Rattle.region.specs.Words.{word, Store, put, written, nextInBin, previousInBin, bin}
 use Rattle.region.proofs.WordsLaws.{Off, off, word-same, length-written, written-append}
 use Rattle.rules.specs.Shape.{binList}
-use Rattle.rules.specs.Check.{Linked, Passes}
+use Rattle.rules.specs.Check.{Passes}
 use Rattle.rules.specs.Draft.{meet}
 use Rattle.rules.proofs.ShapeLaws.{Leads}
 use Rattle.bins.specs.Books.{Books, books, leaveM, putM}
 use Rattle.bins.proofs.RunsLaws.{Node, NoLink, meet-off, run-keeps, run-whole, whole-run}
 use Rattle.bins.proofs.BooksLaws.{Holds, Far, left, putAt, putStores, leave-is, leave-holds, leave-others, put-off, put-is, put-holds, put-others, put-head-is, put-tail-is}
-use Rattle.bins.proofs.HeapBooks.{heap-holds, members-far, lists-apart}
+use Rattle.bins.proofs.HeapBooks.{heap-holds, members-far, lists-apart, linked-leads}
 
 -- the lists of n bins are what the books hold; no chunk is in two of them, members lie 24 bytes apart, and each says its bin
 pub record OnWay (b : Books) (lists : ℕ → List ℕ) (n : ℕ) : Type 0 where
@@ -141,10 +141,6 @@ way-begins ws h p =
       far = members-far ws h p;
       binned = λ j c l m. p .bins j l .words c m;
     }
-
-linked-leads : (ws : List ℕ) (q : ℕ) (cs : List ℕ) → Linked ws q cs → ((c : ℕ) → Mem c cs → 0 < c) → Leads ws cs
-linked-leads ws q [] l f = tt
-linked-leads ws q (c ∷ cs) l f = (f c (List·Memᴰ·head refl), l .1, linked-leads ws c cs (l .2) (λ d m. f d (List·Memᴰ·tail m)))
 
 module _ (b : Books) (lists : ℕ → List ℕ) (n : ℕ) (w : OnWay b lists n) where
   pub way-leads : (j : ℕ) → j < n → Leads (b .words) (lists j)

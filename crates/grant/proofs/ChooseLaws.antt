@@ -1,15 +1,13 @@
 -- The four tries, part by part as the code makes them. Assumes nothing.
-use mathlib.Core.Path.{_≡_, refl, sym, _∙_, ap}
-use mathlib.Core.Bool.{Bool, true, false, not, _&&_}
+use mathlib.Core.Path.{_≡_, sym, _∙_, ap}
+use mathlib.Core.Bool.{Bool, true, false, not}
 use mathlib.Core.List.{List}
 use Prim.Native.Nat.{ℕ, _+_}
 use lib.Dec.{leb}
 use lib.ListN.{length}
 use borrow.Author.Tests.{eq-eqb, ne-eqb, not-true, not-false}
-use Rattle.record.specs.declared.sources.Source.{Source}
 use Rattle.record.specs.declared.sources.Source.the-variants.{FromBin, FromDonor, FromTop, Nowhere}
 use Rattle.record.specs.declared.table.Binned.{Binned}
-use Rattle.record.specs.Heap.{at}
 use Rattle.record.specs.Table.{small, TakenBy, binOf}
 use Rattle.record.proofs.TableLaws.{bin-is}
 use Rattle.region.specs.declared.Chunk.{Chunk}

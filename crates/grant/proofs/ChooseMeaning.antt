@@ -1,21 +1,20 @@
 -- On a heap that passes, the source that the code chooses is the one that the rule names (`choose-is`). Assumes nothing.
 use mathlib.Core.Path.{_≡_, refl, sym, _∙_, ap}
-use mathlib.Core.Bool.{Bool, true, false, not, cond, _&&_}
-use mathlib.Core.List.{List, [], _∷_}
-use Prim.Native.Nat.{ℕ, suc, _+_, _-_, _≤_, _<_}
+use mathlib.Core.Bool.{Bool, true, false, cond, _&&_}
+use mathlib.Core.List.{List}
+use Prim.Native.Nat.{ℕ, _<_}
 use native.Mathlib.Decide.{ℕ-discrete}
 use native.Mathlib.Omega.{arith}
-use lib.Dec.{eqb, leb}
-use lib.ListN.{length, getD}
+use lib.Dec.{leb}
+use lib.ListN.{length}
 use lib.Seq.{length-take-le}
-use borrow.Author.Tests.{eq-eqb, ne-eqb}
+use borrow.Author.Tests.{eq-eqb}
 use Rattle.bins.specs.Books.{firstFitM, nextOccupiedM}
-use Rattle.bins.proofs.HeapBooks.{Member, member-entry, list-head, list-nodes, list-short, leads-is}
+use Rattle.bins.proofs.HeapBooks.{member-entry, list-head, list-nodes, list-short, leads-is}
 use Rattle.bins.proofs.SearchLaws.{first-fit-is, next-occupied-is}
-use Rattle.lists.specs.Lists.{Mem, headOr, keep, numbersFrom, gathered}
+use Rattle.lists.specs.Lists.{Mem, headOr}
 use Rattle.lists.proofs.MembersLaws.{kept-same}
 use Rattle.record.specs.declared.heap.Heap.{Heap}
-use Rattle.record.specs.declared.sources.Source.{Source}
 use Rattle.record.specs.declared.sources.Source.the-variants.{FromDonor, FromTop, Nowhere}
 use Rattle.record.specs.declared.table.Binned.{Binned}
 use Rattle.record.specs.declared.table.Binned.the-variants.{Bin, NoBin}
@@ -24,7 +23,7 @@ use Rattle.record.specs.Table.{TakenBy, small, binOf}
 use Rattle.record.proofs.TableLaws.{bin-taken}
 use Rattle.region.specs.Words.{word, size}
 use Rattle.rules.specs.Check.{Passes}
-use Rattle.rules.specs.Serve.{sizeOn, fromBin, firstFit, ownBin, tryDonor, largerBin, tryTop, firstOf, chosen}
+use Rattle.rules.specs.Serve.{sizeOn, fromBin, ownBin, tryDonor, largerBin, tryTop, chosen}
 use Rattle.rules.specs.Shape.{Entry, shape, binList}
 use Rattle.rules.proofs.SpotLaws.{spot-at, top-here, donor-here}
 use Rattle.grant.specs.Choose.{ownM, largerM, donorM, topM, chooseM}

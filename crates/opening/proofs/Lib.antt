@@ -1,4 +1,3 @@
 pub mod FreshLaws
-pub mod HeadersLaws
-pub mod PrefixLaws
+pub mod LayoutLaws
 pub mod SetupLaws

@@ -18,8 +18,8 @@ use Rattle.rules.specs.Shape.{heapBytes}
 use Rattle.rules.specs.Statements.{SetsUp}
 use Rattle.opening.specs.Opening.{refusal, freshM, donorPlace, firstWords}
 use Rattle.opening.proofs.FreshLaws.{padded-few}
-use Rattle.opening.proofs.HeadersLaws.{first-words, first-below}
-use Rattle.opening.proofs.PrefixLaws.{written-prefix}
+use Rattle.opening.proofs.LayoutLaws.{first-words, first-below}
+use Rattle.region.proofs.PrefixLaws.{written-prefix}
 
 -- a donor that fits leaves 40 bytes for the ends and the top
 pub fits-room : (bytes donor : ℕ) → donorFits bytes donor ≡ true → 40 ≤ bytes → donor + 40 ≤ bytes

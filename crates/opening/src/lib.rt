@@ -1,11 +1,11 @@
 // Setup on any region: the refusals in their order, and an accepted setup's headers and record put together.
-// The words of the headers are in `headers`, the record in `fresh`.
+// The words of the headers are in `layout`, the record in `fresh`.
 ghost use mathlib.Core.Path.{_≡_};
 ghost use Rattle.opening.specs.Opening.{refusal};
 ghost use Rattle.rules.specs.Setup.{donorFits};
 ghost use Rattle.rules.specs.Statements.{SetsUp};
 use crate::fresh::fresh;
-use crate::headers::write_headers;
+use crate::layout::write_headers;
 use record::answers::Answer;
 use record::answers::Refusal;
 use record::answers::Reply;
@@ -14,7 +14,7 @@ use record::table::valid;
 use region::Chunk;
 
 mod fresh;
-mod headers;
+mod layout;
 
 // A refused setup gives an empty record.
 fn refused(why: Refusal) -> Reply

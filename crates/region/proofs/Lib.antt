@@ -1,1 +1,2 @@
 pub mod WordsLaws
+pub mod PrefixLaws

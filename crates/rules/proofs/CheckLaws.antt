@@ -1,9 +1,8 @@
 -- The check's test decides the check's facts, both ways, on every region and every record (`passes-iff`). Assumes nothing.
-use mathlib.Core.Path.{_≡_, refl, ap}
-use mathlib.Core.Bool.{Bool, true, false, false≢true}
+use mathlib.Core.Path.{_≡_, refl}
+use mathlib.Core.Bool.{false≢true}
 use mathlib.Core.List.{List, [], _∷_}
 use Prim.Native.Nat.{ℕ, _+_, _*_, _%_, _<_}
-use lib.Dec.{eqb}
 use lib.ListN.{length, getD}
 use Rattle.lists.specs.Lists.{Mem, headOr, lastOr}
 use Rattle.lists.proofs.ListsLaws.{Decides, number-is, at-most, less, meaning, both, if-then, for-each, for-some, for-below, is-member, once, itself, zeros-from}
@@ -16,7 +15,7 @@ use Rattle.record.proofs.TableLaws.{valid-iff}
 use Rattle.region.specs.Words.{word, forward, backward, size, nextInBin, previousInBin, bin}
 use Rattle.rules.specs.Shape.{Entry, shape, binList, heapBytes}
 use Rattle.rules.specs.Kinds.{ordinary, blockEnd, outside}
-use Rattle.rules.specs.Check.{Fits, fits, Tabled, tabled, Chained, chained, Ended, ended, Backed, backed, Sound, sound, Unbinned, unbinned, Reserved, reserved, TopIs, topIs, DonorIs, donorIs, Linked, linked, isBin, BelongsTo, belongsTo, Listed, listed, InItsBin, inBin, inItsBin, usedBytes, PassesAs, Passes, passesAs, passes}
+use Rattle.rules.specs.Check.{Fits, fits, Tabled, tabled, Chained, chained, Ended, ended, Backed, backed, Sound, sound, Reserved, reserved, Linked, linked, isBin, BelongsTo, belongsTo, Listed, listed, inBin, usedBytes, PassesAs, Passes, passesAs, passes}
 
 module _ (ws : List ℕ) (h : Heap) where
   fits-iff : Decides (fits ws h) (Fits ws h)

@@ -3,6 +3,7 @@ use mathlib.Core.Path.{_≡_, refl, sym, ap, _∙_}
 use mathlib.Core.Bool.{Bool, true, false, _&&_, false≢true}
 use mathlib.Core.List.{List, [], _∷_}
 use Prim.Native.Nat.{ℕ, zero, suc, _+_, _-_, _≤_, _<_}
+use native.Mathlib.Numerals.{sub-one}
 use native.Mathlib.Omega.{arith}
 use lib.Dec.{ltb}
 use lib.ListN.{length}
@@ -91,6 +92,20 @@ module _ (ws : List ℕ) (bytes : ℕ) where
     pub chain-by : (c : ℕ) → P c (chainFrom c)
     unfolding chainFrom
     chain-by c = along bytes c (omega arith)
+
+-- how the reading of a list goes on
+module _ (ws : List ℕ) where
+  pub read-none : (k : ℕ) → membersFrom k ws 0 ≡ []
+  read-none zero = refl
+  read-none (suc k) = refl
+
+  pub read-spent : (k c : ℕ) → k ≡ 0 → membersFrom k ws c ≡ []
+  read-spent zero c e = refl
+  read-spent (suc k) c e = absurd (omega arith)
+
+  pub read-more : (k c : ℕ) → (c ≡ 0 → ⊥) → 0 < k → membersFrom k ws c ≡ c ∷ membersFrom (k - 1) ws (word ws c nextInBin)
+  read-more zero c n h = absurd (omega arith)
+  read-more (suc k) c n h = rw (ne-eqb c 0 n, membersFrom, sub-one (suc k))
 
 -- forward bin links lead along the list, from each member to the next, and from the last to 0
 abbrev pub Leads : List ℕ → List ℕ → Type 0

@@ -1,5 +1,5 @@
 -- Allocate and cleared allocate (document 01, "The calls"); refusals 4, 5, 7, 9.
-use mathlib.Core.Bool.{Bool, true, false, not}
+use mathlib.Core.Bool.{not}
 use mathlib.Core.List.{List, [], _∷_, map}
 use Prim.Native.Nat.{ℕ, _*_}
 use Rattle.lists.specs.Lists.{numbersFrom}

@@ -5,7 +5,7 @@ use mathlib.Core.Option.{Option, some, none}
 use Prim.Native.Nat.{ℕ, _-_}
 use lib.Dec.{eqb, leb, ltb}
 use lib.ListN.{length, getD}
-use Rattle.lists.specs.Lists.{headOr, lastOr, any, upTo, past}
+use Rattle.lists.specs.Lists.{lastOr, any, upTo, past}
 use Rattle.record.specs.declared.answers.Answer.the-variants.{Told}
 use Rattle.record.specs.declared.answers.Refusal.the-variants.{NotThere}
 use Rattle.record.specs.declared.heap.Heap.{Heap}
@@ -13,10 +13,8 @@ use Rattle.record.specs.declared.table.Binned.{Binned}
 use Rattle.record.specs.declared.table.Binned.the-variants.{Bin, NoBin}
 use Rattle.record.specs.Heap.{tableOf}
 use Rattle.record.specs.Table.{binOf}
-use Rattle.record.specs.declared.kinds.Kind.{Kind}
-use Rattle.record.specs.declared.kinds.Kind.the-variants.{Start, InUse, Ordinary, Donor, Top, End}
 use Rattle.rules.specs.Shape.{Entry}
-use Rattle.rules.specs.Kinds.{kindOf, ordinary, live, blockOf, isAt, outside}
+use Rattle.rules.specs.Kinds.{ordinary, live, blockOf, isAt}
 use Rattle.rules.specs.Draft.{Draft, asRead, Spot, spot}
 use Rattle.rules.specs.Outcome.{Outcome, judged, heapFails, unchanged}
 use Rattle.rules.specs.Free.{isLive, blockSpot}

@@ -1,20 +1,19 @@
 -- The fourteen marked cases (document 01, "The demonstration" and "Both sides") as one table over the rules:
 -- the region, the calls before, the call, and every fact that the document states of it.
 use mathlib.Core.Bool.{Bool, true, false, cond, _&&_}
-use mathlib.Core.List.{List, [], _∷_, _++_}
-use Prim.Native.Nat.{ℕ, suc, _+_, _-_}
+use mathlib.Core.List.{List, [], _∷_}
+use Prim.Native.Nat.{ℕ, _-_}
 use lib.Dec.{eqb}
 use lib.IntN.{ℤ, pos, negsuc}
 use lib.ListN.{length, replicate, take, getD}
-use Rattle.lists.specs.Lists.{headOr, any, every}
-use Rattle.record.specs.declared.answers.Answer.{Answer}
+use Rattle.lists.specs.Lists.{any, every}
 use Rattle.record.specs.declared.heap.Heap.{Heap}
 use Rattle.record.specs.Answers.{Figures, figures, noCounts, figuresOf}
 use Rattle.record.specs.Heap.{empty}
 use Rattle.region.specs.Words.{written, word}
 use Rattle.record.specs.declared.kinds.Kind.{Kind}
 use Rattle.record.specs.declared.kinds.Kind.the-variants.{Start, InUse, Ordinary, Donor, Top, End}
-use Rattle.rules.specs.Shape.{Entry, shape, binList}
+use Rattle.rules.specs.Shape.{shape, binList}
 use Rattle.rules.specs.Kinds.{kindOf}
 use Rattle.rules.specs.Check.{passes}
 use Rattle.rules.specs.Outcome.{Outcome}

@@ -14,8 +14,8 @@ use Rattle.record.specs.Table.{smallBins, binOf}
 use Rattle.region.specs.Words.{Store, put, forward, backward, size, nextInBin, previousInBin, bin}
 use Rattle.record.specs.declared.kinds.Kind.{Kind}
 use Rattle.record.specs.declared.kinds.Kind.the-variants.{Start, InUse, Ordinary, Donor, Top, End}
-use Rattle.rules.specs.Shape.{Entry, entry, shape, binList}
-use Rattle.rules.specs.Kinds.{unused, blockEnd, isAt, outside}
+use Rattle.rules.specs.Shape.{Entry, shape, binList}
+use Rattle.rules.specs.Kinds.{unused, blockEnd, outside}
 
 pub record Draft : Type 0 where
   pub heap : Heap

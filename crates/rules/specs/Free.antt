@@ -1,5 +1,5 @@
 -- Free (document 01, "The calls"); refusals 4, 6, 9.
-use mathlib.Core.Bool.{Bool, true, false, not, cond, _&&_}
+use mathlib.Core.Bool.{Bool, not, cond, _&&_}
 use mathlib.Core.List.{List, [], _∷_}
 use Prim.Native.Nat.{ℕ}
 use lib.Dec.{eqb}
@@ -7,7 +7,6 @@ use Rattle.lists.specs.Lists.{any}
 use Rattle.record.specs.declared.answers.Answer.the-variants.{Returned}
 use Rattle.record.specs.declared.answers.Refusal.the-variants.{NotLive, NoBinTakes}
 use Rattle.record.specs.declared.heap.Heap.{Heap}
-use Rattle.rules.specs.Shape.{Entry}
 use Rattle.rules.specs.Kinds.{holdsBlock}
 use Rattle.rules.specs.Draft.{Draft, asRead, Spot, spot, nowUses}
 use Rattle.rules.specs.Join.{release}

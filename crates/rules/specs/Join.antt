@@ -1,7 +1,7 @@
 -- Joining, and giving a chunk back (document 01, "The calls": Free).
-use mathlib.Core.Bool.{Bool, true, false, cond, _&&_}
+use mathlib.Core.Bool.{cond, _&&_}
 use mathlib.Core.List.{List, [], _∷_, _++_}
-use Prim.Native.Nat.{ℕ, _+_, _-_}
+use Prim.Native.Nat.{_-_}
 use lib.ListN.{drop}
 use Rattle.lists.specs.Lists.{headOr, lastOr, butLast}
 use Rattle.record.specs.declared.heap.Heap.{Heap}

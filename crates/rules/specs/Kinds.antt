@@ -1,7 +1,7 @@
 -- The kinds of a chunk, and blocks (document 01, "Words, chunks, blocks").
 -- That a block starts eight bytes above its chunk is said here and nowhere else in the rules.
-use mathlib.Core.Bool.{Bool, true, false, not, cond}
-use mathlib.Core.List.{List, [], _∷_, map}
+use mathlib.Core.Bool.{Bool, true, false, cond}
+use mathlib.Core.List.{List, map}
 use Prim.Native.Nat.{ℕ, _+_, _-_, _/_, _%_}
 use lib.Dec.{eqb}
 use Rattle.lists.specs.Lists.{keep}

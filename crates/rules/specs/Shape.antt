@@ -1,8 +1,8 @@
 -- Two readings of the region, over which every rule is stated: the chain of chunks as a list of entries,
 -- and a bin as a list of places (document 01, "Words, chunks, blocks").
-use mathlib.Core.Bool.{Bool, true, false, _&&_}
+use mathlib.Core.Bool.{true, false, _&&_}
 use mathlib.Core.List.{List, [], _∷_}
-use Prim.Native.Nat.{ℕ, zero, suc, _+_, _-_, _*_, _/_, _%_}
+use Prim.Native.Nat.{ℕ, zero, suc, _-_, _*_, _/_, _%_}
 use lib.Dec.{eqb, ltb}
 use lib.ListN.{getD}
 use Rattle.record.specs.declared.heap.Heap.{Heap}

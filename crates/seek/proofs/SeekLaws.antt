@@ -6,55 +6,25 @@ use Prim.Native.Nat.{ℕ, suc, _+_, _-_, _%_, _≤_, _<_}
 use native.Mathlib.Decide.{ℕ-discrete}
 use native.Mathlib.Omega.{arith}
 use lib.Dec.{eqb}
-use borrow.Author.Tests.{lt-ltb, eq-eqb, ne-eqb, not-true, not-false}
+use borrow.Author.Tests.{eq-eqb, ne-eqb, not-true, not-false}
 use Rattle.chain.specs.Chain.{endOf}
+use Rattle.chain.proofs.EndLaws.{endAt, hereAt, chain-here, chain-next}
 use Rattle.lists.specs.Lists.{lastOr, any}
-use Rattle.lists.proofs.ListsLaws.{less, both, not-so}
 use Rattle.record.specs.declared.heap.Heap.{Heap}
 use Rattle.record.specs.declared.kinds.Kind.the-variants.{Ordinary, Donor, Top}
 use Rattle.record.specs.Heap.{at}
 use Rattle.region.specs.Words.{word, forward, backward}
 use Rattle.rules.specs.Draft.{spot}
 use Rattle.rules.specs.Kinds.{kindAt, inUse, liveKind, isAt, holdsBlock}
-use Rattle.rules.specs.Shape.{Entry, entry, flagsAt, shape}
+use Rattle.rules.specs.Shape.{Entry, entry, shape}
 use Rattle.rules.proofs.ChainLaws.{Rising, shape-chain}
-use Rattle.rules.proofs.ShapeLaws.{Up, up?, chainFrom, shape-goes, shape-stops, shape-is}
+use Rattle.rules.proofs.ShapeLaws.{chainFrom, shape-is}
 use Rattle.seek.specs.declared.Place.{Place}
 use Rattle.seek.specs.declared.Sought.{Sought}
 use Rattle.seek.specs.declared.Sought.the-variants.{Found, Nowhere}
 use Rattle.seek.specs.Seek.{placed, soughtIn, liveAt, hasBlock}
 
--- the chunk at c as the code finds it, and how the chain goes on behind it
 module _ (ws : List ℕ) (bytes : ℕ) where
-  abbrev endAt : ℕ → ℕ
-  endAt c = endOf bytes c (word ws c forward)
-
-  abbrev hereAt : ℕ → Entry
-  hereAt c = entry c (endAt c - c) (flagsAt ws c)
-
-  end-up : (c : ℕ) → Up ws bytes c → endAt c ≡ word ws c forward
-  unfolding endOf
-  end-up c u = rw (lt-ltb c (word ws c forward) (u .0), lt-ltb (word ws c forward) bytes (u .1))
-
-  end-stop : (c : ℕ) → (Up ws bytes c → ⊥) → endAt c ≡ bytes
-  unfolding endOf
-  end-stop c n = rw (not-so (both (less c (word ws c forward)) (less (word ws c forward) bytes)) n)
-
-  chain-here : (c : ℕ) → endAt c ≡ bytes → chainFrom ws bytes c ≡ hereAt c ∷ []
-  chain-here c e = shape-stops ws bytes c stop ∙ rw e
-    where
-      stop : Up ws bytes c → ⊥
-      stop u = let a = end-up c u in omega (arith, u .1)
-
-  chain-next : (c : ℕ) → (endAt c ≡ bytes → ⊥)
-      → (c < endAt c) × (endAt c < bytes) × (chainFrom ws bytes c ≡ hereAt c ∷ chainFrom ws bytes (endAt c))
-  chain-next c n = go (up? ws bytes c)
-    where
-      go : Dec (Up ws bytes c)
-          → (c < endAt c) × (endAt c < bytes) × (chainFrom ws bytes c ≡ hereAt c ∷ chainFrom ws bytes (endAt c))
-      go (yes u) = rw (end-up c u) (u .0, u .1, shape-goes ws bytes c u)
-      go (no k) = absurd (n (end-stop c k))
-
   -- where the walk stands, above a chunk at p: what is sought is as far off as from the start
   pub record Seeking (place p c : ℕ) : Type 0 where
     pub inside : c ≤ bytes
@@ -65,39 +35,39 @@ module _ (ws : List ℕ) (bytes : ℕ) where
 
   -- what the code holds at the chunk at c: its forward link n and its end e
   module _ (place p c n e : ℕ) (o : Seeking place p c) (en : n ≡ word ws c forward) (ee : e ≡ endOf bytes c n) where
-    end-is : e ≡ endAt c
+    end-is : e ≡ endAt ws bytes c
     end-is = ee ∙ ap (endOf bytes c) en
 
-    above : c + (endAt c - c) ≡ endAt c
-    above = go (ℕ-discrete (endAt c) bytes)
+    above : c + (endAt ws bytes c - c) ≡ endAt ws bytes c
+    above = go (ℕ-discrete (endAt ws bytes c) bytes)
       where
-        go : Dec (endAt c ≡ bytes) → c + (endAt c - c) ≡ endAt c
+        go : Dec (endAt ws bytes c ≡ bytes) → c + (endAt ws bytes c - c) ≡ endAt ws bytes c
         go (yes q) = omega (arith, o .inside)
-        go (no m) = omega (arith, chain-next c m .0)
+        go (no m) = omega (arith, chain-next ws bytes c m .0)
 
     module _ (q : c ≡ place) (w f : ℕ) (ew : w ≡ word ws c backward) (ef : f ≡ w % 8) where
       pub seeking-found : Found (record { before = at p; chunk = at c; end = e; flags = f }) ≡ soughtIn (isAt place) 0 (shape ws bytes)
       unfolding soughtIn
-      seeking-found = rw (shape-is ws bytes) (go (ℕ-discrete (endAt c) bytes) ∙ o .same)
+      seeking-found = rw (shape-is ws bytes) (go (ℕ-discrete (endAt ws bytes c) bytes) ∙ o .same)
         where
-          this : Found (record { before = at p; chunk = at c; end = e; flags = f }) ≡ Found (placed p (hereAt c))
+          this : Found (record { before = at p; chunk = at c; end = e; flags = f }) ≡ Found (placed p (hereAt ws bytes c))
           this = rw (end-is, ef, ew, above)
 
-          go : Dec (endAt c ≡ bytes) → Found (record { before = at p; chunk = at c; end = e; flags = f }) ≡ soughtIn (isAt place) p (chainFrom ws bytes c)
-          go (yes r) = rw (chain-here c r, eq-eqb c place q) this
-          go (no m) = rw (chain-next c m .2, eq-eqb c place q) this
+          go : Dec (endAt ws bytes c ≡ bytes) → Found (record { before = at p; chunk = at c; end = e; flags = f }) ≡ soughtIn (isAt place) p (chainFrom ws bytes c)
+          go (yes r) = rw (chain-here ws bytes c r, eq-eqb c place q) this
+          go (no m) = rw (chain-next ws bytes c m .2, eq-eqb c place q) this
 
     module _ (q : c ≡ place → ⊥) where
       pub seeking-ends : e ≡ bytes → Nowhere ≡ soughtIn (isAt place) 0 (shape ws bytes)
       unfolding soughtIn
       seeking-ends r =
-          let here = chain-here c (sym end-is ∙ r) in
+          let here = chain-here ws bytes c (sym end-is ∙ r) in
           rw (shape-is ws bytes) (sym (rw (here, ne-eqb c place q)) ∙ o .same)
 
       pub seeking-goes : (e ≡ bytes → ⊥) → (c < e) × (e < bytes) × Seeking place c e
       unfolding soughtIn
       seeking-goes m =
-          let h = chain-next c (λ r. m (end-is ∙ r)) in
+          let h = chain-next ws bytes c (λ r. m (end-is ∙ r)) in
           rw end-is (h .0, h .1, record { inside = omega (arith, h .1); same = rw (h .2, ne-eqb c place q) at (o .same) })
 
 -- the tests of a chunk with a live block, in the code's order

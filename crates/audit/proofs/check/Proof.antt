@@ -1,11 +1,10 @@
 -- `audit::check` decides the check of the rules on every region and every record. Assumes nothing.
 use Prim.Native.Nat.{ℕ}
-use mathlib.Core.Path.{_≡_, sym, _∙_}
-use native.Mathlib.Omega.{arith}
+use mathlib.Core.Path.{sym, _∙_}
 use lib.Seq.{length-take-le}
 use borrow.Author.Needs.{needs, length-unmapped}
 use borrow.Author.Tests.{not-true, not-false}
-use Rattle.audit.proofs.AuditMeaning.{Places, audit-short, audit-untabled, audit-walked, lent-words, lent-sizes}
+use Rattle.audit.proofs.AuditMeaning.{audit-short, audit-untabled, audit-walked, lent-words, lent-sizes}
 use Rattle.audit.proofs.check.Statement.{statement}
 use Rattle.audit.proofs.check.Tie as tie
 

@@ -1,6 +1,5 @@
 -- `chunks::is_sound` makes the tests of the chunk's kind. Assumes nothing.
 use borrow.Author.Needs.{needs}
-use Rattle.audit.specs.Chunks.{soundAs}
 use Rattle.audit.proofs.chunks.is_sound.Statement.{statement}
 use Rattle.audit.proofs.chunks.is_sound.Tie as tie
 

@@ -2,10 +2,11 @@
 -- The measure is what is left of the heap bytes. Assumes nothing.
 use Prim.Native.Nat.{_-_}
 use native.Mathlib.Omega.{arith}
-use mathlib.Core.Path.{_≡_, refl, sym, _∙_, ap}
+use mathlib.Core.Path.{_≡_, refl}
 use borrow.Author.Needs.{needs}
 use lib.ListN.{length}
-use Rattle.audit.proofs.SurveyLaws.{Onward, begins, past-end, walk-breaks, walk-ends, walk-goes}
+use Rattle.chain.proofs.EndLaws.{past-end}
+use Rattle.audit.proofs.SurveyLaws.{Onward, begins, walk-breaks, walk-ends, walk-goes}
 use Rattle.audit.proofs.survey.walk.Statement.{statement}
 use Rattle.audit.proofs.survey.walk.Tie as tie
 

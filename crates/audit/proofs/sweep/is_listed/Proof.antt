@@ -1,5 +1,4 @@
 -- `sweep::is_listed` makes the five tests of a member in turn. Assumes nothing.
-use mathlib.Core.Path.{refl}
 use borrow.Author.Needs.{needs}
 use Rattle.audit.proofs.SweepLaws.{off-eights, not-marked, other-bin, other-before, by-size}
 use Rattle.audit.proofs.sweep.is_listed.Statement.{statement}

@@ -1,12 +1,11 @@
 -- `table::bin_of` gives the last bin whose size is not above: all bins passed on the way down are above.
 -- Assumes nothing.
-use Prim.Native.Nat.{ℕ, suc, _≤_, _<_, _-_}
+use Prim.Native.Nat.{ℕ, _≤_, _<_, _-_}
 use native.Mathlib.Omega.{arith}
 use native.Mathlib.Decide.{ℕ-discrete}
 use mathlib.Core.Path.{_≡_}
 use borrow.Author.Needs.{needs}
 use lib.ListN.{length, getD}
-use Rattle.record.specs.Table.{Takes}
 use Rattle.record.proofs.table.bin_of.Statement.{statement}
 use Rattle.record.proofs.table.bin_of.Tie as tie
 

@@ -1,10 +1,10 @@
 -- `table::small_bins` counts the sizes after the first that go on by eights. Assumes nothing.
-use Prim.Native.Nat.{ℕ, suc, _+_, _≤_, _<_, _-_}
+use Prim.Native.Nat.{_+_, _≤_, _-_}
 use native.Mathlib.Omega.{arith}
 use native.Mathlib.Numerals.{add-one}
-use mathlib.Core.Path.{_≡_, refl}
+use mathlib.Core.Path.{_≡_}
 use borrow.Author.Needs.{needs}
-use lib.ListN.{length, getD, drop}
+use lib.ListN.{length, drop}
 use Rattle.record.specs.Table.{run, smallBins}
 use Rattle.record.proofs.TableSteps.{small-start, run-stops, run-goes, run-ends}
 use Rattle.record.proofs.table.small_bins.Statement.{statement}

@@ -1,10 +1,10 @@
 -- `table::valid` is the test of a table, size by size. Assumes nothing.
-use Prim.Native.Nat.{ℕ, suc, _+_, _≤_, _<_, _-_}
+use Prim.Native.Nat.{_-_}
 use native.Mathlib.Omega.{arith}
 use native.Mathlib.Numerals.{add-one}
 use mathlib.Core.Path.{_≡_, refl, sym, _∙_}
 use borrow.Author.Needs.{needs}
-use lib.ListN.{length, getD, drop}
+use lib.ListN.{length, drop}
 use Rattle.record.specs.Table.{goesUp}
 use Rattle.record.proofs.TableSteps.{valid-none, valid-long, valid-first, valid-rest, up-uneven, up-falls, up-goes, up-ends}
 use Rattle.record.proofs.table.valid.Statement.{statement}

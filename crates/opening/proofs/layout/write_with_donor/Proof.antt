@@ -1,9 +1,9 @@
--- `headers::write_with_donor` writes start, donor, top and end, call by call. Assumes nothing.
+-- `layout::write_with_donor` writes start, donor, top and end, call by call. Assumes nothing.
 use borrow.Author.Needs.{needs}
 use Rattle.headers.specs.Headers.{freeWords}
 use Rattle.opening.specs.Opening.{withDonor, startWords, endWords}
-use Rattle.opening.proofs.headers.write_with_donor.Statement.{statement}
-use Rattle.opening.proofs.headers.write_with_donor.Tie as tie
+use Rattle.opening.proofs.layout.write_with_donor.Statement.{statement}
+use Rattle.opening.proofs.layout.write_with_donor.Tie as tie
 
 returns : tie.Need-returns
 unfolding withDonor startWords freeWords endWords

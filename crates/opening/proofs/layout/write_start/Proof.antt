@@ -1,8 +1,8 @@
--- `headers::write_start` stores the start's two links. Assumes nothing.
+-- `layout::write_start` stores the start's two links. Assumes nothing.
 use borrow.Author.Needs.{needs}
 use Rattle.opening.specs.Opening.{startWords}
-use Rattle.opening.proofs.headers.write_start.Statement.{statement}
-use Rattle.opening.proofs.headers.write_start.Tie as tie
+use Rattle.opening.proofs.layout.write_start.Statement.{statement}
+use Rattle.opening.proofs.layout.write_start.Tie as tie
 
 returns : tie.Need-returns
 unfolding startWords

@@ -1,9 +1,9 @@
--- `headers::write_headers` writes the headers with a donor or without one, by the donor's size. Assumes nothing.
+-- `layout::write_headers` writes the headers with a donor or without one, by the donor's size. Assumes nothing.
 use borrow.Author.Needs.{needs}
 use borrow.Author.Tests.{eq-eqb, ne-eqb}
 use Rattle.opening.specs.Opening.{firstWords}
-use Rattle.opening.proofs.headers.write_headers.Statement.{statement}
-use Rattle.opening.proofs.headers.write_headers.Tie as tie
+use Rattle.opening.proofs.layout.write_headers.Statement.{statement}
+use Rattle.opening.proofs.layout.write_headers.Tie as tie
 
 returns : tie.Need-returns
 unfolding firstWords

@@ -1,9 +1,9 @@
--- `headers::write_without_donor` writes start, top and end, call by call. Assumes nothing.
+-- `layout::write_without_donor` writes start, top and end, call by call. Assumes nothing.
 use borrow.Author.Needs.{needs}
 use Rattle.headers.specs.Headers.{freeWords}
 use Rattle.opening.specs.Opening.{withoutDonor, startWords, endWords}
-use Rattle.opening.proofs.headers.write_without_donor.Statement.{statement}
-use Rattle.opening.proofs.headers.write_without_donor.Tie as tie
+use Rattle.opening.proofs.layout.write_without_donor.Statement.{statement}
+use Rattle.opening.proofs.layout.write_without_donor.Tie as tie
 
 returns : tie.Need-returns
 unfolding withoutDonor startWords freeWords endWords

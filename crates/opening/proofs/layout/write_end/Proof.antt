@@ -1,8 +1,8 @@
--- `headers::write_end` stores the end's two links. Assumes nothing.
+-- `layout::write_end` stores the end's two links. Assumes nothing.
 use borrow.Author.Needs.{needs}
 use Rattle.opening.specs.Opening.{endWords}
-use Rattle.opening.proofs.headers.write_end.Statement.{statement}
-use Rattle.opening.proofs.headers.write_end.Tie as tie
+use Rattle.opening.proofs.layout.write_end.Statement.{statement}
+use Rattle.opening.proofs.layout.write_end.Tie as tie
 
 returns : tie.Need-returns
 unfolding endWords

@@ -7,7 +7,7 @@ use borrow.Author.Tests.{eq-eqb, ne-eqb}
 use Rattle.rules.specs.Setup.{firstHeaders}
 use Rattle.headers.specs.Headers.{freeWords}
 use Rattle.opening.specs.Opening.{startWords, endWords, withoutDonor, withDonor, firstWords}
-use Rattle.opening.proofs.PrefixLaws.{Below}
+use Rattle.region.proofs.PrefixLaws.{Below}
 
 module _ (bytes donor : ℕ) (room : donor + 40 ≤ bytes) (few : bytes ≤ 65536) where
   first-case : Dec (donor ≡ 0) → firstWords donor (8 + donor) (bytes - 8) ≡ firstHeaders bytes donor

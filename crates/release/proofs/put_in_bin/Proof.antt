@@ -1,0 +1,31 @@
+-- `release::put_in_bin` puts into the bin that takes the size. Assumes nothing.
+use borrow.Author.Needs.{needs}
+use Rattle.release.proofs.ReleaseSteps.{put-binned, put-nowhere}
+use Rattle.release.proofs.put_in_bin.Statement.{statement}
+use Rattle.release.proofs.put_in_bin.Tie as tie
+
+returns : tie.Need-returns
+returns c = put-nowhere _ _ _ _ _ (c .before .before .bin-of .ensures) (c .enum-told .given .1)
+
+returns-2 : tie.Need-returns-2
+returns-2 c =
+    put-binned _ _ _ _ _
+    (c .before .before .before .before .before .before .before .before .before .before .before .before .before .bin-of .ensures)
+    (c .before .before .before .before .before .before .before .before .before .before .before .binned .given .1)
+    (c .before .before .before .before .before .before .before .before .before .before .before .before .before .before .small-bins .ensures)
+    (c .before .before .before .before .before .before .put .ensures)
+
+pub put-in-bin-spec : {M : Type 1} → statement M
+put-in-bin-spec =
+    tie.close
+    (tie.spec
+    (λ c κs. search needs)
+    (λ c κs. search needs)
+    (λ c. search needs)
+    (λ c. search needs)
+    returns
+    (λ c κs. search needs)
+    (λ c. search needs)
+    (λ c. search needs)
+    (λ c. search needs)
+    returns-2)

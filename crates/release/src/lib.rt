@@ -1,0 +1,193 @@
+// A chunk is given back: what it joins, and then the writes that put the result in its place. All is decided before the first write.
+// How the chunk was found is not known here, and the record's donor, top and used bytes are the caller's to set.
+ghost use mathlib.Core.Path.{_≡_};
+ghost use mathlib.Core.Bool.{cond};
+ghost use Rattle.bins.specs.Books.{books};
+ghost use Rattle.region.specs.Words.{word, backward, forward};
+ghost use Rattle.release.specs.Release.{giveBackM, joinM, leavesM, neighbourM, putInBinM, settleM};
+ghost use Rattle.rules.specs.Join.{joinedAs};
+ghost use Rattle.rules.specs.Kinds.{freeKind};
+use bins::leave;
+use bins::put;
+use chain::is_free;
+use chain::is_ordinary;
+use chain::kind_of;
+use headers::distance;
+use headers::write_above;
+use headers::write_free;
+use headers::write_no_bin;
+use record::kinds::Kind;
+use record::table::Binned;
+use record::table::bin_of;
+use record::table::small_bins;
+use region::BACKWARD;
+use region::Chunk;
+use region::FORWARD;
+use region::word;
+
+// The free chunk that comes of it, from `chunk` to `end`, with the chunk below it and the flags of the one above. `lower` and `upper`
+// say that an ordinary chunk joined on that side, which has a bin to leave.
+pub struct Joined {
+    pub below: Chunk,
+    pub chunk: Chunk,
+    pub end: u32,
+    pub flags: u32,
+    pub becomes: Kind,
+    pub lower: bool,
+    pub upper: bool,
+}
+
+// Without merging a neighbour counts as in use, so that nothing joins it.
+pub fn neighbour(
+    region: &[u32],
+    bytes: u32,
+    donor: Chunk,
+    top: Chunk,
+    merge: bool,
+    chunk: Chunk,
+) -> Kind
+    ensures { λ r. ⌜ r ≡ neighbourM (now (region .entry)) bytes (donor .0) (top .0) merge (chunk .0) ⌝ }
+{
+    if !merge {
+        return Kind::InUse;
+    }
+    let flags = word(region, chunk, BACKWARD) % 8;
+    kind_of(bytes, donor, top, chunk, flags)
+}
+
+// Donor and top stay what they are when they grow downwards.
+pub fn joined_as(above: Kind) -> Kind
+    ensures { λ r. ⌜ r ≡ joinedAs above ⌝ }
+{
+    match above {
+        Kind::Start => Kind::Ordinary,
+        Kind::InUse => Kind::Ordinary,
+        Kind::Ordinary => Kind::Ordinary,
+        Kind::Donor => Kind::Donor,
+        Kind::Top => Kind::Top,
+        Kind::End => Kind::Ordinary,
+    }
+}
+
+// An ordinary chunk has no flag set, so that its backward link is the place below it.
+fn below_of(region: &[u32], joins: bool, before: Chunk) -> Chunk
+    ensures { λ r. ⌜ r .0 ≡ cond joins (word (now (region .entry)) (before .0) backward) (before .0) ⌝ }
+{
+    if !joins {
+        return before;
+    }
+    Chunk(word(region, before, BACKWARD))
+}
+
+// A free chunk is not the last one, so that its forward link is its end.
+fn reach(region: &[u32], above: Kind, end: u32) -> u32
+    ensures { λ r. ⌜ r ≡ cond (freeKind above) (word (now (region .entry)) end forward) end ⌝ }
+{
+    if !is_free(above) {
+        return end;
+    }
+    word(region, Chunk(end), FORWARD)
+}
+
+fn lower_of(joins: bool, before: Chunk, chunk: Chunk) -> Chunk
+    ensures { λ r. ⌜ r .0 ≡ cond joins (before .0) (chunk .0) ⌝ }
+{
+    if joins { before } else { chunk }
+}
+
+// What the chunk between `before` and `end` joins: with merging an ordinary chunk just below, then any free one just above.
+pub fn join(
+    region: &[u32],
+    bytes: u32,
+    donor: Chunk,
+    top: Chunk,
+    merge: bool,
+    before: Chunk,
+    chunk: Chunk,
+    end: u32,
+) -> Joined
+    ensures { λ r. ⌜ r ≡ joinM (now (region .entry)) bytes (donor .0) (top .0) merge (before .0) (chunk .0) end ⌝ }
+{
+    let lower = is_ordinary(neighbour(region, bytes, donor, top, merge, before));
+    let above = neighbour(region, bytes, donor, top, merge, Chunk(end));
+    let to = reach(region, above, end);
+    let flags = word(region, Chunk(to), BACKWARD) % 8;
+    Joined {
+        below: below_of(region, lower, before),
+        chunk: lower_of(lower, before, chunk),
+        end: to,
+        flags: flags,
+        becomes: joined_as(above),
+        lower: lower,
+        upper: is_ordinary(above),
+    }
+}
+
+// A chunk that joins leaves its bin.
+fn leave_joined(region: &mut [u32], heads: &mut [u32], tails: &mut [u32], joins: bool, chunk: Chunk)
+    ensures { λ _. ⌜ books (now (region .exit)) (now (heads .exit)) (now (tails .exit)) ≡ leavesM (books (now (region .entry)) (now (heads .entry)) (now (tails .entry))) joins (chunk .0) ⌝ }
+{
+    if !joins {
+        return;
+    }
+    leave(region, heads, tails, chunk);
+}
+
+// Into the bin of its size. A chunk of less than 24 bytes, which no heap that passes has, has no bin and is put nowhere.
+pub fn put_in_bin(
+    region: &mut [u32],
+    heads: &mut [u32],
+    tails: &mut [u32],
+    table: &[u32],
+    chunk: Chunk,
+    size: u32,
+)
+    ensures { λ _. ⌜ books (now (region .exit)) (now (heads .exit)) (now (tails .exit)) ≡ putInBinM (books (now (region .entry)) (now (heads .entry)) (now (tails .entry))) (now (table .entry)) (chunk .0) size ⌝ }
+{
+    let small = small_bins(table);
+    let binned = bin_of(table, size);
+    let Binned::Bin(bin) = binned else {
+        return;
+    };
+    put(region, heads, tails, small, bin, chunk);
+}
+
+// The bin words of the result: donor and top are in no bin.
+pub fn settle(
+    region: &mut [u32],
+    heads: &mut [u32],
+    tails: &mut [u32],
+    table: &[u32],
+    becomes: Kind,
+    chunk: Chunk,
+    size: u32,
+)
+    ensures { λ _. ⌜ books (now (region .exit)) (now (heads .exit)) (now (tails .exit)) ≡ settleM (books (now (region .entry)) (now (heads .entry)) (now (tails .entry))) (now (table .entry)) becomes (chunk .0) size ⌝ }
+{
+    if !is_ordinary(becomes) {
+        write_no_bin(region, chunk);
+        return;
+    }
+    put_in_bin(region, heads, tails, table, chunk, size);
+}
+
+// The writes. `lower` and `upper` are the neighbours that `joined` was made of; those that joined leave their bins, the lower one first.
+pub fn give_back(
+    region: &mut [u32],
+    heads: &mut [u32],
+    tails: &mut [u32],
+    table: &[u32],
+    joined: Joined,
+    lower: Chunk,
+    upper: Chunk,
+)
+    ensures { λ _. ⌜ books (now (region .exit)) (now (heads .exit)) (now (tails .exit)) ≡ giveBackM (books (now (region .entry)) (now (heads .entry)) (now (tails .entry))) (now (table .entry)) joined (lower .0) (upper .0) ⌝ }
+{
+    leave_joined(region, heads, tails, joined.lower, lower);
+    leave_joined(region, heads, tails, joined.upper, upper);
+    write_free(region, joined.below, joined.chunk, Chunk(joined.end));
+    write_above(region, joined.chunk, Chunk(joined.end), joined.flags);
+    let size = distance(joined.chunk.0, joined.end);
+    let becomes = joined.becomes;
+    settle(region, heads, tails, table, becomes, joined.chunk, size);
+}
