@@ -251,11 +251,9 @@ module _ (ws : List ℕ) (h : Heap) (big : 40 ≤ h .bytes) (small : h .bytes �
       (number-is (tallyFor h es .used) (h .used)))
       (itself (allWhole ws (tableOf h) (h .heads) (h .tails) (h .bytes) marked-all (numbersFrom 0 (length (tableOf h))))))
       (number-is (metAll ws (tableOf h) (h .heads) (h .tails) (h .bytes) (h .donor .0) (h .top .0) (h .used)) (tallyFor h es .ordinary)))
-      (λ t.
-      let facts =
-      found-facts ws h big
-      (record { sound = t .0 .0 .0 .0; end = t .0 .0 .0 .1 .0; top = t .0 .0 .0 .1 .1; donor = t .0 .0 .0 .1 .2 }) in
-      rest facts (t .0 .1) (t .1 ∙ tally-ordinary h es) (t .0 .0 .1))
+      (λ ((((sound, (end, top, donor)), used), whole), count).
+      rest (found-facts ws h big (record { sound = sound; end = end; top = top; donor = donor }))
+      whole (count ∙ tally-ordinary h es) used)
       (λ r.
       let f = facts-found ws h big (r .chain) in
       let c = combs r in (
@@ -274,7 +272,7 @@ length-iff : (ws : List ℕ) (h : Heap) → Decides (fitsLength (length ws) (h .
 unfolding fitsLength
 length-iff ws h =
     meaning (both (both (at-most 10 (length ws)) (at-most (length ws) 16384)) (number-is (length ws / 2 * 8) (h .bytes)))
-    (λ t. record { enough = t .0 .0; notTooMany = t .0 .1; bytes = omega (arith, t .1) })
+    (λ ((enough, most), bytes). record { enough = enough; notTooMany = most; bytes = omega (arith, bytes) })
     (λ f. ((f .enough, f .notTooMany), omega (arith, f .bytes)))
 
 tabled-iff : (h : Heap) → Places h → Decides (tabledAs (h .bins) (h .sizes) (h .heads) (h .tails)) (Tabled h)
@@ -287,16 +285,16 @@ tabled-iff h p =
     (zeros-from (h .bins) (h .sizes)))
     (zeros-from (h .bins) (h .heads)))
     (zeros-from (h .bins) (h .tails)))
-    (λ t.
+    (λ ((((bins, valid), sizesEnd), headsEnd), tailsEnd).
     record {
       sizePlaces = p .sizes;
       headPlaces = p .heads;
       tailPlaces = p .tails;
-      bins = omega (arith, p .sizes, t .0 .0 .0 .0);
-      valid = t .0 .0 .0 .1;
-      sizesEnd = t .0 .0 .1;
-      headsEnd = t .0 .1;
-      tailsEnd = t .1;
+      bins = omega (arith, p .sizes, bins);
+      valid = valid;
+      sizesEnd = sizesEnd;
+      headsEnd = headsEnd;
+      tailsEnd = tailsEnd;
     })
     (λ f. ((((omega (arith, p .sizes, f .bins), f .valid), f .sizesEnd), f .headsEnd), f .tailsEnd))
 

@@ -51,15 +51,8 @@ module _ (ws table : List ℕ) (valid : ValidTable table) (all : List ℕ) where
           meaning
           (both (both (both (both (number-is (c % 8) 0) (k c e)) (number-is (word ws c bin) (i % 32 * 8)))
           (number-is (word ws c previousInBin) p)) (takes-iff table valid i (word ws c size)))
-          (λ t.
-          record {
-            eight = t .0 .0 .0 .0;
-            known = t .0 .0 .0 .1 .0;
-            new = t .0 .0 .0 .1 .1;
-            bins = t .0 .0 .1;
-            back = t .0 .1;
-            takes = t .1;
-          })
+          (λ ((((eight, (known, new)), bins), back), takes).
+          record { eight = eight; known = known; new = new; bins = bins; back = back; takes = takes })
           (λ m. ((((m .eight, (m .known, m .new)), m .bins), m .back), m .takes))
       go (no n) =
           (λ h. absurd (false≢true (off-eights ws table i ms p c n ∙ h)), λ m. absurd (n (m .eight)))

@@ -21,7 +21,7 @@ module _ (ws : List ℕ) (h : Heap) where
   fits-iff : Decides (fits ws h) (Fits ws h)
   fits-iff =
       meaning (both (both (at-most 10 (length ws)) (at-most (length ws) 16384)) (number-is (h .bytes) (heapBytes (length ws))))
-      (λ t. record { enough = t .0 .0; notTooMany = t .0 .1; bytes = t .1 })
+      (λ ((enough, most), bytes). record { enough = enough; notTooMany = most; bytes = bytes })
       (λ f. ((f .enough, f .notTooMany), f .bytes))
 
   tabled-iff : Decides (tabled h) (Tabled h)
@@ -36,16 +36,16 @@ module _ (ws : List ℕ) (h : Heap) where
       (zeros-from (h .bins) (h .sizes)))
       (zeros-from (h .bins) (h .heads)))
       (zeros-from (h .bins) (h .tails)))
-      (λ t.
+      (λ (((((((sizes, heads), tails), bins), valid), sizesEnd), headsEnd), tailsEnd).
       record {
-        sizePlaces = t .0 .0 .0 .0 .0 .0 .0;
-        headPlaces = t .0 .0 .0 .0 .0 .0 .1;
-        tailPlaces = t .0 .0 .0 .0 .0 .1;
-        bins = t .0 .0 .0 .0 .1;
-        valid = t .0 .0 .0 .1;
-        sizesEnd = t .0 .0 .1;
-        headsEnd = t .0 .1;
-        tailsEnd = t .1;
+        sizePlaces = sizes;
+        headPlaces = heads;
+        tailPlaces = tails;
+        bins = bins;
+        valid = valid;
+        sizesEnd = sizesEnd;
+        headsEnd = headsEnd;
+        tailsEnd = tailsEnd;
       })
       (λ f.
       (((((((f .sizePlaces, f .headPlaces), f .tailPlaces), f .bins), f .valid), f .sizesEnd), f .headsEnd), f .tailsEnd))
@@ -56,7 +56,7 @@ module _ (ws : List ℕ) (h : Heap) where
       (both
       (both (number-is (lastOr outside es .place + 8) (h .bytes)) (number-is (word ws (lastOr outside es .place) forward) 0))
       (for-each (λ e. number-is (e .place % 8) 0) es))
-      (λ t. record { reachesEnd = t .0 .0; endsThere = t .0 .1; eights = t .1 })
+      (λ ((reaches, ends), eights). record { reachesEnd = reaches; endsThere = ends; eights = eights })
       (λ f. ((f .reachesEnd, f .endsThere), f .eights))
 
   backed-iff : (p : ℕ) (es : List Entry) → Decides (backed ws p es) (Backed ws p es)
@@ -70,7 +70,7 @@ module _ (ws : List ℕ) (h : Heap) where
       (both
       (both (at-most (e .flags) 1) (if-then (less 0 (e .place)) (if-then (less (e .place + 8) (h .bytes)) (at-most 24 (e .size)))))
       (if-then (number-is (e .flags) 0) (number-is (word ws (e .place) size) (e .size))))
-      (λ t. record { flags = t .0 .0; room = t .0 .1; sized = t .1 })
+      (λ ((flags, room), sized). record { flags = flags; room = room; sized = sized })
       (λ f. ((f .flags, f .room), f .sized))
 
   reserved-iff : (c : ℕ) (e : Entry) → Decides (reserved ws c e) (Reserved ws c e)
@@ -79,12 +79,8 @@ module _ (ws : List ℕ) (h : Heap) where
       (both
       (both (number-is (e .place) c) (number-is (e .flags) 0))
       (both (both (number-is (word ws c nextInBin) 0) (number-is (word ws c previousInBin) 0)) (number-is (word ws c bin) 0)))
-      (λ t.
-      record {
-        here = t .0 .0;
-        free = t .0 .1;
-        out = record { next = t .1 .0 .0; previous = t .1 .0 .1; bin = t .1 .1 };
-      })
+      (λ ((here, free), ((next, previous), bin)).
+      record { here = here; free = free; out = record { next = next; previous = previous; bin = bin } })
       (λ f. ((f .here, f .free), ((f .out .next, f .out .previous), f .out .bin)))
 
   linked-iff : (p : ℕ) (cs : List ℕ) → Decides (linked ws p cs) (Linked ws p cs)
@@ -92,8 +88,8 @@ module _ (ws : List ℕ) (h : Heap) where
   linked-iff p (c ∷ cs) =
       meaning
       (both (both (number-is (word ws c previousInBin) p) (number-is (word ws c nextInBin) (headOr 0 cs))) (linked-iff c cs))
-      (λ t. (t .0 .0, t .0 .1, t .1))
-      (λ f. ((f .0, f .1), f .2))
+      (λ ((previous, next), rest). (previous, next, rest))
+      (λ (previous, next, rest). ((previous, next), rest))
 
   bin-iff : (i : ℕ) (r : Binned) → Decides (isBin i r) (r ≡ Bin i)
   bin-iff i (Bin j) =
@@ -112,7 +108,8 @@ module _ (ws : List ℕ) (h : Heap) where
       (once cs))
       (for-each (λ c. for-some (λ e. both (number-is (e .place) c) (belongs-iff i e)) es) cs))
       (for-each (λ c. number-is (word ws c bin) (8 * i)) cs))
-      (λ t. record { tail = t .0 .0 .0 .0; links = t .0 .0 .0 .1; once = t .0 .0 .1; chunks = t .0 .1; words = t .1 })
+      (λ ((((tail, links), once), chunks), words).
+      record { tail = tail; links = links; once = once; chunks = chunks; words = words })
       (λ f. ((((f .tail, f .links), f .once), f .chunks), f .words))
 
   in-bin-iff : (c : ℕ) (r : Binned)
@@ -139,19 +136,19 @@ module _ (ws : List ℕ) (h : Heap) where
       (for-below (λ i. listed-iff es i (binList ws h i)) (h .bins)))
       (for-each (λ e. if-then (itself (ordinary h e)) (in-bin-iff (e .place) (binOf (tableOf h) (e .size)))) es))
       (number-is (h .used) (usedBytes h es)))
-      (λ t.
+      (λ ((((((((((fits, table), chain), ends), backward), chunks), top), donor), bins), binned), used).
       record {
-        fits = t .0 .0 .0 .0 .0 .0 .0 .0 .0 .0;
-        table = t .0 .0 .0 .0 .0 .0 .0 .0 .0 .1;
-        chain = t .0 .0 .0 .0 .0 .0 .0 .0 .1;
-        ends = t .0 .0 .0 .0 .0 .0 .0 .1;
-        backward = t .0 .0 .0 .0 .0 .0 .1;
-        chunks = t .0 .0 .0 .0 .0 .1;
-        top = t .0 .0 .0 .0 .1;
-        donor = t .0 .0 .0 .1;
-        bins = t .0 .0 .1;
-        binned = t .0 .1;
-        used = t .1;
+        fits = fits;
+        table = table;
+        chain = chain;
+        ends = ends;
+        backward = backward;
+        chunks = chunks;
+        top = top;
+        donor = donor;
+        bins = bins;
+        binned = binned;
+        used = used;
       })
       (λ f.
       ((((((((((f .fits, f .table), f .chain), f .ends), f .backward), f .chunks), f .top), f .donor), f .bins), f .binned), f .used))
@@ -162,7 +159,7 @@ module _ (ws : List ℕ) (h : Heap) where
           (both
           (both (number-is (headOr outside es .size) 8) (number-is (headOr outside es .flags) 1))
           (number-is (lastOr outside es .flags) 1))
-          (λ t. record { startSize = t .0 .0; startUsed = t .0 .1; endUsed = t .1 })
+          (λ ((size, starts), ends). record { startSize = size; startUsed = starts; endUsed = ends })
           (λ f. ((f .startSize, f .startUsed), f .endUsed))
 
   pub passes-iff : Decides (passes ws h) (Passes ws h)

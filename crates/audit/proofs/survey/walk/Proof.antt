@@ -29,41 +29,43 @@ same-length c = search needs
 
 returns : tie.Need-returns Inv-loop μ-loop
 returns c =
-    let l = c .before .before .before .before .before in
-    walk-breaks _ _ _ _ _ _ _ _ _ (c .before .before .before .before .word .ensures)
-    (c .before .before .before .end-of .ensures) (c .before .before .examine .ensures) (omega arith) _ _ _ (l .loop .inv .0)
-    (c .enum-told .given .1)
+    let examined = c .before .before in
+    let ended = examined .before in
+    let read = ended .before in
+    walk-breaks _ _ _ _ _ _ _ _ _ (read .word .ensures) (ended .end-of .ensures) (examined .examine .ensures) (omega arith) _ _ _
+    (read .before .loop .inv .0) (c .enum-told .given .1)
 
 same-length-2 : tie.Need-same-length-2 Inv-loop μ-loop
 same-length-2 c = search needs
 
 returns-2 : tie.Need-returns-2 Inv-loop μ-loop
 returns-2 c =
-    let l = c .before .before .before .before .before .before .before .before .before .before .before .before .before in
-    let s = c .before .before .before .before .before .before .before .before in
-    walk-ends _ _ _ _ _ _ _ _ _ (c .before .before .before .before .before .before .before .before .before .before .before .before .word .ensures) (c .before .before .before .before .before .before .before .before .before .before .before .end-of .ensures) (c .before .before .before .before .before .before .before .before .before .before .examine .ensures)
-    (omega arith) _ _ _ (l .loop .inv .0) _ (s .seen .given .1) _ (c .before .before .share-of .ensures) _ (c .before .added .ensures)
+    let told = c .before .before .before .before .before .before .before .before in
+    let read = told .before .before .before .before in
+    walk-ends _ _ _ _ _ _ _ _ _ (read .word .ensures) (told .before .before .before .end-of .ensures)
+    (told .before .before .examine .ensures) (omega arith) _ _ _ (read .before .loop .inv .0)
+    _ (told .seen .given .1) _ (c .before .before .share-of .ensures) _ (c .before .added .ensures)
     _ (c .before .before .before .before .before .mark .ensures) (c .if1 .taken)
 
 loop-less : tie.Need-loop-less Inv-loop μ-loop
 loop-less c =
-    let l = c .before .before .before .before .before .before .before .before .before .before .before .before .before in
-    let s = c .before .before .before .before .before .before .before .before in
-    let g =
-    walk-goes _ _ _ _ _ _ _ _ _ (c .before .before .before .before .before .before .before .before .before .before .before .before .word .ensures) (c .before .before .before .before .before .before .before .before .before .before .before .end-of .ensures) (c .before .before .before .before .before .before .before .before .before .before .examine .ensures)
-    (omega arith) _ _ _ (l .loop .inv .0) _ (s .seen .given .1) _ (c .before .before .share-of .ensures) _ (c .before .added .ensures)
+    let told = c .before .before .before .before .before .before .before .before in
+    let read = told .before .before .before .before in
+    let goes = walk-goes _ _ _ _ _ _ _ _ _ (read .word .ensures) (told .before .before .before .end-of .ensures)
+    (told .before .before .examine .ensures) (omega arith) _ _ _ (read .before .loop .inv .0)
+    _ (told .seen .given .1) _ (c .before .before .share-of .ensures) _ (c .before .added .ensures)
     _ (c .before .before .before .before .before .mark .ensures) (c .if1 .left) in
-    omega (arith, g .0, g .1)
+    omega (arith, goes .0, goes .1)
 
 loop-again : tie.Need-loop-again Inv-loop μ-loop
 loop-again c =
-    let l = c .before .before .before .before .before .before .before .before .before .before .before .before .before in
-    let s = c .before .before .before .before .before .before .before .before in (
-      walk-goes _ _ _ _ _ _ _ _ _ (c .before .before .before .before .before .before .before .before .before .before .before .before .word .ensures) (c .before .before .before .before .before .before .before .before .before .before .before .end-of .ensures) (c .before .before .before .before .before .before .before .before .before .before .examine .ensures)
-          (omega arith) _ _ _ (l .loop .inv .0) _ (s .seen .given .1) _ (c .before .before .share-of .ensures) _ (c .before .added .ensures)
-          _ (c .before .before .before .before .before .mark .ensures) (c .if1 .left) .2,
-      search needs,
-    )
+    let told = c .before .before .before .before .before .before .before .before in
+    let read = told .before .before .before .before in
+    let goes = walk-goes _ _ _ _ _ _ _ _ _ (read .word .ensures) (told .before .before .before .end-of .ensures)
+    (told .before .before .examine .ensures) (omega arith) _ _ _ (read .before .loop .inv .0)
+    _ (told .seen .given .1) _ (c .before .before .share-of .ensures) _ (c .before .added .ensures)
+    _ (c .before .before .before .before .before .mark .ensures) (c .if1 .left) in
+    (goes .2, search needs)
 
 pub walk-spec : {M : Type 1} → statement M
 walk-spec =
