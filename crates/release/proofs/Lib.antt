@@ -1,1 +1,4 @@
 pub mod ReleaseSteps
+pub mod DraftLaws
+pub mod JoinMeaning
+pub mod ReleaseMeaning

@@ -1,4 +1,5 @@
--- Where a chunk is given back, what the code's calls come to, step by step, over plain variables. Assumes nothing.
+-- Where a chunk is given back, what the code's calls come to, step by step, over plain variables.
+-- What they mean for a heap is not looked at here. Assumes nothing.
 use mathlib.Core.Path.{_≡_}
 use mathlib.Core.List.{List}
 use Prim.Native.Nat.{ℕ, _-_}

@@ -6,7 +6,7 @@ use Prim.Native.Nat.{ℕ, _-_}
 use Rattle.bins.specs.Books.{Books, books, leaveM, putIntoM}
 use Rattle.headers.specs.Headers.{aboveWords, freeWords}
 use Rattle.record.specs.declared.kinds.Kind.{Kind}
-use Rattle.record.specs.declared.kinds.Kind.the-variants.{InUse}
+use Rattle.record.specs.declared.kinds.Kind.the-variants.{Start, InUse, Ordinary, Donor, Top, End}
 use Rattle.record.specs.declared.table.Binned.{Binned}
 use Rattle.record.specs.declared.table.Binned.the-variants.{Bin, NoBin}
 use Rattle.record.specs.Heap.{at}
@@ -39,6 +39,23 @@ joinedM ws under over before c end =
 unfoldable pub joinM : List ℕ → ℕ → ℕ → ℕ → Bool → ℕ → ℕ → ℕ → Joined
 joinM ws bytes donor top merge before c end =
     joinedM ws (neighbourM ws bytes donor top merge before) (neighbourM ws bytes donor top merge end) before c end
+
+-- the record's donor and top where the chunk at c is settled
+abbrev pub donorAfter : Kind → ℕ → ℕ → ℕ
+donorAfter Start c donor = donor
+donorAfter InUse c donor = donor
+donorAfter Ordinary c donor = donor
+donorAfter Donor c donor = c
+donorAfter Top c donor = donor
+donorAfter End c donor = donor
+
+abbrev pub topAfter : Kind → ℕ → ℕ → ℕ
+topAfter Start c top = top
+topAfter InUse c top = top
+topAfter Ordinary c top = top
+topAfter Donor c top = top
+topAfter Top c top = c
+topAfter End c top = top
 
 unfoldable pub leavesM : Books → Bool → ℕ → Books
 leavesM b joins c = cond joins (leaveM b c) b

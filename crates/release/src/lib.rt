@@ -1,10 +1,10 @@
 // A chunk is given back: what it joins, and then the writes that put the result in its place. All is decided before the first write.
-// How the chunk was found is not known here, and the record's donor, top and used bytes are the caller's to set.
+// How the chunk was found is not known here, and the record is the caller's to set.
 ghost use mathlib.Core.Path.{_≡_};
 ghost use mathlib.Core.Bool.{cond};
 ghost use Rattle.bins.specs.Books.{books};
 ghost use Rattle.region.specs.Words.{word, backward, forward};
-ghost use Rattle.release.specs.Release.{giveBackM, joinM, leavesM, neighbourM, putInBinM, settleM};
+ghost use Rattle.release.specs.Release.{donorAfter, giveBackM, joinM, leavesM, neighbourM, putInBinM, settleM, topAfter};
 ghost use Rattle.rules.specs.Join.{joinedAs};
 ghost use Rattle.rules.specs.Kinds.{freeKind};
 use bins::leave;
@@ -66,6 +66,33 @@ pub fn joined_as(above: Kind) -> Kind
         Kind::Donor => Kind::Donor,
         Kind::Top => Kind::Top,
         Kind::End => Kind::Ordinary,
+    }
+}
+
+// The record's donor and top, once the chunk that came of a joining is in its place.
+pub fn donor_after(becomes: Kind, chunk: Chunk, donor: Chunk) -> Chunk
+    ensures { λ r. ⌜ r .0 ≡ donorAfter becomes (chunk .0) (donor .0) ⌝ }
+{
+    match becomes {
+        Kind::Start => donor,
+        Kind::InUse => donor,
+        Kind::Ordinary => donor,
+        Kind::Donor => chunk,
+        Kind::Top => donor,
+        Kind::End => donor,
+    }
+}
+
+pub fn top_after(becomes: Kind, chunk: Chunk, top: Chunk) -> Chunk
+    ensures { λ r. ⌜ r .0 ≡ topAfter becomes (chunk .0) (top .0) ⌝ }
+{
+    match becomes {
+        Kind::Start => top,
+        Kind::InUse => top,
+        Kind::Ordinary => top,
+        Kind::Donor => top,
+        Kind::Top => chunk,
+        Kind::End => top,
     }
 }
 

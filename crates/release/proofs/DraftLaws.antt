@@ -1,0 +1,222 @@
+-- The rules' steps on a heap in the making, beside what the code makes of its books: a chunk leaves its bin, a chunk is linked in,
+-- a chunk is put into its bin. After each step the books are those of the draft. Assumes nothing.
+use mathlib.Core.Path.{_≡_, refl, ap}
+use mathlib.Core.Logic.{_≢_, _⊎_, inl, inr}
+use mathlib.Core.Bool.{Bool, true, false, cond}
+use mathlib.Core.List.{List, [], _∷_, _++_}
+use Prim.Native.Nat.{ℕ, _+_, _-_, _/_, _%_, _^_, _≤_, _<_}
+use native.Mathlib.Decide.{ℕ-discrete, decLt}
+use native.Mathlib.Nat.{add-zero}
+use native.Mathlib.Omega.{arith}
+use lib.Dec.{eqb, ltb}
+use lib.ListN.{length, getD, set, length-take}
+use borrow.Author.Tests.{eq-eqb, ne-eqb}
+use Rattle.lists.specs.Lists.{Mem, headOr, lastOr, upTo, past}
+use Rattle.lists.proofs.MembersLaws.{member-without}
+use Rattle.record.specs.declared.heap.Heap.{Heap}
+use Rattle.record.specs.declared.kinds.Kind.{Kind}
+use Rattle.record.specs.declared.kinds.Kind.the-variants.{Start, InUse, Ordinary, Donor, Top, End}
+use Rattle.record.specs.declared.table.Binned.the-variants.{Bin}
+use Rattle.record.specs.Heap.{tableOf, with, withEnds, withDonor, withTop}
+use Rattle.record.specs.Table.{smallBins, binOf}
+use Rattle.record.proofs.TableLaws.{bin-from}
+use Rattle.region.specs.Words.{Store, put, written, backward, forward, size, nextInBin, previousInBin, bin}
+use Rattle.region.proofs.WordsLaws.{Off, length-written, written-append}
+use Rattle.headers.specs.Headers.{aboveWords, freeWords}
+use Rattle.rules.specs.Shape.{Entry, entry, binList}
+use Rattle.rules.specs.Kinds.{unused, outside}
+use Rattle.rules.specs.Check.{Passes}
+use Rattle.rules.specs.Draft.{Draft, asRead, meet, leave, leaveBin, putBetween, putInto, putInBin, noBinWords, relink, settle}
+use Rattle.rules.specs.Join.{joinedAs}
+use Rattle.bins.specs.Books.{Books, books, leaveM, putM, putIntoM}
+use Rattle.bins.proofs.RunsLaws.{Node}
+use Rattle.bins.proofs.BooksLaws.{Far, putStores}
+use Rattle.bins.proofs.WayLaws.{OnWay, split-at-member, way-begins, way-keeps, way-leaves, way-left-far, way-stays, way-puts-head, way-puts-tail}
+use Rattle.release.specs.Release.{putBinnedM, putInBinM, alsoWritten, settleM, donorAfter, topAfter}
+
+-- the words and the ends of a draft
+abbrev pub booksOf : List ℕ → Draft → Books
+booksOf ws d = books (written ws (d .stores)) (d .heap .heads) (d .heap .tails)
+
+-- on the way from a heap that passes chunks have left bins, and nothing else has changed for those that are still there
+pub record Follows (ws : List ℕ) (h : Heap) (d : Draft) : Type 0 where
+  pub way : OnWay (booksOf ws d) (d .lists) (h .bins)
+  pub from : (j c : ℕ) → j < h .bins → Mem c (d .lists j) → Mem c (binList ws h j)
+  pub table : tableOf (d .heap) ≡ tableOf h
+  pub heap : d .heap ≡ with h (d .heap .heads) (d .heap .tails) (h .donor .0) (h .top .0) (h .merge) (h .used)
+  pub housed : d .homeless ≡ false
+
+pub begins : (ws : List ℕ) (h : Heap) → Passes ws h → Follows ws h (asRead ws h)
+unfolding asRead
+begins ws h p =
+    record { way = way-begins ws h p; from = λ j c l m. m; table = refl; heap = refl; housed = refl }
+
+-- the chunk e leaves its bin, which makes `after` of the draft d
+pub record Gone (ws : List ℕ) (h : Heap) (d : Draft) (e : Entry) (after : Draft) : Type 0 where
+  pub is : leaveM (booksOf ws d) (e .place) ≡ booksOf ws after
+  pub follows : Follows ws h after
+  pub stays : (j c : ℕ) → j < h .bins → Mem c (after .lists j) → Mem c (d .lists j)
+  pub keeps : (j c : ℕ) → c ≢ e .place → Mem c (d .lists j) → Mem c (after .lists j)
+  pub far : (j c : ℕ) → j < h .bins → Mem c (after .lists j) → Far (e .place) c
+
+-- a chunk of s bytes at c takes its place, which makes `after` of a draft with the books b
+pub record Settled (ws : List ℕ) (h : Heap) (b : Books) (k : Kind) (c s : ℕ) (after : Draft) : Type 0 where
+  pub is : settleM b (tableOf h) k c s ≡ booksOf ws after
+  pub housed : after .homeless ≡ false
+  pub heap : after .heap ≡ with h (after .heap .heads) (after .heap .tails) (donorAfter k c (h .donor .0)) (topAfter k c (h .top .0)) (h .merge) (h .used)
+
+module _ (ws : List ℕ) (h : Heap) (d : Draft) (f : Follows ws h d) where
+  module _ (e : Entry) (i : ℕ) (l : i < h .bins) (t : binOf (tableOf h) (e .size) ≡ Bin i) (m : Mem (e .place) (d .lists i)) where
+    leaves-is : leaveBin e d ≡ leave i (e .place) d
+    unfolding leaveBin
+    leaves-is = rw (f .table, t)
+
+    stays-listed : (xs ys cs : List ℕ) → cs ≡ xs ++ e .place ∷ ys → d .lists i ≡ cs → (j c : ℕ) → c ≢ e .place → Mem c (d .lists j)
+        → Mem c (cond (eqb j i) (xs ++ ys) (d .lists j))
+    stays-listed xs ys cs s q j c ne k = go (ℕ-discrete j i)
+      where
+        own : (c ≡ e .place) ⊎ Mem c (xs ++ ys) → Mem c (xs ++ ys)
+        own (inl z) = absurd (ne z)
+        own (inr z) = z
+
+        go : Dec (j ≡ i) → Mem c (cond (eqb j i) (xs ++ ys) (d .lists j))
+        go (yes z) = rw (eq-eqb j i z) (own (member-without xs (e .place) ys (rw (z, q, s) at k)))
+        go (no n) = rw (ne-eqb j i n) k
+
+    pub leave-step : Gone ws h d e (leaveBin e d)
+    unfolding leave
+    leave-step =
+        rw leaves-is
+        (let w = way-leaves (booksOf ws d) (d .lists) (h .bins) (f .way) i (e .place) l m in
+        let xs = upTo (eqb (e .place)) (d .lists i) in
+        let ys = past (eqb (e .place)) (d .lists i) in
+        let a = written-append (d .stores) (meet xs ys) ws in
+        record {
+          is = rw a (w .0);
+          follows =
+              record {
+                way = rw a (w .1);
+                from = λ j c lj k. f .from j c lj (way-stays (booksOf ws d) (d .lists) (h .bins) (f .way) i (e .place) l m j k);
+                table = f .table;
+                heap = ap (λ (x : Heap). withEnds x (set (d .heap .heads) i (headOr 0 (xs ++ ys))) (set (d .heap .tails) i (lastOr 0 (xs ++ ys)))) (f .heap);
+                housed = f .housed;
+              };
+          stays = λ j c lj k. way-stays (booksOf ws d) (d .lists) (h .bins) (f .way) i (e .place) l m j k;
+          keeps = λ j c ne k. stays-listed xs ys (d .lists i) (split-at-member m) refl j c ne k;
+          far = λ j c lj k. way-left-far (booksOf ws d) (d .lists) (h .bins) (f .way) i (e .place) l m j c lj k;
+        })
+
+  -- a free chunk from one place to another is linked in between low and high
+  module _ (low high : List Entry) (c to : ℕ) (up : c ≤ to) (next : headOr outside high .place ≡ to)
+      (small : c + headOr outside high .flags < 4294967296) where
+    abbrev linked : Draft
+    linked = relink low (entry c (to - c) unused ∷ []) high d
+
+    abbrev headerStores : List Store
+    headerStores =
+        put c forward to ∷ put c backward (lastOr outside low .place) ∷ put c size (to - c)
+        ∷ put to backward (c + headOr outside high .flags) ∷ []
+
+    linked-words : written ws (linked .stores) ≡ written (written ws (d .stores)) headerStores
+    unfolding relink
+    linked-words =
+        let z : c + (to - c) ≡ to = omega arith in
+        rw (z, next, add-zero, written-append, written-append)
+
+    pub link-step : alsoWritten (alsoWritten (booksOf ws d) (freeWords (lastOr outside low .place) c to)) (aboveWords c to (headOr outside high .flags)) ≡ booksOf ws linked
+    unfolding relink freeWords aboveWords
+    link-step =
+        let m : (c + headOr outside high .flags) % 2 ^ 32 ≡ c + headOr outside high .flags = omega arith in
+        rw (m, linked-words)
+
+    -- no member's header reaches up to one that is written
+    pub link-follows : ((j x : ℕ) → j < h .bins → Mem x (binList ws h j) → (x < c → x + 24 ≤ c) × (x < to → x + 24 ≤ to))
+        → c % 8 ≡ 0 → to % 8 ≡ 0 → Follows ws h linked
+    unfolding relink
+    link-follows g zc zt =
+        record {
+          way = rw linked-words (way-keeps (booksOf ws d) (d .lists) (h .bins) (f .way) headerStores apart);
+          from = f .from;
+          table = f .table;
+          heap = f .heap;
+          housed = f .housed;
+        }
+      where
+        by : (x : ℕ) → x % 8 ≡ 0 → Dec (x < c) → Dec (x < to) → (x < c → x + 24 ≤ c) × (x < to → x + 24 ≤ to)
+            → Off (x / 4 + nextInBin) headerStores × Off (x / 4 + previousInBin) headerStores × Off (x / 4 + bin) headerStores
+        by x z (yes p) (yes q) r = let a = r .0 p in let b = r .1 q in omega arith
+        by x z (yes p) (no q) r = let a = r .0 p in omega arith
+        by x z (no p) (yes q) r = let b = r .1 q in omega arith
+        by x z (no p) (no q) r = omega arith
+
+        apart : (j x : ℕ) → j < h .bins → Mem x (d .lists j)
+            → Off (x / 4 + nextInBin) headerStores × Off (x / 4 + previousInBin) headerStores × Off (x / 4 + bin) headerStores
+        apart j x l m = by x (f .way .holds j l .nodes x m .eight) (decLt x c) (decLt x to) (g j x l (f .from j x l m))
+
+  -- a chunk far from all that are in bins is put into the bin of its size
+  module _ (p : Passes ws h) (c s u : ℕ) (large : 24 ≤ s) (gc : Node (length ws) c)
+      (far : (j x : ℕ) → j < h .bins → Mem x (d .lists j) → Far c x) where
+    node : Node (length (written ws (d .stores))) c
+    node = rw length-written gc
+
+    put-into : (i : ℕ) → i < h .bins → (t : Bool)
+        → cond t (putM (booksOf ws d) i 0 c (getD (d .heap .heads) i 0)) (putM (booksOf ws d) i (getD (d .heap .tails) i 0) c 0)
+        ≡ booksOf ws (cond t (putBetween i [] c (d .lists i) d) (putBetween i (d .lists i) c [] d))
+    unfolding putBetween
+    put-into i l true =
+        rw (written-append (d .stores) (putStores i [] c (d .lists i)) ws)
+        (way-puts-head (booksOf ws d) (d .lists) (h .bins) (f .way) i c l node far .0)
+    put-into i l false =
+        rw (written-append (d .stores) (putStores i (d .lists i) c []) ws)
+        (way-puts-tail (booksOf ws d) (d .lists) (h .bins) (f .way) i c l node far .0)
+
+    pub put-step : putInBinM (booksOf ws d) (tableOf h) c s ≡ booksOf ws (putInBin (entry c s u) d)
+    unfolding putInBinM putBinnedM putIntoM putInBin putInto
+    put-step =
+        let b = bin-from (tableOf h) (p .table .valid) s large in
+        let l : b .0 < h .bins = omega (arith, b .2 .inside, length-take (h .bins) (h .sizes)) in
+        rw (f .table, b .1, f .table) (put-into (b .0) l (ltb (b .0) (smallBins (tableOf h))))
+
+    kept : (i : ℕ) (t : Bool) → let after = cond t (putBetween i [] c (d .lists i) d) (putBetween i (d .lists i) c [] d) in
+        (after .homeless ≡ false) × (after .heap ≡ with h (after .heap .heads) (after .heap .tails) (h .donor .0) (h .top .0) (h .merge) (h .used))
+    unfolding putBetween
+    kept i true =
+        (f .housed, ap (λ (x : Heap). withEnds x (set (d .heap .heads) i c) (set (d .heap .tails) i (lastOr c (d .lists i)))) (f .heap))
+    kept i false =
+        (f .housed, ap (λ (x : Heap). withEnds x (set (d .heap .heads) i (headOr 0 (d .lists i ++ c ∷ []))) (set (d .heap .tails) i (lastOr 0 (d .lists i ++ c ∷ [])))) (f .heap))
+
+    -- a bin takes it, and of the record only the bins' ends change
+    put-keeps : let after = putInBin (entry c s u) d in
+        (after .homeless ≡ false) × (after .heap ≡ with h (after .heap .heads) (after .heap .tails) (h .donor .0) (h .top .0) (h .merge) (h .used))
+    unfolding putInBin putInto
+    put-keeps =
+        let b = bin-from (tableOf h) (p .table .valid) s large in
+        rw (f .table, b .1) (kept (b .0) (ltb (b .0) (smallBins (tableOf (d .heap)))))
+
+    put-settles : Settled ws h (booksOf ws d) Ordinary c s (settle Ordinary (entry c s u) d)
+    unfolding settleM settle
+    put-settles = record { is = put-step; housed = put-keeps .0; heap = put-keeps .1 }
+
+    cleared-is : books (written (written ws (d .stores)) (noBinWords c)) (d .heap .heads) (d .heap .tails)
+        ≡ books (written ws (d .stores ++ noBinWords c)) (d .heap .heads) (d .heap .tails)
+    cleared-is = rw written-append
+
+    -- the chunk takes its place as what it becomes
+    pub settle-step : (over : Kind) → Settled ws h (booksOf ws d) (joinedAs over) c s (settle (joinedAs over) (entry c s u) d)
+    unfolding settleM settle
+    settle-step Start = put-settles
+    settle-step InUse = put-settles
+    settle-step Ordinary = put-settles
+    settle-step Donor =
+        record {
+          is = cleared-is;
+          housed = f .housed;
+          heap = ap (λ (x : Heap). withDonor x c) (f .heap);
+        }
+    settle-step Top =
+        record {
+          is = cleared-is;
+          housed = f .housed;
+          heap = ap (λ (x : Heap). withTop x c) (f .heap);
+        }
+    settle-step End = put-settles
