@@ -1,2 +1,2 @@
-// Granting a block: from where it comes (choose), and how the chunk is cut (take). The check and the refusals come before.
+// Granting a block: from where it comes. The check and the refusals come before.
 pub mod choose;
