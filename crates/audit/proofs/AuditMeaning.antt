@@ -408,3 +408,16 @@ module _ (ws : List ℕ) (h : Heap) (r : Audit) (k : AuditIs ws h r) where
   answer-counts c e =
       let j : (passes ws h ≡ true) × (c ≡ countsOf h (shape ws (h .bytes))) = subst (λ (q : Audit). AuditIs ws h q) e k in
       rw (j .0) (ap Counted (j .1))
+
+  -- and whether it passes
+  pub finds-failing : r ≡ found.Fails → false ≡ passes ws h
+  unfolding AuditIs
+  finds-failing e =
+      let j : passes ws h ≡ false = subst (λ (q : Audit). AuditIs ws h q) e k in
+      sym j
+
+  pub finds-passing : (c : Counts) → r ≡ found.Passes c → true ≡ passes ws h
+  unfolding AuditIs
+  finds-passing c e =
+      let j : (passes ws h ≡ true) × (c ≡ countsOf h (shape ws (h .bytes))) = subst (λ (q : Audit). AuditIs ws h q) e k in
+      sym (j .0)

@@ -2,7 +2,7 @@
 // bin's list that clears the marks. Nothing is written into the region.
 ghost use mathlib.Core.Path.{_≡_};
 ghost use Rattle.audit.specs.Audit.{fitsLength, settled, tabledAs, WalkedIs, AuditIs};
-ghost use Rattle.rules.specs.Check.{unusedFrom};
+ghost use Rattle.rules.specs.Check.{passes, unusedFrom};
 ghost use Rattle.rules.specs.Merge.{checked};
 use crate::survey::Survey;
 use crate::survey::Tally;
@@ -162,5 +162,16 @@ pub fn verdict(region: &[u32], h: Heap) -> Answer
     match found {
         Audit::Passes(counts) => Answer::Counted(counts),
         Audit::Fails => Answer::Refused(Refusal::HeapFails),
+    }
+}
+
+// The check as every other call asks for it.
+pub fn passes(region: &[u32], h: Heap) -> bool
+    ensures { λ r. ⌜ r ≡ passes (now (region .entry)) h ⌝ }
+{
+    let found = check(region, h);
+    match found {
+        Audit::Passes(_) => true,
+        Audit::Fails => false,
     }
 }

@@ -1,0 +1,33 @@
+-- `heap::ask_bin` gives the rule's answer about a bin, and changes nothing. Assumes nothing.
+use mathlib.Core.Path.{sym, _∙_}
+use borrow.Author.Needs.{needs}
+use borrow.Author.Tests.{not-true, not-false}
+use lib.Seq.{length-take-le}
+use Rattle.heap.proofs.CallLaws.{asks-bin, fails-bin, lent}
+use Rattle.heap.proofs.ask_bin.Statement.{statement}
+use Rattle.heap.proofs.ask_bin.Tie as tie
+
+returns : tie.Need-returns
+returns c =
+    rw (c .refused .ensures)
+    (fails-bin _ _ _ _ (sym (c .before .before .passes .ensures) ∙ not-true _ (c .before .if1 .taken)))
+
+returns-2 : tie.Need-returns-2
+returns-2 c = asks-bin _ _ (sym (c .before .before .before .before .before .before .before .passes .ensures) ∙ not-false _ (c .before .before .before .before .before .before .if1 .left)) _ _ _ (c .ask-bin .ensures)
+
+pub ask-bin-spec : {M : Type 1} → statement M
+ask-bin-spec =
+    tie.close
+    (tie.spec
+    (λ c κs. search needs)
+    (λ c κs. search needs)
+    (λ c. search needs)
+    returns
+    (λ c. search needs)
+    (λ c. lent _ _ (sym (c .before .before .before .passes .ensures) ∙ not-false _ (c .before .before .if1 .left)))
+    (λ c. sym (length-take-le _ _ (lent _ _ (sym (c .before .before .before .before .passes .ensures) ∙ not-false _ (c .before .before .before .if1 .left)))))
+    (λ c. search needs)
+    (λ c. search needs)
+    (λ c κs. search needs)
+    (λ c. search needs)
+    returns-2)
