@@ -1,1 +1,3 @@
+pub mod ChangeLaws
 pub mod CallLaws
+pub mod FreeLaws
