@@ -1,10 +1,8 @@
 -- The tests of one chunk: what the look at a chunk finds, from the tests that it makes. Assumes nothing.
 use mathlib.Core.Path.{_≡_, sym, _∙_, ap}
-use mathlib.Core.Bool.{Bool, true, false, not, cond}
+use mathlib.Core.Bool.{Bool, true, false, cond, _&&_}
 use mathlib.Core.List.{List}
 use Prim.Native.Nat.{ℕ, _%_}
-use borrow.Author.Tests.{not-true, not-false}
-use Rattle.lists.proofs.ListsLaws.{stops-at, goes-on}
 use Rattle.record.specs.declared.kinds.Kind.{Kind}
 use Rattle.region.specs.Words.{word, backward}
 use Rattle.rules.specs.Kinds.{kindAt}
@@ -19,21 +17,17 @@ module _ (ws : List ℕ) (bytes donor top p c s : ℕ) where
   unfolding seenAt
   finds e = rw e
 
-  pub found-unbacked : {t : Bool} → t ≡ backedAt ws p c → not t ≡ true → Unsound ≡ seenAt ws bytes donor top p c s
-  unfolding soundAt
-  found-unbacked e h = finds (stops-at _ e h)
-
   -- the second word, the kind read off it, and the two tests, as the code has them
   module _ {r : ℕ} {k : Kind} {t u : Bool} (er : r ≡ word ws c backward)
       (ek : k ≡ kindAt bytes donor top (entry c s (r % 8)))
-      (et : t ≡ backedAt ws p c) (ht : not t ≡ false)
+      (et : t ≡ backedAt ws p c)
       (eu : u ≡ soundAs ws bytes donor top (entry c s (r % 8)) k) where
-    tested : u ≡ soundAt ws bytes donor top p (entry c s (flagsAt ws c))
+    tested : t && u ≡ soundAt ws bytes donor top p (entry c s (flagsAt ws c))
     unfolding soundAt
-    tested = goes-on et ht (rw (← er, ← ek) eu)
+    tested = rw (← er, ← et, ← ek, eu)
 
-    pub found-unsound : not u ≡ true → Unsound ≡ seenAt ws bytes donor top p c s
-    found-unsound h = finds (sym (not-true u h) ∙ tested)
+    pub found-sound : t && u ≡ true → Sound k ≡ seenAt ws bytes donor top p c s
+    found-sound h = ap Sound (rw (← er) ek) ∙ finds (sym h ∙ tested)
 
-    pub found-sound : not u ≡ false → Sound k ≡ seenAt ws bytes donor top p c s
-    found-sound h = ap Sound (rw (← er) ek) ∙ finds (sym (not-false u h) ∙ tested)
+    pub found-unsound : t && u ≡ false → Unsound ≡ seenAt ws bytes donor top p c s
+    found-unsound h = finds (sym h ∙ tested)

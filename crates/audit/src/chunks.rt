@@ -137,12 +137,11 @@ pub fn examine(
     ensures { λ r. ⌜ r ≡ seenAt (now (region .entry)) bytes (donor .0) (top .0) (before .0) (chunk .0) size ⌝ }
 {
     let flags = word(region, chunk, BACKWARD) % 8;
-    if !is_backed(region, before, chunk) {
-        return Seen::Unsound;
-    }
     let kind = kind_of(bytes, donor, top, chunk, flags);
-    if !is_sound(region, bytes, donor, top, chunk, size, flags, kind) {
-        return Seen::Unsound;
+    let backed = is_backed(region, before, chunk);
+    let sound = is_sound(region, bytes, donor, top, chunk, size, flags, kind);
+    if backed & sound {
+        return Seen::Sound(kind);
     }
-    Seen::Sound(kind)
+    Seen::Unsound
 }
