@@ -32,7 +32,8 @@ use Rattle.seek.specs.declared.Sought.the-variants.{Found, Nowhere}
 use Rattle.seek.specs.Seek.{placed, soughtIn, hasBlock}
 use Rattle.seek.proofs.SeekLaws.{sought-block, sought-none}
 use Rattle.release.specs.declared.Joined.{Joined}
-use Rattle.release.specs.Release.{joinM, giveBackM, donorAfter, topAfter}
+use Rattle.release.specs.Release.{joinM, giveBackM}
+use Rattle.settling.specs.Settling.{donorAfter, topAfter}
 use Rattle.release.proofs.ReleaseMeaning.{place, after, found-is, give-back-is, after-heap, housed}
 use Rattle.heap.specs.Replies.{reply, refusing, changeM, givenUpM}
 use Rattle.heap.proofs.ChangeLaws.{change-kept}

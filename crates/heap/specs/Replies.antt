@@ -12,7 +12,8 @@ use Rattle.record.specs.declared.answers.Reply.{Reply}
 use Rattle.record.specs.declared.heap.Heap.{Heap}
 use Rattle.record.specs.Heap.{with}
 use Rattle.release.specs.declared.Joined.{Joined}
-use Rattle.release.specs.Release.{joinM, giveBackM, donorAfter, topAfter}
+use Rattle.release.specs.Release.{joinM, giveBackM}
+use Rattle.settling.specs.Settling.{donorAfter, topAfter}
 use Rattle.rules.specs.Statements.{Left}
 use Rattle.seek.specs.declared.Place.{Place}
 

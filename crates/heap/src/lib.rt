@@ -13,13 +13,13 @@ use record::answers::Reply;
 use record::heap::Heap;
 use region::Block;
 use region::Chunk;
-use release::donor_after;
 use release::give_back;
 use release::join;
-use release::top_after;
 use seek::Place;
 use seek::Sought;
 use seek::find_block;
+use settling::donor_after;
+use settling::top_after;
 
 mod change;
 

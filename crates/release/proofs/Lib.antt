@@ -1,4 +1,3 @@
 pub mod ReleaseSteps
-pub mod DraftLaws
 pub mod JoinMeaning
 pub mod ReleaseMeaning

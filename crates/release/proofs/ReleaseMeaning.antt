@@ -27,8 +27,9 @@ use Rattle.seek.specs.declared.Sought.the-variants.{Found}
 use Rattle.seek.specs.Seek.{placed, soughtIn, hasBlock}
 use Rattle.seek.proofs.SeekLaws.{sought-spot, sought-block}
 use Rattle.release.specs.declared.Joined.{Joined}
-use Rattle.release.specs.Release.{leavesM, joinedM, joinM, giveBackM, donorAfter, topAfter}
-use Rattle.release.proofs.DraftLaws.{booksOf, Follows, Settled, begins, leave-step, link-step, link-follows, settle-step}
+use Rattle.release.specs.Release.{leavesM, joinedM, joinM, giveBackM}
+use Rattle.settling.specs.Settling.{donorAfter, topAfter}
+use Rattle.settling.proofs.DraftLaws.{booksOf, Follows, Settled, begins, leave-step, link-step, link-follows, settle-step}
 use Rattle.release.proofs.JoinMeaning.{sees, joinedBy, joining-sees, Bottom, Summit, Agrees, here, own, sides, bottom, summit, seen-below, seen-free, seen-above, flags-above, join-sees, chunk-joins}
 
 -- the books b are those of the draft d, in which no chunk of a bin is near c

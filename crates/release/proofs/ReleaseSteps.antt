@@ -3,24 +3,12 @@
 use mathlib.Core.Path.{_≡_}
 use mathlib.Core.List.{List}
 use Prim.Native.Nat.{ℕ, _-_}
-use Rattle.bins.specs.Books.{Books, books, putIntoM}
+use Rattle.bins.specs.Books.{Books, books}
 use Rattle.headers.specs.Headers.{aboveWords, freeWords}
-use Rattle.record.specs.declared.table.Binned.{Binned}
-use Rattle.record.specs.declared.table.Binned.the-variants.{Bin, NoBin}
-use Rattle.record.specs.Table.{TakenBy, smallBins}
-use Rattle.record.proofs.TableLaws.{bin-is}
 use Rattle.region.specs.Words.{written}
 use Rattle.release.specs.declared.Joined.{Joined}
-use Rattle.release.specs.Release.{leavesM, putBinnedM, putInBinM, settleM, giveBackM}
-
-module _ (b : Books) (table : List ℕ) (c size : ℕ) (r : Binned) (taken : TakenBy table size r) where
-  pub put-nowhere : r ≡ NoBin → b ≡ putInBinM b table c size
-  unfolding putInBinM putBinnedM
-  put-nowhere e = rw (← bin-is table size r taken, e)
-
-  pub put-binned : {i small : ℕ} {after : Books} → r ≡ Bin i → small ≡ smallBins table → after ≡ putIntoM b small i c → after ≡ putInBinM b table c size
-  unfolding putInBinM putBinnedM
-  put-binned e s f = rw (← bin-is table size r taken, e, ← s) f
+use Rattle.release.specs.Release.{leavesM, giveBackM}
+use Rattle.settling.specs.Settling.{settleM}
 
 -- the words and the ends after each of the writes
 pub gave-back : (b : Books) {r₁ h₁ t₁ r₂ h₂ t₂ r₃ r₄ r₅ h₅ t₅ : List ℕ} (table : List ℕ) (j : Joined) (lower upper : ℕ) {size : ℕ}

@@ -4,26 +4,22 @@ ghost use mathlib.Core.Path.{_≡_};
 ghost use mathlib.Core.Bool.{cond};
 ghost use Rattle.bins.specs.Books.{books};
 ghost use Rattle.region.specs.Words.{word, backward, forward};
-ghost use Rattle.release.specs.Release.{donorAfter, giveBackM, joinM, leavesM, neighbourM, putInBinM, settleM, topAfter};
+ghost use Rattle.release.specs.Release.{giveBackM, joinM, leavesM, neighbourM};
 ghost use Rattle.rules.specs.Join.{joinedAs};
 ghost use Rattle.rules.specs.Kinds.{freeKind};
 use bins::leave;
-use bins::put;
 use chain::is_free;
 use chain::is_ordinary;
 use chain::kind_of;
 use headers::distance;
 use headers::write_above;
 use headers::write_free;
-use headers::write_no_bin;
 use record::kinds::Kind;
-use record::table::Binned;
-use record::table::bin_of;
-use record::table::small_bins;
 use region::BACKWARD;
 use region::Chunk;
 use region::FORWARD;
 use region::word;
+use settling::settle;
 
 // The free chunk that comes of it, from `chunk` to `end`, with the chunk below it and the flags of the one above. `lower` and `upper`
 // say that an ordinary chunk joined on that side, which has a bin to leave.
@@ -66,33 +62,6 @@ pub fn joined_as(above: Kind) -> Kind
         Kind::Donor => Kind::Donor,
         Kind::Top => Kind::Top,
         Kind::End => Kind::Ordinary,
-    }
-}
-
-// The record's donor and top, once the chunk that came of a joining is in its place.
-pub fn donor_after(becomes: Kind, chunk: Chunk, donor: Chunk) -> Chunk
-    ensures { λ r. ⌜ r .0 ≡ donorAfter becomes (chunk .0) (donor .0) ⌝ }
-{
-    match becomes {
-        Kind::Start => donor,
-        Kind::InUse => donor,
-        Kind::Ordinary => donor,
-        Kind::Donor => chunk,
-        Kind::Top => donor,
-        Kind::End => donor,
-    }
-}
-
-pub fn top_after(becomes: Kind, chunk: Chunk, top: Chunk) -> Chunk
-    ensures { λ r. ⌜ r .0 ≡ topAfter becomes (chunk .0) (top .0) ⌝ }
-{
-    match becomes {
-        Kind::Start => top,
-        Kind::InUse => top,
-        Kind::Ordinary => top,
-        Kind::Donor => top,
-        Kind::Top => chunk,
-        Kind::End => top,
     }
 }
 
@@ -158,44 +127,6 @@ fn leave_joined(region: &mut [u32], heads: &mut [u32], tails: &mut [u32], joins:
         return;
     }
     leave(region, heads, tails, chunk);
-}
-
-// Into the bin of its size. A chunk of less than 24 bytes, which no heap that passes has, has no bin and is put nowhere.
-pub fn put_in_bin(
-    region: &mut [u32],
-    heads: &mut [u32],
-    tails: &mut [u32],
-    table: &[u32],
-    chunk: Chunk,
-    size: u32,
-)
-    ensures { λ _. ⌜ books (now (region .exit)) (now (heads .exit)) (now (tails .exit)) ≡ putInBinM (books (now (region .entry)) (now (heads .entry)) (now (tails .entry))) (now (table .entry)) (chunk .0) size ⌝ }
-{
-    let small = small_bins(table);
-    let binned = bin_of(table, size);
-    let Binned::Bin(bin) = binned else {
-        return;
-    };
-    put(region, heads, tails, small, bin, chunk);
-}
-
-// The bin words of the result: donor and top are in no bin.
-pub fn settle(
-    region: &mut [u32],
-    heads: &mut [u32],
-    tails: &mut [u32],
-    table: &[u32],
-    becomes: Kind,
-    chunk: Chunk,
-    size: u32,
-)
-    ensures { λ _. ⌜ books (now (region .exit)) (now (heads .exit)) (now (tails .exit)) ≡ settleM (books (now (region .entry)) (now (heads .entry)) (now (tails .entry))) (now (table .entry)) becomes (chunk .0) size ⌝ }
-{
-    if !is_ordinary(becomes) {
-        write_no_bin(region, chunk);
-        return;
-    }
-    put_in_bin(region, heads, tails, table, chunk, size);
 }
 
 // The writes. `lower` and `upper` are the neighbours that `joined` was made of; those that joined leave their bins, the lower one first.

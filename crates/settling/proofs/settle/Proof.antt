@@ -1,9 +1,9 @@
--- `release::settle` puts an ordinary chunk, and clears the bin words of any other. Assumes nothing.
+-- `settling::settle` puts an ordinary chunk, and clears the bin words of any other. Assumes nothing.
 use borrow.Author.Needs.{needs}
 use borrow.Author.Tests.{not-true, not-false}
-use Rattle.release.specs.Release.{settleM}
-use Rattle.release.proofs.settle.Statement.{statement}
-use Rattle.release.proofs.settle.Tie as tie
+use Rattle.settling.specs.Settling.{settleM}
+use Rattle.settling.proofs.settle.Statement.{statement}
+use Rattle.settling.proofs.settle.Tie as tie
 
 returns : tie.Need-returns
 unfolding settleM

@@ -1,8 +1,8 @@
--- `release::put_in_bin` puts into the bin that takes the size. Assumes nothing.
+-- `settling::put_in_bin` puts into the bin that takes the size. Assumes nothing.
 use borrow.Author.Needs.{needs}
-use Rattle.release.proofs.ReleaseSteps.{put-binned, put-nowhere}
-use Rattle.release.proofs.put_in_bin.Statement.{statement}
-use Rattle.release.proofs.put_in_bin.Tie as tie
+use Rattle.settling.proofs.SettlingSteps.{put-binned, put-nowhere}
+use Rattle.settling.proofs.put_in_bin.Statement.{statement}
+use Rattle.settling.proofs.put_in_bin.Tie as tie
 
 returns : tie.Need-returns
 returns c = put-nowhere _ _ _ _ _ (c .before .before .bin-of .ensures) (c .enum-told .given .1)

@@ -32,7 +32,7 @@ use Rattle.bins.specs.Books.{Books, books, leaveM, putM, putIntoM}
 use Rattle.bins.proofs.RunsLaws.{Node}
 use Rattle.bins.proofs.BooksLaws.{Far, putStores}
 use Rattle.bins.proofs.WayLaws.{OnWay, split-at-member, way-begins, way-keeps, way-leaves, way-left-far, way-stays, way-puts-head, way-puts-tail}
-use Rattle.release.specs.Release.{putBinnedM, putInBinM, alsoWritten, settleM, donorAfter, topAfter}
+use Rattle.settling.specs.Settling.{putBinnedM, putInBinM, alsoWritten, settleM, donorAfter, topAfter}
 
 -- the words and the ends of a draft
 abbrev pub booksOf : List ℕ → Draft → Books

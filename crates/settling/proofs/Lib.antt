@@ -1,0 +1,2 @@
+pub mod SettlingSteps
+pub mod DraftLaws
