@@ -53,7 +53,7 @@ pub fn is_unused(array: &[u32], from: usize) -> bool
 }
 
 // The table is valid, and the places past the bin count are unused.
-pub fn is_tabled(bins: usize, sizes: &[u32], heads: &[u32], tails: &[u32]) -> bool
+pub fn is_tabled<'a>(bins: usize, sizes: &[u32], heads: &'a [u32], tails: &'a [u32]) -> bool
     ensures { λ r. ⌜ r ≡ tabledAs bins (now (sizes .entry)) (now (heads .entry)) (now (tails .entry)) ⌝ }
 {
     if sizes.len() < bins {
@@ -88,11 +88,11 @@ pub fn is_settled(tally: Tally, bytes: u32, donor: Chunk) -> bool
 }
 
 // The two walks, on the even part of the region.
-pub fn walk_all(
+pub fn walk_all<'a>(
     region: &[u32],
     table: &[u32],
-    heads: &[u32],
-    tails: &[u32],
+    heads: &'a [u32],
+    tails: &'a [u32],
     bytes: u32,
     donor: Chunk,
     top: Chunk,
@@ -136,17 +136,15 @@ pub fn check(region: &[u32], h: Heap) -> Audit
     }
     let bins = h.bins as usize;
     let sizes = h.sizes;
-    let heads = h.heads;
-    let tails = h.tails;
-    if !is_tabled(bins, &sizes, &heads, &tails) {
+    if !is_tabled(bins, &sizes, &h.heads, &h.tails) {
         return Audit::Fails;
     }
     let even = (bytes / 4) as usize;
     walk_all(
         &region[..even],
         &sizes[..bins],
-        &heads,
-        &tails,
+        &h.heads,
+        &h.tails,
         bytes,
         h.donor,
         h.top,
