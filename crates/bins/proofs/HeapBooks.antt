@@ -1,10 +1,10 @@
 -- The books of a heap that passes: each bin holds the list that is read from its head, no chunk is in two lists, members lie far apart,
 -- lists are short enough to be searched, and all ordinary chunks are in them. Assumes nothing.
 use mathlib.Core.Path.{_≡_, refl, sym, ap, _∙_}
-use mathlib.Core.Logic.{_≢_}
+use mathlib.Core.Logic.{_≢_, _⊎_, inl, inr}
 use mathlib.Core.Bool.{true}
 use mathlib.Core.List.{List, [], _∷_, map, List·Memᴰ·head, List·Memᴰ·tail, Memᴰ·map, Memᴰ·cast}
-use Prim.Native.Nat.{ℕ, zero, suc, _*_, _≤_, _<_}
+use Prim.Native.Nat.{ℕ, zero, suc, _+_, _*_, _≤_, _<_}
 use native.Mathlib.Decide.{ℕ-discrete, decLt}
 use native.Mathlib.Omega.{arith}
 use lib.ListN.{length, getD, length-map}
@@ -17,10 +17,10 @@ use Rattle.record.specs.Heap.{tableOf}
 use Rattle.record.specs.Table.{binOf}
 use Rattle.region.specs.Words.{word, size, bin}
 use Rattle.rules.specs.Shape.{Entry, shape, membersFrom, members, binList}
-use Rattle.rules.specs.Kinds.{ordinary}
+use Rattle.rules.specs.Kinds.{ordinary, blockEnd}
 use Rattle.rules.specs.Check.{Linked, Passes}
 use Rattle.rules.proofs.ShapeLaws.{Leads, read-none}
-use Rattle.rules.proofs.SpotLaws.{IsOrdinary, bounds, inside, far, few-chunks, is-ordinary}
+use Rattle.rules.proofs.SpotLaws.{IsOrdinary, bounds, inside, apart, far, few-chunks, is-ordinary}
 use Rattle.bins.specs.Books.{books}
 use Rattle.bins.proofs.RunsLaws.{Node}
 use Rattle.bins.proofs.BooksLaws.{Holds, Far}
@@ -125,3 +125,15 @@ module _ (ws : List ℕ) (h : Heap) (p : Passes ws h) where
   pub ordinary-listed : (e : Entry) → Mem e es → ordinary h e ≡ true
       → (i : ℕ) × (i < h .bins) × (binOf (tableOf h) (e .size) ≡ Bin i) × Mem (e .place) (binList ws h i)
   ordinary-listed e m o = let b = p .binned e m o in (b .0, b .2 .0, b .1, b .2 .1)
+
+  -- a member ends below each chunk above it
+  pub member-below : (j x : ℕ) → j < h .bins → Mem x (binList ws h j) → (y : Entry) → Mem y es → x < y .place → x + 24 ≤ y .place
+  member-below j x l m y my lt =
+      let k = member-entry j x l m in
+      let r = k .1 in
+      let b = r .is .free .between in
+      go (k .0) (r .place) (b .some) (apart ws h p (k .0) y (r .member) my (λ q. omega arith))
+    where
+      go : (d : Entry) → d .place ≡ x → 24 ≤ d .size → (blockEnd d ≤ y .place) ⊎ (blockEnd y ≤ d .place) → x + 24 ≤ y .place
+      go d q s (inl k) = omega arith
+      go d q s (inr k) = absurd (omega arith)

@@ -1,2 +1,4 @@
 pub mod ChooseLaws
 pub mod ChooseMeaning
+pub mod CutSteps
+pub mod CutMeaning

@@ -27,8 +27,8 @@ use Rattle.seek.specs.declared.Sought.the-variants.{Found}
 use Rattle.seek.specs.Seek.{placed, soughtIn, hasBlock}
 use Rattle.seek.proofs.SeekLaws.{sought-spot, sought-block}
 use Rattle.release.specs.declared.Joined.{Joined}
-use Rattle.release.specs.Release.{leavesM, joinedM, joinM, giveBackM}
-use Rattle.settling.specs.Settling.{donorAfter, topAfter}
+use Rattle.release.specs.Release.{joinedM, joinM, giveBackM}
+use Rattle.settling.specs.Settling.{donorAfter, topAfter, leaveBinM}
 use Rattle.settling.proofs.DraftLaws.{booksOf, Follows, Settled, begins, leave-step, link-step, link-follows, settle-step}
 use Rattle.release.proofs.JoinMeaning.{sees, joinedBy, joining-sees, Bottom, Summit, Agrees, here, own, sides, bottom, summit, seen-below, seen-free, seen-above, flags-above, join-sees, chunk-joins}
 
@@ -86,9 +86,9 @@ module _ (ws : List ℕ) (h : Heap) (p : Passes ws h) (low : List Entry) (e : En
   -- those that join leave their bins, the lower one first
   out : (t u : Bool) → (t ≡ true → ordinary h below ≡ true) → (u ≡ true → ordinary h above ≡ true)
       → Out ws h (cond t (below .place) (e .place))
-      (leavesM (leavesM (booksOf ws (asRead ws h)) t (below .place)) u (above .place))
+      (leaveBinM (leaveBinM (booksOf ws (asRead ws h)) t (below .place)) u (above .place))
       (leaveBins (cond t (below ∷ []) [] ++ cond u (above ∷ []) []) (asRead ws h))
-  unfolding leavesM asRead
+  unfolding leaveBinM asRead
   out false false o₁ o₂ =
       let f = begins ws h p in
       record { is = refl; follows = f; far = own-far }
@@ -144,7 +144,7 @@ module _ (ws : List ℕ) (h : Heap) (p : Passes ws h) (low : List Entry) (e : En
     highEnd : Summit (shape ws (h .bytes)) e to (cond (freeKind over) (word ws (blockEnd e) forward) (blockEnd e)) (headOr outside highPart)
     highEnd = summit ws h p low e high split l (freeKind over) f
 
-    gone : Out ws h from (leavesM (leavesM (booksOf ws (asRead ws h)) (ordinaryKind under) (below .place)) (ordinaryKind over) (above .place)) afterLeaving
+    gone : Out ws h from (leaveBinM (leaveBinM (booksOf ws (asRead ws h)) (ordinaryKind under) (below .place)) (ordinaryKind over) (above .place)) afterLeaving
     gone = out (ordinaryKind under) (ordinaryKind over) o u
 
     large : from + 24 ≤ to

@@ -7,13 +7,13 @@ use Rattle.bins.specs.Books.{Books, books}
 use Rattle.headers.specs.Headers.{aboveWords, freeWords}
 use Rattle.region.specs.Words.{written}
 use Rattle.release.specs.declared.Joined.{Joined}
-use Rattle.release.specs.Release.{leavesM, giveBackM}
-use Rattle.settling.specs.Settling.{settleM}
+use Rattle.release.specs.Release.{giveBackM}
+use Rattle.settling.specs.Settling.{leaveBinM, settleM}
 
 -- the words and the ends after each of the writes
 pub gave-back : (b : Books) {r₁ h₁ t₁ r₂ h₂ t₂ r₃ r₄ r₅ h₅ t₅ : List ℕ} (table : List ℕ) (j : Joined) (lower upper : ℕ) {size : ℕ}
-    → books r₁ h₁ t₁ ≡ leavesM b (j .lower) lower
-    → books r₂ h₂ t₂ ≡ leavesM (books r₁ h₁ t₁) (j .upper) upper
+    → books r₁ h₁ t₁ ≡ leaveBinM b (j .lower) lower
+    → books r₂ h₂ t₂ ≡ leaveBinM (books r₁ h₁ t₁) (j .upper) upper
     → r₃ ≡ written r₂ (freeWords (j .below .0) (j .chunk .0) (j .end))
     → r₄ ≡ written r₃ (aboveWords (j .chunk .0) (j .end) (j .flags))
     → size ≡ j .end - j .chunk .0

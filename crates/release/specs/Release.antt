@@ -3,7 +3,7 @@
 use mathlib.Core.Bool.{Bool, cond}
 use mathlib.Core.List.{List}
 use Prim.Native.Nat.{ℕ, _-_}
-use Rattle.bins.specs.Books.{Books, leaveM}
+use Rattle.bins.specs.Books.{Books}
 use Rattle.headers.specs.Headers.{aboveWords, freeWords}
 use Rattle.record.specs.declared.kinds.Kind.{Kind}
 use Rattle.record.specs.declared.kinds.Kind.the-variants.{InUse}
@@ -13,7 +13,7 @@ use Rattle.release.specs.declared.Joined.{Joined}
 use Rattle.rules.specs.Join.{joinedAs}
 use Rattle.rules.specs.Kinds.{freeKind, kindAt, ordinaryKind}
 use Rattle.rules.specs.Shape.{entry, flagsAt}
-use Rattle.settling.specs.Settling.{alsoWritten, settleM}
+use Rattle.settling.specs.Settling.{leaveBinM, alsoWritten, settleM}
 
 -- the kind of the chunk at c, if merging is on
 unfoldable pub neighbourM : List ℕ → ℕ → ℕ → ℕ → Bool → ℕ → Kind
@@ -37,12 +37,9 @@ unfoldable pub joinM : List ℕ → ℕ → ℕ → ℕ → Bool → ℕ → ℕ
 joinM ws bytes donor top merge before c end =
     joinedM ws (neighbourM ws bytes donor top merge before) (neighbourM ws bytes donor top merge end) before c end
 
-unfoldable pub leavesM : Books → Bool → ℕ → Books
-leavesM b joins c = cond joins (leaveM b c) b
-
 unfoldable pub giveBackM : Books → List ℕ → Joined → ℕ → ℕ → Books
 giveBackM b table j lower upper =
-    let out : Books = leavesM (leavesM b (j .lower) lower) (j .upper) upper in
+    let out : Books = leaveBinM (leaveBinM b (j .lower) lower) (j .upper) upper in
     let linked : Books = alsoWritten out (freeWords (j .below .0) (j .chunk .0) (j .end)) in
     let all : Books = alsoWritten linked (aboveWords (j .chunk .0) (j .end) (j .flags)) in
     settleM all table (j .becomes) (j .chunk .0) (j .end - j .chunk .0)

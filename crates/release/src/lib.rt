@@ -4,10 +4,9 @@ ghost use mathlib.Core.Path.{_≡_};
 ghost use mathlib.Core.Bool.{cond};
 ghost use Rattle.bins.specs.Books.{books};
 ghost use Rattle.region.specs.Words.{word, backward, forward};
-ghost use Rattle.release.specs.Release.{giveBackM, joinM, leavesM, neighbourM};
+ghost use Rattle.release.specs.Release.{giveBackM, joinM, neighbourM};
 ghost use Rattle.rules.specs.Join.{joinedAs};
 ghost use Rattle.rules.specs.Kinds.{freeKind};
-use bins::leave;
 use chain::is_free;
 use chain::is_ordinary;
 use chain::kind_of;
@@ -19,6 +18,7 @@ use region::BACKWARD;
 use region::Chunk;
 use region::FORWARD;
 use region::word;
+use settling::leave_bin;
 use settling::settle;
 
 // The free chunk that comes of it, from `chunk` to `end`, with the chunk below it and the flags of the one above. `lower` and `upper`
@@ -119,16 +119,6 @@ pub fn join(
     }
 }
 
-// A chunk that joins leaves its bin.
-fn leave_joined(region: &mut [u32], heads: &mut [u32], tails: &mut [u32], joins: bool, chunk: Chunk)
-    ensures { λ _. ⌜ books (now (region .exit)) (now (heads .exit)) (now (tails .exit)) ≡ leavesM (books (now (region .entry)) (now (heads .entry)) (now (tails .entry))) joins (chunk .0) ⌝ }
-{
-    if !joins {
-        return;
-    }
-    leave(region, heads, tails, chunk);
-}
-
 // The writes. `lower` and `upper` are the neighbours that `joined` was made of; those that joined leave their bins, the lower one first.
 pub fn give_back(
     region: &mut [u32],
@@ -141,8 +131,8 @@ pub fn give_back(
 )
     ensures { λ _. ⌜ books (now (region .exit)) (now (heads .exit)) (now (tails .exit)) ≡ giveBackM (books (now (region .entry)) (now (heads .entry)) (now (tails .entry))) (now (table .entry)) joined (lower .0) (upper .0) ⌝ }
 {
-    leave_joined(region, heads, tails, joined.lower, lower);
-    leave_joined(region, heads, tails, joined.upper, upper);
+    leave_bin(region, heads, tails, joined.lower, lower);
+    leave_bin(region, heads, tails, joined.upper, upper);
     write_free(region, joined.below, joined.chunk, Chunk(joined.end));
     write_above(region, joined.chunk, Chunk(joined.end), joined.flags);
     let size = distance(joined.chunk.0, joined.end);

@@ -3,7 +3,7 @@
 use mathlib.Core.Path.{_≡_, refl, ap}
 use mathlib.Core.Logic.{_≢_, _⊎_, inl, inr}
 use mathlib.Core.Bool.{Bool, true, false, cond}
-use mathlib.Core.List.{List, [], _∷_, _++_}
+use mathlib.Core.List.{List, [], _∷_, _++_, append-assoc}
 use Prim.Native.Nat.{ℕ, _+_, _-_, _/_, _%_, _^_, _≤_, _<_}
 use native.Mathlib.Decide.{ℕ-discrete, decLt}
 use native.Mathlib.Nat.{add-zero}
@@ -26,7 +26,7 @@ use Rattle.headers.specs.Headers.{aboveWords, freeWords}
 use Rattle.rules.specs.Shape.{Entry, entry, binList}
 use Rattle.rules.specs.Kinds.{unused, outside}
 use Rattle.rules.specs.Check.{Passes}
-use Rattle.rules.specs.Draft.{Draft, asRead, meet, leave, leaveBin, putBetween, putInto, putInBin, noBinWords, relink, settle}
+use Rattle.rules.specs.Draft.{Draft, asRead, headers, meet, leave, leaveBin, putBetween, putInto, putInBin, noBinWords, relink, settle}
 use Rattle.rules.specs.Join.{joinedAs}
 use Rattle.bins.specs.Books.{Books, books, leaveM, putM, putIntoM}
 use Rattle.bins.proofs.RunsLaws.{Node}
@@ -37,6 +37,35 @@ use Rattle.settling.specs.Settling.{putBinnedM, putInBinM, alsoWritten, 
 -- the words and the ends of a draft
 abbrev pub booksOf : List ℕ → Draft → Books
 booksOf ws d = books (written ws (d .stores)) (d .heap .heads) (d .heap .tails)
+
+-- what is written where the chain is linked anew between low and high
+abbrev pub linkStores : List Entry → List Entry → List Entry → List Store
+linkStores low es high =
+    headers (lastOr outside low .place) es
+    ++ put (headOr outside high .place) backward (lastOr (lastOr outside low) es .place + headOr outside high .flags) ∷ []
+
+-- the header at y is not below that of the chunk at x, or well above it
+abbrev pub Clears : ℕ → ℕ → Type 0
+Clears x y = (y % 8 ≡ 0) × (x < y → x + 24 ≤ y)
+
+-- all stores are to the first three words of headers that the one at x does not reach into
+abbrev pub HeaderStores : ℕ → List Store → Type 0
+HeaderStores x [] = Unit {0}
+HeaderStores x (s ∷ ss) = (s .number ≤ 2) × Clears x (s .chunk) × HeaderStores x ss
+
+-- so none is to a link or a bin word of the chunk at x
+header-stores-off : (x : ℕ) (ss : List Store) → x % 8 ≡ 0 → HeaderStores x ss
+    → Off (x / 4 + nextInBin) ss × Off (x / 4 + previousInBin) ss × Off (x / 4 + bin) ss
+header-stores-off x [] z a = (tt, tt, tt)
+header-stores-off x (s ∷ ss) z (a, (e, f), r) =
+    let o = header-stores-off x ss z r in
+    let k = apart (s .chunk) (s .number) a e (decLt x (s .chunk)) f in
+    ((k .0, o .0), (k .1, o .1), (k .2, o .2))
+  where
+    apart : (y n : ℕ) → n ≤ 2 → y % 8 ≡ 0 → Dec (x < y) → (x < y → x + 24 ≤ y)
+        → (x / 4 + 3 ≢ y / 4 + n) × (x / 4 + 4 ≢ y / 4 + n) × (x / 4 + 5 ≢ y / 4 + n)
+    apart y n a e (yes l) f = let g = f l in omega arith
+    apart y n a e (no l) f = omega arith
 
 -- on the way from a heap that passes chunks have left bins, and nothing else has changed for those that are still there
 pub record Follows (ws : List ℕ) (h : Heap) (d : Draft) : Type 0 where
@@ -106,6 +135,22 @@ module _ (ws : List ℕ) (h : Heap) (d : Draft) (f : Follows ws h d) where
           far = λ j c lj k. way-left-far (booksOf ws d) (d .lists) (h .bins) (f .way) i (e .place) l m j c lj k;
         })
 
+  -- the chain is linked anew between low and high, clear of the headers of all that are in bins
+  pub relink-follows : (low es high : List Entry) → ((j x : ℕ) → j < h .bins → Mem x (d .lists j) → HeaderStores x (linkStores low es high))
+      → Follows ws h (relink low es high d)
+  unfolding relink
+  relink-follows low es high g =
+      record {
+        way =
+            rw (append-assoc (d .stores) (headers (lastOr outside low .place) es), written-append)
+            (way-keeps (booksOf ws d) (d .lists) (h .bins) (f .way) (linkStores low es high)
+            (λ j x l m. header-stores-off x (linkStores low es high) (f .way .holds j l .nodes x m .eight) (g j x l m)));
+        from = f .from;
+        table = f .table;
+        heap = f .heap;
+        housed = f .housed;
+      }
+
   -- a free chunk from one place to another is linked in between low and high
   module _ (low high : List Entry) (c to : ℕ) (up : c ≤ to) (next : headOr outside high .place ≡ to)
       (small : c + headOr outside high .flags < 4294967296) where
@@ -132,26 +177,13 @@ module _ (ws : List ℕ) (h : Heap) (d : Draft) (f : Follows ws h d) where
     -- no member's header reaches up to one that is written
     pub link-follows : ((j x : ℕ) → j < h .bins → Mem x (binList ws h j) → (x < c → x + 24 ≤ c) × (x < to → x + 24 ≤ to))
         → c % 8 ≡ 0 → to % 8 ≡ 0 → Follows ws h linked
-    unfolding relink
     link-follows g zc zt =
-        record {
-          way = rw linked-words (way-keeps (booksOf ws d) (d .lists) (h .bins) (f .way) headerStores apart);
-          from = f .from;
-          table = f .table;
-          heap = f .heap;
-          housed = f .housed;
-        }
-      where
-        by : (x : ℕ) → x % 8 ≡ 0 → Dec (x < c) → Dec (x < to) → (x < c → x + 24 ≤ c) × (x < to → x + 24 ≤ to)
-            → Off (x / 4 + nextInBin) headerStores × Off (x / 4 + previousInBin) headerStores × Off (x / 4 + bin) headerStores
-        by x z (yes p) (yes q) r = let a = r .0 p in let b = r .1 q in omega arith
-        by x z (yes p) (no q) r = let a = r .0 p in omega arith
-        by x z (no p) (yes q) r = let b = r .1 q in omega arith
-        by x z (no p) (no q) r = omega arith
-
-        apart : (j x : ℕ) → j < h .bins → Mem x (d .lists j)
-            → Off (x / 4 + nextInBin) headerStores × Off (x / 4 + previousInBin) headerStores × Off (x / 4 + bin) headerStores
-        apart j x l m = by x (f .way .holds j l .nodes x m .eight) (decLt x c) (decLt x to) (g j x l (f .from j x l m))
+        relink-follows low (entry c (to - c) unused ∷ []) high
+        (λ j x l m.
+        let k = g j x l (f .from j x l m) in
+        let a : Clears x c = (zc, k .0) in
+        let b : Clears x (headOr outside high .place) = rw next (zt, k .1) in
+        ((omega arith, a, (omega arith, a, (omega arith, a, (omega arith, b, tt))))))
 
   -- a chunk far from all that are in bins is put into the bin of its size
   module _ (p : Passes ws h) (c s u : ℕ) (large : 24 ≤ s) (gc : Node (length ws) c)

@@ -1,9 +1,9 @@
--- What the code writes where a free chunk takes its place, and what becomes of the record's donor and top: these definitions mirror the code.
+-- What the code writes where a free chunk leaves its place or takes it, and what becomes of the record's donor and top: these definitions mirror the code.
 -- That they do what the rules say is proved (`DraftLaws`).
-use mathlib.Core.Bool.{cond}
+use mathlib.Core.Bool.{Bool, cond}
 use mathlib.Core.List.{List}
 use Prim.Native.Nat.{ℕ}
-use Rattle.bins.specs.Books.{Books, books, putIntoM}
+use Rattle.bins.specs.Books.{Books, books, leaveM, putIntoM}
 use Rattle.record.specs.declared.kinds.Kind.{Kind}
 use Rattle.record.specs.declared.kinds.Kind.the-variants.{Start, InUse, Ordinary, Donor, Top, End}
 use Rattle.record.specs.declared.table.Binned.{Binned}
@@ -29,6 +29,9 @@ topAfter Ordinary c top = top
 topAfter Donor c top = top
 topAfter Top c top = c
 topAfter End c top = top
+
+unfoldable pub leaveBinM : Books → Bool → ℕ → Books
+leaveBinM b binned c = cond binned (leaveM b c) b
 
 unfoldable pub putBinnedM : Books → ℕ → ℕ → Binned → Books
 putBinnedM b small c (Bin i) = putIntoM b small i c

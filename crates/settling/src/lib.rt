@@ -1,8 +1,9 @@
-// A free chunk takes its place: in the bin of its size, or out of bins as the donor or the top.
-// Where it came from, a chunk given back or one that was cut, is not known here.
+// A free chunk leaves its place or takes it: in the bin of its size, or out of bins as the donor or the top.
+// What becomes of it, whether it is cut or joined, is not known here.
 ghost use mathlib.Core.Path.{_≡_};
 ghost use Rattle.bins.specs.Books.{books};
-ghost use Rattle.settling.specs.Settling.{donorAfter, putInBinM, settleM, topAfter};
+ghost use Rattle.settling.specs.Settling.{donorAfter, leaveBinM, putInBinM, settleM, topAfter};
+use bins::leave;
 use bins::put;
 use chain::is_ordinary;
 use headers::write_no_bin;
@@ -11,6 +12,22 @@ use record::table::Binned;
 use record::table::bin_of;
 use record::table::small_bins;
 use region::Chunk;
+
+// A chunk leaves its bin, if it is in one: the caller knows its kind.
+pub fn leave_bin(
+    region: &mut [u32],
+    heads: &mut [u32],
+    tails: &mut [u32],
+    binned: bool,
+    chunk: Chunk,
+)
+    ensures { λ _. ⌜ books (now (region .exit)) (now (heads .exit)) (now (tails .exit)) ≡ leaveBinM (books (now (region .entry)) (now (heads .entry)) (now (tails .entry))) binned (chunk .0) ⌝ }
+{
+    if !binned {
+        return;
+    }
+    leave(region, heads, tails, chunk);
+}
 
 // Into the bin of its size. A chunk of less than 24 bytes, which no heap that passes has, has no bin and is put nowhere.
 pub fn put_in_bin(
@@ -76,4 +93,3 @@ pub fn top_after(becomes: Kind, chunk: Chunk, top: Chunk) -> Chunk
         Kind::End => top,
     }
 }
-

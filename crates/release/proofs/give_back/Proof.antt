@@ -7,8 +7,8 @@ use Rattle.release.proofs.give_back.Tie as tie
 returns : tie.Need-returns
 returns c =
     gave-back _ _ _ _ _
-    (c .before .before .before .before .before .before .before .before .before .before .before .before .before .before .before .before .before .before .before .before .before .before .before .before .before .before .before .before .before .before .before .before .before .before .before .leave-joined .ensures)
-    (c .before .before .before .before .before .before .before .before .before .before .before .before .before .before .before .before .before .before .before .before .before .before .before .before .before .leave-joined2 .ensures)
+    (c .before .before .before .before .before .before .before .before .before .before .before .before .before .before .before .before .before .before .before .before .before .before .before .before .before .before .before .before .before .before .before .before .before .before .before .leave-bin .ensures)
+    (c .before .before .before .before .before .before .before .before .before .before .before .before .before .before .before .before .before .before .before .before .before .before .before .before .before .leave-bin2 .ensures)
     (c .before .before .before .before .before .before .before .before .before .before .before .before .before .before .before .before .before .write-free .ensures)
     (c .before .before .before .before .before .before .before .before .before .before .before .before .before .write-above .ensures)
     (c .before .before .before .before .before .before .before .before .before .before .distance .ensures)

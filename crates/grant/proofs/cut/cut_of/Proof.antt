@@ -1,0 +1,22 @@
+-- `cut::cut_of` reads the links and the size, and grants from the chunk's place on. Assumes nothing.
+use borrow.Author.Needs.{needs}
+use Rattle.grant.specs.Cut.{cutM}
+use Rattle.grant.proofs.cut.cut_of.Statement.{statement}
+use Rattle.grant.proofs.cut.cut_of.Tie as tie
+
+returns : tie.Need-returns
+unfolding cutM
+returns c =
+    rw (c .wrapping-add-u32 .ensures, c .before .before .before .granted .ensures, c .before .before .before .before .word2 .ensures, c .before .word4 .ensures, c .before .before .word3 .ensures, c .before .before .before .before .before .word .ensures)
+
+pub cut-of-spec : {M : Type 1} → statement M
+cut-of-spec =
+    tie.close
+    (tie.spec
+    (λ c κs. search needs)
+    (λ c κs. search needs)
+    (λ c κs. search needs)
+    (λ c κs. search needs)
+    (λ c κs. search needs)
+    (λ c κs. search needs)
+    returns)

@@ -1,0 +1,17 @@
+-- `cut::granted` grants the need, or all where less than 24 bytes would be left. Assumes nothing.
+use borrow.Author.Needs.{needs}
+use borrow.Author.Tests.{le-leb, lt-leb}
+use Rattle.grant.specs.Cut.{grantedM}
+use Rattle.grant.proofs.cut.granted.Statement.{statement}
+use Rattle.grant.proofs.cut.granted.Tie as tie
+
+returns : tie.Need-returns
+unfolding grantedM
+returns c = rw (le-leb _ _ (c .if1 .taken))
+
+returns-2 : tie.Need-returns-2
+unfolding grantedM
+returns-2 c = rw (lt-leb _ _ (c .if1 .left))
+
+pub granted-spec : {M : Type 1} → statement M
+granted-spec = tie.close (tie.spec (λ c. search needs) returns returns-2)
