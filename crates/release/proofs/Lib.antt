@@ -1,3 +1,4 @@
 pub mod ReleaseSteps
 pub mod JoinMeaning
+pub mod GivingMeaning
 pub mod ReleaseMeaning
