@@ -82,6 +82,13 @@ kind-stands : (bytes donor top f : ℕ) (e : Entry) → e .flags ≡ f → kindA
 unfolding kindAt inUse
 kind-stands bytes donor top f e q = rw (← q)
 
+module _ (ws : List ℕ) (h : Heap) (p : Passes ws h) where
+  pub neighbour-is : (c : ℕ) (d : Entry) → Mem d (shape ws (h .bytes)) → d .place ≡ c → neighbourM ws (h .bytes) (h .donor .0) (h .top .0) (h .merge) c ≡ sees h d
+  unfolding neighbourM
+  neighbour-is c d m q =
+      rw (← q)
+      (ap (λ (k : Kind). cond (h .merge) k InUse) (kind-stands (h .bytes) (h .donor .0) (h .top .0) (flagsAt ws (d .place)) d (inside ws h p d m .stands)))
+
 -- what the code joined, u, is what the rules joined, j; the neighbours are `lower` and `upper`
 pub record Agrees (j : Joined) (lower upper : Entry) (u : Union) : Type 0 where
   pub below : u .below .0 ≡ lastOr outside (j .low) .place
@@ -167,12 +174,6 @@ module _ (ws : List ℕ) (h : Heap) (p : Passes ws h) (low : List Entry) (e : En
         link = rw (← s) (a .ownForward ∙ a .abovePlace);
       }
 
-  pub neighbour-is : (c : ℕ) (d : Entry) → Mem d es → d .place ≡ c → neighbourM ws (h .bytes) (h .donor .0) (h .top .0) (h .merge) c ≡ sees h d
-  unfolding neighbourM
-  neighbour-is c d m q =
-      rw (← q)
-      (ap (λ (k : Kind). cond (h .merge) k InUse) (kind-stands (h .bytes) (h .donor .0) (h .top .0) (flagsAt ws (d .place)) d (inside ws h p d m .stands)))
-
   -- what is seen as ordinary below, and as free or ordinary above, is so
   seen-below : ordinaryKind (sees h below) ≡ true → ordinary h below ≡ true
   seen-below q = sees-ordinary (h .merge) (kindOf h below) q
@@ -191,7 +192,7 @@ module _ (ws : List ℕ) (h : Heap) (p : Passes ws h) (low : List Entry) (e : En
       ≡ joinedM ws (sees h below) (sees h above) (below .place) (e .place) (blockEnd e)
   unfolding joinM
   join-sees =
-      rw (neighbour-is (below .place) below (sides .below) refl, neighbour-is (blockEnd e) above (sides .above) (sides .abovePlace))
+      rw (neighbour-is ws h p (below .place) below (sides .below) refl, neighbour-is ws h p (blockEnd e) above (sides .above) (sides .abovePlace))
 
   -- what is freed, `part`, ends where the chunk of the block does, and has `under` below it as the last of `lows`
   pub part-joins : (lows : List Entry) (part : Entry) (under over : Kind) → blockEnd part ≡ blockEnd e
@@ -213,7 +214,7 @@ module _ (ws : List ℕ) (h : Heap) (p : Passes ws h) (low : List Entry) (e : En
       }
 
   -- a chunk in a bin has no byte in common with that of a live block
-  part-far : (c : ℕ) → e .place ≤ c → c + 24 ≤ blockEnd e → (j x : ℕ) → j < h .bins → Mem x (binList ws h j) → Far c x
+  pub part-far : (c : ℕ) → e .place ≤ c → c + 24 ≤ blockEnd e → (j x : ℕ) → j < h .bins → Mem x (binList ws h j) → Far c x
   part-far c lo hi j x lj m =
       let k = member-entry ws h p j x lj m in
       let r = k .1 in
