@@ -1,3 +1,6 @@
 pub mod ReleaseSteps
 pub mod JoinMeaning
+pub mod GivingMeaning
 pub mod ReleaseMeaning
+pub mod TailMeaning
+pub mod AgainLaws

@@ -1,2 +1,3 @@
 pub mod SettlingSteps
 pub mod DraftLaws
+pub mod FillLaws

@@ -1,0 +1,176 @@
+-- Giving back does to a draft of a heap that passes what the rules say, whatever was joined: the words, the bins' ends and the record.
+-- What joins, and where, is known here by `Agrees` and `Lies` alone. Assumes nothing.
+use mathlib.Core.Path.{_≡_, refl, sym, ap, _∙_}
+use mathlib.Core.Logic.{_≢_}
+use mathlib.Core.Bool.{Bool, true, false, cond}
+use mathlib.Core.List.{List, [], _∷_, _++_}
+use Prim.Native.Nat.{ℕ, _+_, _-_, _%_, _≤_, _<_}
+use native.Mathlib.Omega.{arith}
+use Rattle.lists.specs.Lists.{Mem, headOr}
+use Rattle.record.specs.declared.heap.Heap.{Heap}
+use Rattle.record.specs.Heap.{tableOf, with}
+use Rattle.rules.specs.Shape.{Entry, entry, binList}
+use Rattle.rules.specs.Kinds.{unused, outside}
+use Rattle.rules.specs.Check.{Passes}
+use Rattle.rules.specs.Draft.{Draft, relink, settle}
+use Rattle.rules.specs.Join.{Joined, joinedAs, leaveBins}
+use Rattle.rules.proofs.SpotLaws.{bounds, inside}
+use Rattle.bins.specs.Books.{Books, leaveM}
+use Rattle.bins.proofs.BooksLaws.{Far}
+use Rattle.bins.proofs.HeapBooks.{member-below, ordinary-listed}
+use Rattle.settling.specs.Settling.{leaveBinM, settleM, donorAfter, topAfter}
+use Rattle.settling.proofs.DraftLaws.{booksOf, Follows, Settled, leave-step, link-step, link-follows, settle-step}
+use Rattle.release.specs.declared.Joined.{Joined as Union}
+use Rattle.release.specs.Release.{giveBackM}
+use Rattle.release.proofs.JoinMeaning.{Agrees, Lies}
+
+-- the books b are those of the draft d, in which no chunk of a bin is near c
+record Out (ws : List ℕ) (h : Heap) (c : ℕ) (b : Books) (d : Draft) : Type 0 where
+  is : b ≡ booksOf ws d
+  follows : Follows ws h d
+  far : (j x : ℕ) → j < h .bins → Mem x (d .lists j) → Far c x
+
+-- giving back makes of the books b what the rules say, and the record's donor and top are known from what was joined
+pub record Released (ws : List ℕ) (h : Heap) (b : Books) (j : Union) (lower upper : ℕ) (after : Draft) : Type 0 where
+  pub is : giveBackM b (tableOf h) j lower upper ≡ booksOf ws after
+  pub housed : after .homeless ≡ false
+  pub heap : after .heap
+      ≡ with h (after .heap .heads) (after .heap .tails) (donorAfter (j .becomes) (j .chunk .0) (h .donor .0)) (topAfter (j .becomes) (j .chunk .0) (h .top .0)) (h .merge) (h .used)
+
+-- what the rules make of a draft, by what was joined
+abbrev pub givenBack : Joined → Draft → Draft
+givenBack j d = settle (j .becomes) (j .here) (relink (j .low) (j .here ∷ []) (j .high) (leaveBins (j .leaving) d))
+
+-- the bottom of the result, at b: no header of a chunk in a bin reaches up to it, nor does it lie above c
+record Bottom (ws : List ℕ) (h : Heap) (c b : ℕ) : Type 0 where
+  eight : b % 8 ≡ 0
+  some : 0 < b
+  up : b ≤ c
+  clear : (j x : ℕ) → j < h .bins → Mem x (binList ws h j) → x < b → x + 24 ≤ b
+
+-- no chunk has left its bin on the way to the draft d
+module _ (ws : List ℕ) (h : Heap) (p : Passes ws h) (d : Draft) (follows : Follows ws h d)
+    (has : (i x : ℕ) → Mem x (binList ws h i) → Mem x (d .lists i))
+    (c : ℕ) (lower upper : Entry) (u : Union) (lies : Lies ws h c lower upper u) where
+  -- those that join leave their bins, the lower one first
+  out : (t s : Bool) → u .lower ≡ t → u .upper ≡ s
+      → Out ws h (cond t (lower .place) c) (leaveBinM (leaveBinM (booksOf ws d) t (lower .place)) s (upper .place))
+      (leaveBins (cond t (lower ∷ []) [] ++ cond s (upper ∷ []) []) d)
+  unfolding leaveBinM
+  out false false q r =
+      record { is = refl; follows = follows; far = λ j x lj m. lies .far j x lj (follows .from j x lj m) }
+  out false true q r =
+      let o = lies .over r in
+      let b = ordinary-listed ws h p upper (o .0) (o .1) in
+      let g = leave-step ws h d follows upper (b .0) (b .1) (b .2) (has (b .0) (upper .place) (b .3)) in
+      record { is = g .is; follows = g .follows; far = λ j x lj m. lies .far j x lj (g .follows .from j x lj m) }
+  out true false q r =
+      let o = lies .under q in
+      let b = ordinary-listed ws h p lower (o .0) (o .1) in
+      let g = leave-step ws h d follows lower (b .0) (b .1) (b .2) (has (b .0) (lower .place) (b .3)) in
+      record { is = g .is; follows = g .follows; far = g .far }
+  out true true q r =
+      let o = lies .under q in
+      let b = ordinary-listed ws h p lower (o .0) (o .1) in
+      let g = leave-step ws h d follows lower (b .0) (b .1) (b .2) (has (b .0) (lower .place) (b .3)) in
+      let v = lies .over r in
+      let a = ordinary-listed ws h p upper (v .0) (v .1) in
+      let ne : upper .place ≢ lower .place = λ z. omega (arith, o .2, v .2) in
+      let k = leave-step ws h _ (g .follows) upper (a .0) (a .1) (a .2) (g .keeps (a .0) (upper .place) ne (has (a .0) (upper .place) (a .3))) in
+      record {
+        is = ap (λ (x : Books). leaveM x (upper .place)) (g .is) ∙ k .is;
+        follows = k .follows;
+        far = λ j x lj m. g .far j x lj (k .stays j x lj m);
+      }
+
+  abbrev from : ℕ
+  from = u .chunk .0
+
+  abbrev afterLeaving : Draft
+  afterLeaving = leaveBins (cond (u .lower) (lower ∷ []) [] ++ cond (u .upper) (upper ∷ []) []) d
+
+  abbrev booksOut : Books
+  booksOut = leaveBinM (leaveBinM (booksOf ws d) (u .lower) (lower .place)) (u .upper) (upper .place)
+
+  gone : Out ws h from booksOut afterLeaving
+  gone = rw (lies .chunk) (out _ _ refl refl)
+
+  bottom-by : (t : Bool) → u .lower ≡ t → Bottom ws h c (cond t (lower .place) c)
+  bottom-by false q =
+      record {
+        eight = lies .eight;
+        some = lies .some;
+        up = omega arith;
+        clear = λ j x lj m lt. omega (arith, lies .far j x lj m);
+      }
+  bottom-by true q =
+      let o = lies .under q in
+      let i = inside ws h p lower (o .0) in
+      let b = ordinary-listed ws h p lower (o .0) (o .1) in
+      record {
+        eight = i .place;
+        some = follows .way .holds (b .0) (b .1) .nodes (lower .place) (has (b .0) (lower .place) (b .3)) .some;
+        up = omega (arith, o .2);
+        clear = λ j x lj m lt. member-below ws h p j x lj m lower (o .0) lt;
+      }
+
+  bottom : Bottom ws h c from
+  bottom = rw (lies .chunk) (bottom-by _ refl)
+
+  module _ (j : Joined) (agrees : Agrees j lower upper u) where
+    abbrev new : Entry
+    new = entry from (u .end - from) unused
+
+    abbrev afterLinking : Draft
+    afterLinking = relink (j .low) (new ∷ []) (j .high) afterLeaving
+
+    rises : from ≤ u .end
+    rises = omega (arith, bottom .up, lies .large)
+
+    small : from + headOr outside (j .high) .flags < 4294967296
+    small =
+        let i = inside ws h p (lies .top .0) (lies .top .1) in
+        let b = bounds ws h p in
+        let r = rises in
+        omega (arith, lies .top .2, lies .flags, agrees .flags)
+
+    links : Follows ws h afterLinking
+    links =
+        let i = inside ws h p (lies .top .0) (lies .top .1) in
+        link-follows ws h afterLeaving (gone .follows) (j .low) (j .high) from (u .end) rises (sym (agrees .above)) small
+        (λ k x lk m. (
+          λ lt. bottom .clear k x lk m lt,
+          λ lt. let a = member-below ws h p k x lk m (lies .top .0) (lies .top .1) (omega (arith, lies .top .2)) in omega (arith, lies .top .2),
+        ))
+        (bottom .eight) (omega (arith, lies .top .2))
+
+    settles : Settled ws h (booksOf ws afterLinking) (joinedAs (lies .becomes .0)) from (u .end - from)
+        (settle (joinedAs (lies .becomes .0)) new afterLinking)
+    unfolding relink
+    settles =
+        let i = inside ws h p (lies .top .0) (lies .top .1) in
+        let b = bounds ws h p in
+        let o = bottom in
+        settle-step ws h afterLinking links p from (u .end - from) unused (omega (arith, lies .large))
+        (record { eight = o .eight; some = o .some; fits = omega (arith, lies .large, lies .top .2) })
+        (gone .far) (lies .becomes .0)
+
+    -- the code's calls, one after the other
+    gives : giveBackM (booksOf ws d) (tableOf h) u (lower .place) (upper .place) ≡ settleM (booksOf ws afterLinking) (tableOf h) (u .becomes) from (u .end - from)
+    unfolding giveBackM
+    gives =
+        rw (
+          gone .is,
+          agrees .below,
+          agrees .flags,
+          link-step ws h afterLeaving (gone .follows) (j .low) (j .high) from (u .end) rises (sym (agrees .above)) small,
+        )
+
+    given-is : givenBack j d ≡ settle (u .becomes) new afterLinking
+    given-is = rw (agrees .here, agrees .becomes, agrees .leaving)
+
+    -- the chunk above the one that is given back is at `end`
+    pub given-back : (end : ℕ) → upper .place ≡ end → Released ws h (booksOf ws d) u (lower .place) end (givenBack j d)
+    given-back end q =
+        rw (given-is, ← q)
+        (record { is = gives ∙ rw (lies .becomes .1) (settles .is); housed = rw (lies .becomes .1) (settles .housed); heap = rw (lies .becomes .1) (settles .heap) })

@@ -1,0 +1,82 @@
+-- Writing inside a live block leaves a heap that passes, and it is read as before. Assumes nothing.
+use mathlib.Core.Path.{_≡_, sym, ap}
+use mathlib.Core.Logic.{_⊎_, inl, inr}
+use mathlib.Core.Bool.{true}
+use mathlib.Core.List.{List, [], _∷_, map}
+use Prim.Native.Nat.{ℕ, zero, suc, _+_, _*_, _/_, _≤_, _<_}
+use native.Mathlib.Decide.{ℕ-discrete}
+use native.Mathlib.Omega.{arith}
+use Rattle.lists.specs.Lists.{Mem, numbersFrom}
+use Rattle.record.specs.declared.heap.Heap.{Heap}
+use Rattle.region.specs.Words.{word, Store, put, written, forward, backward}
+use Rattle.region.proofs.WordsLaws.{Off, off, length-written}
+use Rattle.rules.specs.Shape.{Entry, shape, binList}
+use Rattle.rules.specs.Kinds.{live, unused, blockOf, blockEnd, blockWords}
+use Rattle.rules.specs.Check.{Fits, Passes}
+use Rattle.rules.proofs.SpotLaws.{inside, apart, one-chunk, flags-free, live-between}
+use Rattle.rules.proofs.HeadersLaws.{SameHeader, headers-shape, headers-list, headers-pass}
+
+-- stores that fall into words a block has
+abbrev pub Within : Entry → List Store → Type 0
+Within e [] = Unit {0}
+Within e (s ∷ ss) = (blockOf e / 4 ≤ s .chunk / 4 + s .number) × (s .chunk / 4 + s .number < blockEnd e / 4) × Within e ss
+
+-- words of a block written one after the other from its start
+pub filled-within : (e : Entry) (value : ℕ → ℕ) (n : ℕ) → n ≤ blockWords e → Within e (map (λ k. put (blockOf e) k (value k)) (numbersFrom 0 n))
+filled-within e value n l = go n 0 (omega arith)
+  where
+    go : (n i : ℕ) → i + n ≤ blockWords e → Within e (map (λ k. put (blockOf e) k (value k)) (numbersFrom i n))
+    go zero i r = tt
+    go (suc n) i r = (omega arith, omega arith, go n (suc i) (omega arith))
+
+-- the stores are to no word below the block and to none above it
+below-block : (e : Entry) (ss : List Store) → Within e ss → (i : ℕ) → i < blockOf e / 4 → Off i ss
+below-block e [] w i l = tt
+below-block e (s ∷ ss) w i l = (λ q. omega (arith, w .0), below-block e ss (w .2) i l)
+
+above-block : (e : Entry) (ss : List Store) → Within e ss → (i : ℕ) → blockEnd e / 4 ≤ i → Off i ss
+above-block e [] w i l = tt
+above-block e (s ∷ ss) w i l = (λ q. omega (arith, w .1), above-block e ss (w .2) i l)
+
+module _ (ws : List ℕ) (h : Heap) (p : Passes ws h) (e : Entry) (m : Mem e (shape ws (h .bytes))) (l : live h e ≡ true)
+    (ss : List Store) (w : Within e ss) where
+  -- a word that a chunk has stands, and of the block's own chunk the two header words
+  word-stands : (d : Entry) → Mem d (shape ws (h .bytes)) → (k : ℕ) → 4 * k + 4 ≤ d .size → (d .place ≡ e .place → k < 2)
+      → word ws (d .place) k ≡ word (written ws ss) (d .place) k
+  word-stands d md k r own = sym (off ss ws (d .place) k (go (ℕ-discrete (d .place) (e .place))))
+    where
+      by : (blockEnd d ≤ e .place) ⊎ (blockEnd e ≤ d .place) → Off (d .place / 4 + k) ss
+      by (inl q) = let i = inside ws h p d md in below-block e ss w _ (omega arith)
+      by (inr q) = above-block e ss w _ (omega arith)
+
+      go : Dec (d .place ≡ e .place) → Off (d .place / 4 + k) ss
+      go (yes q) = let s = own q in below-block e ss w _ (omega arith)
+      go (no n) = by (apart ws h p d e md m n)
+
+  headers-stand : (d : Entry) → Mem d (shape ws (h .bytes)) → SameHeader ws (written ws ss) d
+  headers-stand d md =
+      let i = inside ws h p d md in
+      record {
+        links = (word-stands d md forward (omega arith) (λ q. omega arith), word-stands d md backward (omega arith) (λ q. omega arith));
+        words = λ f k r.
+            let b = flags-free ws h p d md f .between in
+            word-stands d md k (omega arith) (λ q. absurd (in-use f (one-chunk ws h p d e md m q)));
+      }
+    where
+      in-use : d .flags ≡ unused → d ≡ e → ⊥
+      in-use f q = let g = ap (λ (x : Entry). x .flags) q in omega (arith, live-between ws h p e m l .0)
+
+  still-fits : Fits (written ws ss) h
+  still-fits =
+      let f = p .fits in
+      let n = length-written ss ws in
+      record { enough = omega arith; notTooMany = omega arith; bytes = rw n (f .bytes) }
+
+pub fills : (ws : List ℕ) (h : Heap) → Passes ws h → (e : Entry) → Mem e (shape ws (h .bytes)) → live h e ≡ true → (ss : List Store) → Within e ss
+    → (shape (written ws ss) (h .bytes) ≡ shape ws (h .bytes)) × ((i : ℕ) → binList (written ws ss) h i ≡ binList ws h i) × Passes (written ws ss) h
+fills ws h p e m l ss w =
+    let s = headers-stand ws h p e m l ss w in (
+      headers-shape ws (written ws ss) h p s,
+      headers-list ws (written ws ss) h p s,
+      headers-pass ws (written ws ss) h p s (still-fits ws h p e m l ss w),
+    )
