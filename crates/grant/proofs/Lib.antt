@@ -1,2 +1,3 @@
 pub mod ChooseLaws
 pub mod ChooseMeaning
+pub mod SourceLaws
