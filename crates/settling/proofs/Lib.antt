@@ -1,2 +1,4 @@
 pub mod SettlingSteps
 pub mod DraftLaws
+pub mod LayoutLaws
+pub mod HeaderLaws
