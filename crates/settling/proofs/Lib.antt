@@ -2,3 +2,4 @@ pub mod SettlingSteps
 pub mod DraftLaws
 pub mod LayoutLaws
 pub mod HeaderLaws
+pub mod HalfwayLaws
