@@ -17,12 +17,12 @@ use Rattle.record.specs.declared.kinds.Kind.the-variants.{Start, InUse, Ordinar
 use Rattle.record.specs.declared.table.Binned.the-variants.{Bin}
 use Rattle.record.specs.Heap.{places, tableOf, with, withEnds}
 use Rattle.record.specs.Table.{binOf}
-use Rattle.region.specs.Words.{word, Store, written, nextInBin, previousInBin, bin}
+use Rattle.region.specs.Words.{word, Store, put, written, backward, nextInBin, previousInBin, bin}
 use Rattle.region.proofs.WordsLaws.{Off, off, length-written, written-append}
 use Rattle.rules.specs.Shape.{Entry, shape}
 use Rattle.rules.specs.Kinds.{ordinaryKind, kindOf, ordinary, outside}
 use Rattle.rules.specs.Check.{Unused, Unbinned, BelongsTo, Passes}
-use Rattle.rules.specs.Draft.{Draft, asRead, meet, leave, leaveBin, relink}
+use Rattle.rules.specs.Draft.{Draft, asRead, headers, meet, leave, leaveBin, relink}
 use Rattle.rules.proofs.KindsLaws.{Being, being, kind-ordinary}
 use Rattle.rules.proofs.SpotLaws.{flags-free, is-top, is-donor}
 use Rattle.bins.specs.Books.{books}
@@ -85,7 +85,7 @@ halfway-begins ws h p =
         ∙ ap ordinaryKind (sym (kind-ordinary (h .bytes) (h .donor .0) (h .top .0) e (λ q. omega arith) (λ q. omega arith) (λ q. omega arith) t n))))
 
 -- an ordinary chunk is free
-ordinary-free : (bytes : ℕ) (g : Heap) (e : Entry) → Laid bytes e → ordinary g e ≡ true → e .flags ≡ 0
+pub ordinary-free : (bytes : ℕ) (g : Heap) (e : Entry) → Laid bytes e → ordinary g e ≡ true → e .flags ≡ 0
 ordinary-free bytes g e y o = go (kindOf g e) (being (g .bytes) (g .donor .0) (g .top .0) e) o
   where
     go : (k : Kind) → Being (g .bytes) (g .donor .0) (g .top .0) e k → ordinaryKind k ≡ true → e .flags ≡ 0
@@ -97,7 +97,7 @@ ordinary-free bytes g e y o = go (kindOf g e) (being (g .bytes) (g .donor .0) (g
     go End b t = absurd (false≢true t)
 
 -- words of a chunk far from all members are no links of theirs
-far-no-link : (x k : ℕ) (cs : List ℕ) → k < 6 → x % 8 ≡ 0 → ((c : ℕ) → Mem c cs → (c % 8 ≡ 0) × Far x c) → NoLink (x / 4 + k) cs
+pub far-no-link : (x k : ℕ) (cs : List ℕ) → k < 6 → x % 8 ≡ 0 → ((c : ℕ) → Mem c cs → (c % 8 ≡ 0) × Far x c) → NoLink (x / 4 + k) cs
 far-no-link x k cs s z f = λ c m. at c (f c m .0) (f c m .1)
   where
     at : (c : ℕ) → c % 8 ≡ 0 → Far x c → (x / 4 + k ≢ c / 4 + nextInBin) × (x / 4 + k ≢ c / 4 + previousInBin)
@@ -107,7 +107,7 @@ far-no-link x k cs s z f = λ c m. at c (f c m .0) (f c m .1)
 abbrev pub Passing : List Store → ℕ → Type 0
 Passing ss c = Off (c / 4 + nextInBin) ss × Off (c / 4 + previousInBin) ss × Off (c / 4 + bin) ss
 
-unbinned-keeps : (ss : List Store) (ws : List ℕ) (c : ℕ) → Passing ss c → Unbinned ws c → Unbinned (written ws ss) c
+pub unbinned-keeps : (ss : List Store) (ws : List ℕ) (c : ℕ) → Passing ss c → Unbinned ws c → Unbinned (written ws ss) c
 unbinned-keeps ss ws c o u =
     record {
       next = off ss ws c nextInBin (o .0) ∙ u .next;
@@ -269,7 +269,13 @@ module _ (ws : List ℕ) (h : Heap) (low news high : List Entry) (d : Draft) (f 
     (y : Layout (h .bytes) (low ++ news ++ high)) (highs : high ≡ [] → ⊥) where
   relink-written : written ws (relink low news high d .stores) ≡ written (written ws (d .stores)) (linkStores low news high)
   unfolding relink
-  relink-written = rw (written-append, written-append, written-append)
+  relink-written =
+      let ss : List Store = headers (lastOr outside low .place) news in
+      let up : List Store =
+      put (headOr outside high .place) backward (lastOr (lastOr outside low) news .place + headOr outside high .flags) ∷ [] in
+      written-append (d .stores ++ ss) up ws
+      ∙ ap (λ (w : List ℕ). written w up) (written-append (d .stores) ss ws)
+      ∙ sym (written-append ss up (written ws (d .stores)))
 
   passed : (x : Entry) → Mem x (low ++ high) → 24 ≤ x .size → Passing (linkStores low news high) (x .place)
   passed x m s = (

@@ -3,3 +3,4 @@ pub mod DraftLaws
 pub mod LayoutLaws
 pub mod HeaderLaws
 pub mod HalfwayLaws
+pub mod SettleLaws
