@@ -4,3 +4,4 @@ pub mod LayoutLaws
 pub mod HeaderLaws
 pub mod HalfwayLaws
 pub mod SettleLaws
+pub mod PictureLaws
