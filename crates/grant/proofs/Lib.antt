@@ -1,3 +1,4 @@
 pub mod ChooseLaws
 pub mod ChooseMeaning
 pub mod SourceLaws
+pub mod CutLaws

@@ -32,7 +32,7 @@ use Rattle.bins.proofs.HeapBooks.{list-none}
 use Rattle.bins.proofs.WayLaws.{OnWay, relisted, relisted-other, header-no-link, leave-off, way-begins, way-keeps, way-leaves, way-left-far, way-stays, way-remains}
 use Rattle.settling.proofs.DraftLaws.{booksOf}
 use Rattle.settling.proofs.LayoutLaws.{Beside, Laid, Layout, laid-once, laid-beside, laid-below, among, outer-in, middle-in}
-use Rattle.settling.proofs.HeaderLaws.{Headed, Spares, headed-keeps, linkStores, link-headed, link-off}
+use Rattle.settling.proofs.HeaderLaws.{Headed, headed-below, Spares, headed-keeps, linkStores, link-headed, link-off}
 
 -- the record of a draft, of which a call changes the bins' ends, the donor, the top and the used bytes
 abbrev pub now : Heap → Draft → Heap
@@ -184,6 +184,12 @@ module _ (ws : List ℕ) (h : Heap) (stay : List Entry) (d : Draft) (f : Halfway
     unfolding leave
     leave-written = rw leaves-is (written-append (d .stores) (meet before after) ws)
 
+    -- of the record only the bins' ends change
+    pub leave-keeps : (leaveBin e d .heap .donor .0 ≡ d .heap .donor .0) × (leaveBin e d .heap .top .0 ≡ d .heap .top .0)
+        × (leaveBin e d .heap .used ≡ d .heap .used)
+    unfolding leave
+    leave-keeps = rw leaves-is (refl, refl, refl)
+
     -- headers of chunks that stand where chunks of the chain stand
     pub leave-headed : (b : Entry) (es : List Entry) (n : Entry) → ((x : Entry) → Mem x es → (z : Entry) × Mem z all × (z .place ≡ x .place))
         → Headed (written ws (d .stores)) b es n → Headed (written ws (leaveBin e d .stores)) b es n
@@ -317,3 +323,37 @@ module _ (ws : List ℕ) (h : Heap) (low news high : List Entry) (d : Draft) (f 
   relink-headed long q lower upper =
       let k = length-written (d .stores) ws in
       rw relink-written (link-headed (h .bytes) low news high y highs (written ws (d .stores)) (omega arith) q lower upper)
+
+-- the chain is open: low reaches up to the chunk `first`, high begins above the chunk `last`, and what lies between is out of bins
+pub record Opened (ws : List ℕ) (h : Heap) (low : List Entry) (first last : Entry) (high : List Entry) (d : Draft) : Type 0 where
+  pub halfway : Halfway ws h (low ++ high) d
+  pub lower : Headed (written ws (d .stores)) outside low first
+  pub upper : Headed (written ws (d .stores)) last high outside
+  pub donor : d .heap .donor .0 ≡ h .donor .0
+  pub top : d .heap .top .0 ≡ h .top .0
+  pub used : d .heap .used ≡ h .used
+
+-- the chain is closed again, and only chunks of its middle are still to take their place
+pub record Closed (ws : List ℕ) (h : Heap) (low news high : List Entry) (d : Draft) : Type 0 where
+  pub halfway : Halfway ws h (low ++ high) d
+  pub headed : Headed (written ws (d .stores)) outside (low ++ news ++ high) outside
+  pub chain : d .chain ≡ low ++ news ++ high
+  pub donor : d .heap .donor .0 ≡ h .donor .0
+  pub top : d .heap .top .0 ≡ h .top .0
+  pub used : d .heap .used ≡ h .used
+
+pub closes : (ws : List ℕ) (h : Heap) (low news high : List Entry) (first last : Entry) (d : Draft) → Opened ws h low first last high d
+    → Layout (h .bytes) (low ++ news ++ high) → (high ≡ [] → ⊥) → h .bytes ≤ 4 * length ws → first .place ≡ headOr (headOr outside high) news .place
+    → Closed ws h low news high (relink low news high d)
+unfolding relink
+closes ws h low news high first last d o y highs long q =
+    record {
+      halfway = relink-halfway ws h low news high d (o .halfway) y highs;
+      headed =
+          relink-headed ws h low news high d (o .halfway) y highs long last
+          (headed-below (written ws (d .stores)) outside low first (headOr (headOr outside high) news) q (o .lower)) (o .upper);
+      chain = refl;
+      donor = o .donor;
+      top = o .top;
+      used = o .used;
+    }
