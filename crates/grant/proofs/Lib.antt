@@ -2,3 +2,4 @@ pub mod ChooseLaws
 pub mod ChooseMeaning
 pub mod SourceLaws
 pub mod CutLaws
+pub mod GrantKept
