@@ -42,6 +42,18 @@ pub record Settles (ws : List ℕ) (h : Heap) (all : List Entry) (donor top : �
   pub topIs : after .heap .top .0 ≡ top
   pub used : after .heap .used ≡ d .heap .used
 
+pub settles-named : {ws : List ℕ} {h : Heap} {all : List Entry} {donor top donor′ top′ : ℕ} {d after : Draft}
+    → Settles ws h all donor top d after → donor ≡ donor′ → top ≡ top′ → Settles ws h all donor′ top′ d after
+settles-named s p q =
+    record {
+      halfway = s .halfway;
+      headed = s .headed;
+      chain = s .chain;
+      donorIs = s .donorIs ∙ p;
+      topIs = s .topIs ∙ q;
+      used = s .used;
+    }
+
 module _ (ws : List ℕ) (h : Heap) (stay : List Entry) (d : Draft) (f : Halfway ws h stay d)
     (all : List Entry) (y : Layout (h .bytes) all) (sub : (e : Entry) → Mem e stay → Mem e all) where
   used-out : (x : Entry) → Mem x all → x .flags ≡ 1 → (g : Heap) → ordinary g x ≡ true → ⊥
