@@ -1,14 +1,14 @@
 -- A heap in the making: its ordinary chunks are in their bins and its other free chunks in none, but for the chunks that a call has taken out
 -- and not yet settled. What a chunk's leaving, linking and settling make of such a heap. Assumes nothing.
 use mathlib.Core.Path.{_≡_, refl, sym, ap, subst, _∙_}
-use mathlib.Core.Logic.{_≢_, _⊎_, inl, inr}
-use mathlib.Core.Bool.{Bool, true, false, cond, false≢true}
-use mathlib.Core.List.{List, [], _∷_, _++_, List·Memᴰ·head, List·Memᴰ·tail, List·Memᴰ·append-cases, Memᴰ·append-left, Memᴰ·append-right, Memᴰ·cast}
-use Prim.Native.Nat.{ℕ, _+_, _*_, _-_, _/_, _%_, _≤_, _<_}
+use mathlib.Core.Logic.{_≢_, inl, inr}
+use mathlib.Core.Bool.{true, false, false≢true}
+use mathlib.Core.List.{List, [], _∷_, _++_, Memᴰ·cast}
+use Prim.Native.Nat.{ℕ, _+_, _*_, _/_, _%_, _≤_, _<_}
 use native.Mathlib.Decide.{ℕ-discrete}
 use native.Mathlib.Omega.{arith}
 use lib.Dec.{eqb}
-use lib.ListN.{length, getD, set, length-set}
+use lib.ListN.{length, set, length-set}
 use lib.Seq.{getD-set-other}
 use Rattle.lists.specs.Lists.{Mem, headOr, lastOr, upTo, past}
 use Rattle.record.specs.declared.heap.Heap.{Heap}
@@ -17,7 +17,7 @@ use Rattle.record.specs.declared.kinds.Kind.the-variants.{Start, InUse, Ordinar
 use Rattle.record.specs.declared.table.Binned.the-variants.{Bin}
 use Rattle.record.specs.Heap.{places, tableOf, with, withEnds}
 use Rattle.record.specs.Table.{binOf}
-use Rattle.region.specs.Words.{word, Store, put, written, backward, nextInBin, previousInBin, bin}
+use Rattle.region.specs.Words.{Store, put, written, backward, nextInBin, previousInBin, bin}
 use Rattle.region.proofs.WordsLaws.{Off, off, length-written, written-append}
 use Rattle.rules.specs.Shape.{Entry, shape}
 use Rattle.rules.specs.Kinds.{ordinaryKind, kindOf, ordinary, outside}
@@ -31,7 +31,7 @@ use Rattle.bins.proofs.BooksLaws.{Far}
 use Rattle.bins.proofs.HeapBooks.{list-none}
 use Rattle.bins.proofs.WayLaws.{OnWay, relisted, relisted-other, header-no-link, leave-off, way-begins, way-keeps, way-leaves, way-left-far, way-stays, way-remains}
 use Rattle.settling.proofs.DraftLaws.{booksOf}
-use Rattle.settling.proofs.LayoutLaws.{Beside, Laid, Layout, laid-once, laid-beside, laid-below, among, outer-in, middle-in}
+use Rattle.settling.proofs.LayoutLaws.{Beside, Laid, Layout, laid-once, laid-beside, laid-below, outer-in}
 use Rattle.settling.proofs.HeaderLaws.{Headed, headed-below, Spares, headed-keeps, linkStores, link-headed, link-off}
 
 -- the record of a draft, of which a call changes the bins' ends, the donor, the top and the used bytes

@@ -1,9 +1,9 @@
 -- The headers of neighbouring chunks: links, flags, and the size words of free ones. A heap that passes has them along its chain; a chain
 -- that has them is what is read; stores elsewhere keep them; and linking chunks in between two parts of a chain makes them right again. Assumes nothing.
 use mathlib.Core.Path.{_≡_, refl, sym, ap, subst, _∙_}
-use mathlib.Core.Logic.{_≢_, _⊎_, inl, inr}
+use mathlib.Core.Logic.{_≢_, inl, inr}
 use mathlib.Core.Bool.{Bool, true, false}
-use mathlib.Core.List.{List, [], _∷_, _++_, List·Memᴰ·head, List·Memᴰ·tail, List·Memᴰ·append-cases, Memᴰ·append-left, Memᴰ·append-right}
+use mathlib.Core.List.{List, [], _∷_, _++_, List·Memᴰ·head, List·Memᴰ·tail, Memᴰ·append-left, Memᴰ·append-right}
 use Prim.Native.Nat.{ℕ, _+_, _*_, _-_, _/_, _%_, _≤_, _<_}
 use native.Mathlib.Decide.{ℕ-discrete}
 use native.Mathlib.Omega.{arith}
@@ -13,16 +13,16 @@ use borrow.Author.Tests.{eqb-true, eqb-false}
 use Rattle.lists.specs.Lists.{Mem, headOr, lastOr}
 use Rattle.lists.proofs.MembersLaws.{head-append, last-append}
 use Rattle.record.specs.declared.heap.Heap.{Heap}
-use Rattle.region.specs.Words.{word, store, Store, put, written, forward, backward, size}
-use Rattle.region.proofs.WordsLaws.{Off, off, got, length-written, written-append, word-same, word-other, length-store}
+use Rattle.region.specs.Words.{word, Store, put, written, forward, backward, size}
+use Rattle.region.proofs.WordsLaws.{Off, off, got, length-written, written-append, word-same, word-other}
 use Rattle.rules.specs.Shape.{Entry, entry, flagsAt, shape}
 use Rattle.rules.specs.Kinds.{unused, blockEnd, outside}
 use Rattle.rules.specs.Check.{Backed, Passes}
 use Rattle.rules.specs.Draft.{headers, sizeStores}
 use Rattle.rules.proofs.ShapeLaws.{chainFrom, shape-goes, shape-stops, shape-is}
-use Rattle.rules.proofs.SpotLaws.{Tiled, tiled-in, tiled-up, bounds, tiled, inside, ends, Inside}
+use Rattle.rules.proofs.SpotLaws.{Tiled, tiled-in, tiled-up, tiled, inside, ends, Inside}
 use Rattle.bins.proofs.RunsLaws.{off-both}
-use Rattle.settling.proofs.LayoutLaws.{Beside, Laid, Layout, Cuts, laid-beside, cuts, outer-beside, among, outer-in, middle-in}
+use Rattle.settling.proofs.LayoutLaws.{Beside, Laid, Layout, Cuts, laid-beside, cuts, outer-beside, outer-in, middle-in}
 
 -- the header of e, which stands between b and n
 pub record Header (ws : List ℕ) (b e n : Entry) : Type 0 where

@@ -2,18 +2,18 @@
 -- start and end in use; and that they still do where some of them are replaced by others that fill the same bytes. Assumes nothing.
 use mathlib.Core.Path.{_≡_, refl, sym, ap, _∙_}
 use mathlib.Core.Logic.{_⊎_, inl, inr}
-use mathlib.Core.List.{List, [], _∷_, _++_, append-assoc, map, List·Memᴰ·head, List·Memᴰ·tail, List·Memᴰ·append-cases, Memᴰ·append-left, Memᴰ·append-right}
+use mathlib.Core.List.{List, [], _∷_, _++_, append-assoc, List·Memᴰ·append-cases, Memᴰ·append-left, Memᴰ·append-right}
 use Prim.Native.Nat.{ℕ, suc, _+_, _*_, _%_, _≤_, _<_}
 use native.Mathlib.Omega.{arith}
 use lib.ListN.{length}
 use Rattle.lists.specs.Lists.{Mem, headOr, lastOr}
-use Rattle.lists.proofs.MembersLaws.{head-append, last-append}
+use Rattle.lists.proofs.MembersLaws.{last-append}
 use Rattle.record.specs.declared.heap.Heap.{Heap}
 use Rattle.rules.specs.Shape.{Entry, shape}
 use Rattle.rules.specs.Kinds.{blockEnd, outside}
 use Rattle.rules.specs.Check.{Ended, Passes}
 use Rattle.rules.proofs.ChainLaws.{Rising, rising-from, same-place}
-use Rattle.rules.proofs.SpotLaws.{Tiled, tiled-cut, tiled-in, tiled-apart, tiled-empty, tiled-few, bounds, tiled, inside, free-between, ends}
+use Rattle.rules.proofs.SpotLaws.{Tiled, tiled-cut, tiled-in, tiled-apart, tiled-few, tiled, inside, free-between, ends}
 
 -- members of a list with something put into its middle
 module _ {A : Type 0} {x : A} (low mid high : List A) where

@@ -1,10 +1,9 @@
 -- A heap in which no chunk waits for a place is in order: what a draft's stores make of the words passes the check with the draft's record,
 -- and is read as the draft's chain and lists. Assumes nothing.
-use mathlib.Core.Path.{_≡_, refl, sym, ap, _∙_}
-use mathlib.Core.Logic.{_≢_}
+use mathlib.Core.Path.{_≡_, sym, ap, _∙_}
 use mathlib.Core.Bool.{Bool, true, false, cond}
 use mathlib.Core.List.{List, [], _∷_, _++_, map, Memᴰ·map, Memᴰ·cast, Memᴰ·append-left, Memᴰ·append-right}
-use Prim.Native.Nat.{ℕ, _+_, _*_, _-_, _≤_, _<_}
+use Prim.Native.Nat.{ℕ, _+_, _-_, _≤_, _<_}
 use native.Mathlib.Decide.{decLt}
 use native.Mathlib.Omega.{arith}
 use lib.ListN.{length, length-map}
@@ -17,7 +16,7 @@ use Rattle.region.specs.Words.{written}
 use Rattle.region.proofs.WordsLaws.{length-written}
 use Rattle.rules.specs.Shape.{Entry, shape, members, binList}
 use Rattle.rules.specs.Kinds.{ordinaryKind, liveKind, kindOf, live, blockEnd, outside}
-use Rattle.rules.specs.Check.{Fits, Tabled, Chained, Sound, TopIs, DonorIs, Listed, InItsBin, usedBytes, Passes, PassesAs}
+use Rattle.rules.specs.Check.{Fits, Tabled, TopIs, DonorIs, Listed, usedBytes, Passes, PassesAs}
 use Rattle.rules.specs.Draft.{Draft, nowUses}
 use Rattle.rules.proofs.KindsLaws.{kind-top, kind-donor}
 use Rattle.rules.proofs.ShapeLaws.{members-steps, read-none}

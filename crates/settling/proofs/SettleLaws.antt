@@ -1,9 +1,9 @@
 -- A free chunk that was linked in takes its place, in its bin or as the donor or the top; and a heap in which no chunk waits for a place. Assumes nothing.
-use mathlib.Core.Path.{_≡_, refl, sym, ap, subst, _∙_}
+use mathlib.Core.Path.{_≡_, refl, sym, ap, _∙_}
 use mathlib.Core.Logic.{_≢_, _⊎_, inl, inr}
 use mathlib.Core.Bool.{Bool, true, false, cond, false≢true}
 use mathlib.Core.List.{List, [], _∷_, _++_, append-nil, List·Memᴰ·head, Memᴰ·append-left, Memᴰ·append-right}
-use Prim.Native.Nat.{ℕ, _+_, _*_, _/_, _%_, _≤_, _<_}
+use Prim.Native.Nat.{ℕ, _+_, _*_, _/_, _≤_, _<_}
 use native.Mathlib.Decide.{ℕ-discrete, decLt}
 use native.Mathlib.Omega.{arith}
 use lib.Dec.{ltb}
@@ -31,7 +31,7 @@ use Rattle.bins.proofs.WayLaws.{OnWay, relisted, relisted-same, relisted-other,
 use Rattle.settling.proofs.DraftLaws.{booksOf}
 use Rattle.settling.proofs.LayoutLaws.{Beside, Laid, Layout, laid-once, laid-beside, laid-below}
 use Rattle.settling.proofs.HeaderLaws.{Headed, Spares, headed-keeps}
-use Rattle.settling.proofs.HalfwayLaws.{now, Halfway, Passing, ordinary-free, far-no-link, unbinned-keeps, Member, member-chunk, not-listed, member-below, member-far}
+use Rattle.settling.proofs.HalfwayLaws.{now, Halfway, Passing, ordinary-free, far-no-link, unbinned-keeps, not-listed, member-below, member-far}
 
 -- what a step makes of a draft whose chain is `all`: the donor, the top and the used bytes that it leaves are named
 pub record Settles (ws : List ℕ) (h : Heap) (all : List Entry) (donor top : ℕ) (d after : Draft) : Type 0 where
