@@ -115,7 +115,7 @@ tiled-eights a b (x ∷ y ∷ es) t z f (List·Memᴰ·head q) =
 tiled-eights a b (x ∷ es) t z f (List·Memᴰ·tail m) =
     tiled-eights (blockEnd x) b es (t .2) z (λ d k. f d (List·Memᴰ·tail k)) m
 
-tiled-empty : (a b : ℕ) (es : List Entry) → Tiled a es b → es ≡ [] → a ≡ b
+pub tiled-empty : (a b : ℕ) (es : List Entry) → Tiled a es b → es ≡ [] → a ≡ b
 tiled-empty a b es t z = rw z at t
 
 -- the first is the only one if it reaches b
@@ -125,7 +125,7 @@ tiled-one a b (x ∷ []) t l q = refl
 tiled-one a b (x ∷ y ∷ es) t l q = let u = tiled-up (blockEnd y) b es (t .2 .2) in absurd (omega (arith, t .2 .0, t .2 .1))
 
 -- the least size bounds their number
-tiled-few : (a b : ℕ) (es : List Entry) → Tiled a es b → ((e : Entry) → Mem e es → 8 ≤ e .size) → a + 8 * length es ≤ b
+pub tiled-few : (a b : ℕ) (es : List Entry) → Tiled a es b → ((e : Entry) → Mem e es → 8 ≤ e .size) → a + 8 * length es ≤ b
 tiled-few a b [] t f = omega arith
 tiled-few a b (e ∷ es) t f =
     let r = tiled-few (blockEnd e) b es (t .2) (λ d m. f d (List·Memᴰ·tail m)) in
