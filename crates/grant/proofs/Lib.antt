@@ -5,4 +5,5 @@ pub mod CutSteps
 pub mod CutLaws
 pub mod CutMeaning
 pub mod ServeSteps
+pub mod ServeMeaning
 pub mod GrantKept
