@@ -24,25 +24,15 @@ use Rattle.rules.specs.Draft.{Draft, asRead, leaveBin, relink, settle, nowUses,
 use Rattle.rules.specs.Serve.{nowhere}
 use Rattle.rules.specs.Cut.{Parts, cut, chunksOf, leaveAs, grantAt}
 use Rattle.rules.specs.Allocate.{sourceOf, grant}
-use Rattle.rules.proofs.KindsLaws.{Being, being, kind-in-use, kind-top, kind-donor, kind-ordinary}
+use Rattle.rules.proofs.KindsLaws.{Being, being, kind-in-use, kind-top, kind-donor, kind-ordinary, donor-moved, top-moved}
 use Rattle.rules.proofs.SpotLaws.{tiled-empty, Free, IsTop, in-split, bounds, one-chunk, live-between, is-ordinary, is-top, is-donor}
 use Rattle.settling.proofs.LayoutLaws.{Beside, Laid, Layout, layout-read, cuts, outer-beside, among, outer-in, middle-in, layout-replaced}
 use Rattle.settling.proofs.HeaderLaws.{Headed, headed-cut, headed-read}
 use Rattle.settling.proofs.HalfwayLaws.{now, Halfway, halfway-begins, halfway-fewer, leave-headed, leave-halfway, leave-keeps, Opened, Closed, closes}
 use Rattle.settling.proofs.SettleLaws.{Settles, settles-named, settles-all, settles-in-bin, settles-as-donor, settles-as-top}
+use Rattle.settling.proofs.PictureLaws.{Pictured, Posts, used-replaced, kinds-after, settled-pictured}
 use Rattle.grant.proofs.SourceLaws.{kindIn, CanGrant, source-can}
 use Rattle.grant.proofs.CutLaws.{Cutting, Whole, Left, cut-either}
-use Rattle.settling.proofs.PictureLaws.{Pictured, Posts, used-replaced, kinds-after, settled-pictured}
-
--- a chunk at neither of two places is of one kind, whichever of them the record names
-module _ (bytes : ℕ) (a b other : ℕ) (x : Entry) (na : x .place ≢ a) (nb : x .place ≢ b) where
-  donor-moved : kindAt bytes a other x ≡ kindAt bytes b other x
-  unfolding kindAt
-  donor-moved = rw (ne-eqb (x .place) a na, ne-eqb (x .place) b nb)
-
-  top-moved : kindAt bytes other a x ≡ kindAt bytes other b x
-  unfolding kindAt
-  top-moved = rw (ne-eqb (x .place) a na, ne-eqb (x .place) b nb)
 
 -- a free chunk e of the chain, which is taken apart there
 module _ (ws : List ℕ) (h : Heap) (p : Passes ws h) (low : List Entry) (e : Entry) (high : List Entry)
