@@ -1,7 +1,7 @@
 -- A grant leaves a heap that passes and is read as the draft says (`grant-kept`): the granted chunk is a new live one, and every live chunk stays. Assumes nothing.
 use mathlib.Core.Path.{_≡_, refl, sym, ap, subst, _∙_}
 use mathlib.Core.Logic.{_≢_, _⊎_, inl, inr}
-use mathlib.Core.Bool.{Bool, true, false, cond, true≢false, false≢true}
+use mathlib.Core.Bool.{Bool, true, false, cond, false≢true}
 use mathlib.Core.List.{List, [], _∷_, _++_, append-assoc, List·Memᴰ·head, List·Memᴰ·tail, List·Memᴰ·eq-of-singleton, Memᴰ·append-left, Memᴰ·append-right}
 use Prim.Native.Nat.{ℕ, _+_, _*_, _-_, _%_, _≤_, _<_}
 use native.Mathlib.Nat.{add-zero}
@@ -14,7 +14,6 @@ use Rattle.record.specs.declared.heap.Heap.{Heap}
 use Rattle.record.specs.declared.kinds.Kind.{Kind}
 use Rattle.record.specs.declared.kinds.Kind.the-variants.{Start, InUse, Ordinary, Donor, Top, End}
 use Rattle.record.specs.declared.sources.Source.{Source}
-use Rattle.record.specs.declared.sources.Source.the-variants.{FromBin, FromDonor, FromTop, Nowhere}
 use Rattle.record.specs.Heap.{withDonor, withTop}
 use Rattle.region.specs.Words.{written}
 use Rattle.rules.specs.Shape.{Entry, shape}
@@ -24,26 +23,16 @@ use Rattle.rules.specs.Draft.{Draft, asRead, leaveBin, relink, settle, nowUses,
 use Rattle.rules.specs.Serve.{nowhere}
 use Rattle.rules.specs.Cut.{Parts, cut, chunksOf, leaveAs, grantAt}
 use Rattle.rules.specs.Allocate.{sourceOf, grant}
-use Rattle.rules.proofs.KindsLaws.{Being, being, kind-in-use, kind-top, kind-donor, kind-ordinary}
+use Rattle.rules.proofs.KindsLaws.{Being, being, kind-in-use, kind-top, kind-donor, kind-ordinary, donor-moved, top-moved}
 use Rattle.rules.proofs.SpotLaws.{tiled-empty, Free, IsTop, in-split, bounds, one-chunk, live-between, is-ordinary, is-top, is-donor}
 use Rattle.settling.proofs.LayoutLaws.{Beside, Laid, Layout, layout-read, cuts, outer-beside, among, outer-in, middle-in, layout-replaced}
 use Rattle.settling.proofs.HeaderLaws.{Headed, headed-cut, headed-read}
 use Rattle.settling.proofs.HalfwayLaws.{now, Halfway, halfway-begins, halfway-fewer, leave-headed, leave-halfway, leave-keeps, Opened, Closed, closes}
 use Rattle.settling.proofs.SettleLaws.{Settles, settles-named, settles-all, settles-in-bin, settles-as-donor, settles-as-top}
-use Rattle.grant.specs.Serve.{kindIn}
-use Rattle.grant.proofs.SourceLaws.{CanGrant, source-can}
-use Rattle.grant.proofs.CutLaws.{Cutting, Whole, Left, cut-either}
 use Rattle.settling.proofs.PictureLaws.{Pictured, Posts, used-replaced, kinds-after, settled-pictured}
-
--- a chunk at neither of two places is of one kind, whichever of them the record names
-module _ (bytes : ℕ) (a b other : ℕ) (x : Entry) (na : x .place ≢ a) (nb : x .place ≢ b) where
-  donor-moved : kindAt bytes a other x ≡ kindAt bytes b other x
-  unfolding kindAt
-  donor-moved = rw (ne-eqb (x .place) a na, ne-eqb (x .place) b nb)
-
-  top-moved : kindAt bytes other a x ≡ kindAt bytes other b x
-  unfolding kindAt
-  top-moved = rw (ne-eqb (x .place) a na, ne-eqb (x .place) b nb)
+use Rattle.grant.specs.Serve.{kindIn}
+use Rattle.grant.proofs.SourceLaws.{CanGrant, free-source, source-can}
+use Rattle.grant.proofs.CutLaws.{Cutting, Whole, Left, cut-either}
 
 -- a free chunk e of the chain, which is taken apart there
 module _ (ws : List ℕ) (h : Heap) (p : Passes ws h) (low : List Entry) (e : Entry) (high : List Entry)
@@ -514,12 +503,6 @@ module _ (ws : List ℕ) (h : Heap) (p : Passes ws h) (low : List Entry) (e : En
         go InUse q f s = absurd (false≢true f)
         go End q f s = absurd (false≢true f)
 
-free-kind : (s : Source) → nowhere s ≡ false → freeKind (kindIn s) ≡ true
-free-kind (FromBin c) q = refl
-free-kind FromDonor q = refl
-free-kind FromTop q = refl
-free-kind Nowhere q = absurd (true≢false q)
-
 module _ (ws : List ℕ) (h : Heap) (p : Passes ws h) (n : ℕ) (large : 24 ≤ n) (eight : n % 8 ≡ 0)
     (some : nowhere (sourceOf n (asRead ws h)) ≡ false) where
   abbrev source : Source
@@ -558,9 +541,9 @@ module _ (ws : List ℕ) (h : Heap) (p : Passes ws h) (n : ℕ) (large : 24 ≤ 
     where
       go : Whole chosen n parts ⊎ Left chosen n parts → Kept ws h p low chosen high (can .split) (can .free) (chunksOf parts) (parts .granted) after
       go (inl w) =
-          whole-kept-as ws h p low chosen high (can .split) (can .free) n large parts w (kindIn source) (can .kind) (free-kind source some) (can .spare)
+          whole-kept-as ws h p low chosen high (can .split) (can .free) n large parts w (kindIn source) (can .kind) (free-source source some) (can .spare)
       go (inr w) =
-          part-kept ws h p low chosen high (can .split) (can .free) n large parts w eight (kindIn source) (can .kind) (free-kind source some)
+          part-kept ws h p low chosen high (can .split) (can .free) n large parts w eight (kindIn source) (can .kind) (free-source source some)
 
   cutting : Cutting chosen n parts
   cutting = go (cut-either chosen n large (can .enough))

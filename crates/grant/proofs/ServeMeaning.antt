@@ -1,7 +1,7 @@
 -- A request for room that something can serve is met as the rules say: the words, the record, and the chunk that is granted (`serve-is`).
 -- Whether something can is ChooseMeaning's. Assumes nothing.
-use mathlib.Core.Path.{_≡_, refl, sym, ap, _∙_}
-use mathlib.Core.Bool.{true, false, false≢true}
+use mathlib.Core.Path.{_≡_, sym, ap, _∙_}
+use mathlib.Core.Bool.{false}
 use mathlib.Core.List.{List}
 use Prim.Native.Nat.{ℕ, _+_, _-_, _%_, _^_, _≤_, _<_}
 use native.Mathlib.Decide.{decLt}
@@ -11,22 +11,21 @@ use Rattle.bins.specs.Books.{books}
 use Rattle.record.specs.declared.heap.Heap.{Heap}
 use Rattle.record.specs.declared.kinds.Kind.{Kind}
 use Rattle.record.specs.declared.sources.Source.{Source}
-use Rattle.record.specs.declared.sources.Source.the-variants.{FromBin, FromDonor, FromTop, Nowhere}
 use Rattle.record.specs.Heap.{at, tableOf, with}
 use Rattle.region.specs.Words.{written}
 use Rattle.rules.specs.Allocate.{sourceOf, grant}
 use Rattle.rules.specs.Check.{Passes}
 use Rattle.rules.specs.Cut.{Grant, grantAt, grantFrom}
-use Rattle.rules.specs.Draft.{Draft, asRead, Spot, spot}
-use Rattle.rules.specs.Kinds.{freeKind, isAt, used}
+use Rattle.rules.specs.Draft.{asRead, Spot, spot}
+use Rattle.rules.specs.Kinds.{isAt, used}
 use Rattle.rules.specs.Serve.{nowhere}
 use Rattle.rules.specs.Shape.{Entry, entry, shape}
 use Rattle.rules.proofs.SpotLaws.{bounds, inside, used-few}
 use Rattle.settling.specs.Settling.{donorAfter, topAfter}
 use Rattle.settling.proofs.DraftLaws.{booksOf}
 use Rattle.grant.specs.Cut.{grantedM, cutM, takeM}
-use Rattle.grant.specs.Serve.{kindIn, placeIn, Leaves, leaves, takenM, servedM}
-use Rattle.grant.proofs.SourceLaws.{CanGrant, source-can}
+use Rattle.grant.specs.Serve.{kindIn, Leaves, leaves, takenM, servedM}
+use Rattle.grant.proofs.SourceLaws.{CanGrant, free-source, source-can}
 use Rattle.grant.proofs.CutMeaning.{Serving, Taken, chunk-taken}
 
 -- what the code hands back of the rule's grant
@@ -41,12 +40,6 @@ granted-few n s l = go (decLt s (n + 24))
     go : Dec (s < n + 24) → grantedM n s ≤ s
     go (yes k) = rw (lt-leb (n + 24) s k) (omega arith)
     go (no k) = rw (le-leb (n + 24) s (omega arith)) l
-
-free-source : (s : Source) → nowhere s ≡ false → freeKind (kindIn s) ≡ true
-free-source (FromBin c) q = refl
-free-source FromDonor q = refl
-free-source FromTop q = refl
-free-source Nowhere q = absurd (false≢true (sym q))
 
 module _ (ws : List ℕ) (h : Heap) (p : Passes ws h) (n : ℕ) (large : 24 ≤ n) (eight : n % 8 ≡ 0) where
   -- m bytes of the chunk e are granted as the rule says

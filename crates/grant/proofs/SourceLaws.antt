@@ -24,7 +24,7 @@ use Rattle.record.specs.Heap.{at, tableOf}
 use Rattle.record.specs.Table.{Takes, TakenBy, small, binOf}
 use Rattle.record.proofs.TableLaws.{bin-taken, sizes-grow}
 use Rattle.rules.specs.Shape.{Entry, shape, binList}
-use Rattle.rules.specs.Kinds.{ordinaryKind, kindOf, isAt}
+use Rattle.rules.specs.Kinds.{freeKind, ordinaryKind, kindOf, isAt}
 use Rattle.rules.specs.Check.{Passes}
 use Rattle.rules.specs.Draft.{asRead, spot}
 use Rattle.rules.specs.Cut.{grantAt, grantFrom}
@@ -34,6 +34,13 @@ use Rattle.rules.proofs.SpotLaws.{Free, spot-at, top-here, donor-here}
 use Rattle.bins.proofs.HeapBooks.{member-entry}
 use Rattle.grant.specs.Serve.{placeIn, kindIn}
 use Rattle.grant.proofs.ChooseMeaning.{size-on}
+
+-- a source is one of the three free kinds
+pub free-source : (s : Source) → nowhere s ≡ false → freeKind (kindIn s) ≡ true
+free-source (FromBin c) q = refl
+free-source FromDonor q = refl
+free-source FromTop q = refl
+free-source Nowhere q = absurd (true≢false q)
 
 -- n bytes can be granted from the source, which is the chunk e
 pub record CanGrant (ws : List ℕ) (h : Heap) (n : ℕ) (source : Source) (e : Entry) : Type 0 where

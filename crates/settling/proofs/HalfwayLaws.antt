@@ -25,7 +25,6 @@ use Rattle.rules.specs.Check.{Unused, Unbinned, BelongsTo, Passes}
 use Rattle.rules.specs.Draft.{Draft, asRead, headers, meet, leave, leaveBin, relink}
 use Rattle.rules.proofs.KindsLaws.{Being, being, kind-ordinary}
 use Rattle.rules.proofs.SpotLaws.{flags-free, is-top, is-donor}
-use Rattle.bins.specs.Books.{books}
 use Rattle.bins.proofs.RunsLaws.{NoLink}
 use Rattle.bins.proofs.BooksLaws.{Far}
 use Rattle.bins.proofs.HeapBooks.{list-none}
@@ -270,6 +269,32 @@ halfway-fewer ws h stay rest d f some every =
       housed = f .housed;
     }
 
+-- the draft with another chain and with all the stores named
+abbrev pub rewritten : List Entry → List Store → Draft → Draft
+rewritten es all d = record { heap = d .heap; chain = es; lists = d .lists; stores = all; homeless = d .homeless }
+
+-- stores that are to no link and no bin word of a free chunk that stays
+pub writes-halfway : (ws : List ℕ) (h : Heap) (stay es : List Entry) (d : Draft) (ss all : List Store) → Halfway ws h stay d
+    → written ws all ≡ written (written ws (d .stores)) ss → ((e : Entry) → Mem e stay → Laid (h .bytes) e)
+    → ((e : Entry) → Mem e stay → e .flags ≡ 0 → Passing ss (e .place)) → Halfway ws h stay (rewritten es all d)
+writes-halfway ws h stay es d ss all f w laid passed =
+    record {
+      heap = f .heap;
+      headPlaces = f .headPlaces;
+      tailPlaces = f .tailPlaces;
+      headsEnd = f .headsEnd;
+      tailsEnd = f .tailsEnd;
+      way = rw w (way-keeps (booksOf ws d) (d .lists) (h .bins) (f .way) ss (λ i c l m. clear (f .members i c l m)));
+      none = f .none;
+      members = f .members;
+      listed = f .listed;
+      reserved = λ e m z o. rw w (unbinned-keeps ss (written ws (d .stores)) (e .place) (passed e m z) (f .reserved e m z o));
+      housed = f .housed;
+    }
+  where
+    clear : {i c : ℕ} → (e : Entry) × Mem e stay × ((e .place ≡ c) × BelongsTo (now h d) i e) → Passing ss c
+    clear (e, m, (q, b)) = rw q at (passed e m (ordinary-free (h .bytes) (now h d) e (laid e m) (b .0)))
+
 -- the chunks news are linked in between low and high
 module _ (ws : List ℕ) (h : Heap) (low news high : List Entry) (d : Draft) (f : Halfway ws h (low ++ high) d)
     (y : Layout (h .bytes) (low ++ news ++ high)) (highs : high ≡ [] → ⊥) where
@@ -283,40 +308,19 @@ module _ (ws : List ℕ) (h : Heap) (low news high : List Entry) (d : Draft) (f 
       ∙ ap (λ (w : List ℕ). written w up) (written-append (d .stores) ss ws)
       ∙ sym (written-append ss up (written ws (d .stores)))
 
-  passed : (x : Entry) → Mem x (low ++ high) → 24 ≤ x .size → Passing (linkStores low news high) (x .place)
-  passed x m s = (
-    link-off (h .bytes) low news high y highs x m 3 (omega arith) (omega arith),
-    link-off (h .bytes) low news high y highs x m 4 (omega arith) (omega arith),
-    link-off (h .bytes) low news high y highs x m 5 (omega arith) (omega arith),
-  )
-
-  relink-way : OnWay (books (written (written ws (d .stores)) (linkStores low news high)) (d .heap .heads) (d .heap .tails)) (d .lists) (h .bins)
-  relink-way =
-      way-keeps (booksOf ws d) (d .lists) (h .bins) (f .way) (linkStores low news high)
-      (λ i c l m.
-      let r = member-chunk ws h (low ++ high) d f (low ++ news ++ high) y (λ e k. outer-in low news high k) i c l m in
-      rw (r .1 .place) at (passed (r .0) (r .1 .stays) (r .1 .large)))
+  passed : (x : Entry) → Mem x (low ++ high) → x .flags ≡ 0 → Passing (linkStores low news high) (x .place)
+  passed x m z =
+      let s = y .chunks x (outer-in low news high m) .free z .1 in (
+        link-off (h .bytes) low news high y highs x m 3 (omega arith) (omega arith),
+        link-off (h .bytes) low news high y highs x m 4 (omega arith) (omega arith),
+        link-off (h .bytes) low news high y highs x m 5 (omega arith) (omega arith),
+      )
 
   pub relink-halfway : Halfway ws h (low ++ high) (relink low news high d)
   unfolding relink
   relink-halfway =
-      record {
-        heap = f .heap;
-        headPlaces = f .headPlaces;
-        tailPlaces = f .tailPlaces;
-        headsEnd = f .headsEnd;
-        tailsEnd = f .tailsEnd;
-        way = rw relink-written relink-way;
-        none = f .none;
-        members = f .members;
-        listed = f .listed;
-        reserved =
-            λ e m z o.
-            rw relink-written
-            (unbinned-keeps (linkStores low news high) (written ws (d .stores)) (e .place)
-            (passed e m (y .chunks e (outer-in low news high m) .free z .1)) (f .reserved e m z o));
-        housed = f .housed;
-      }
+      writes-halfway ws h (low ++ high) (low ++ news ++ high) d (linkStores low news high) _ f relink-written
+      (λ e m. y .chunks e (outer-in low news high m)) passed
 
   pub relink-headed : h .bytes ≤ 4 * length ws → (q : Entry) → Headed (written ws (d .stores)) outside low (headOr (headOr outside high) news)
       → Headed (written ws (d .stores)) q high outside → Headed (written ws (relink low news high d .stores)) outside (low ++ news ++ high) outside
