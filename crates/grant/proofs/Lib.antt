@@ -1,3 +1,4 @@
+pub mod NeedLaws
 pub mod ChooseLaws
 pub mod ChooseMeaning
 pub mod SourceLaws

@@ -1,29 +1,25 @@
 -- Giving up the chunk of a live block leaves what the rule of free says (`give-up-is`), and giving up the tail of one what the rule of
 -- shrinking says (`give-up-tail-is`). Assumes nothing.
-use mathlib.Core.Path.{_≡_, refl, sym, ap, _∙_}
+use mathlib.Core.Path.{_≡_, ap}
 use mathlib.Core.Bool.{true}
 use mathlib.Core.List.{List, [], _∷_, _++_}
 use Prim.Native.Nat.{ℕ, _+_, _-_, _%_, _≤_}
 use native.Mathlib.Omega.{arith}
 use Rattle.lists.specs.Lists.{lastOr}
-use Rattle.bins.specs.Books.{books}
 use Rattle.record.specs.declared.heap.Heap.{Heap}
 use Rattle.record.specs.Heap.{at, tableOf, with, withUsed}
 use Rattle.region.specs.Words.{written, put, forward}
 use Rattle.rules.specs.Calls.{State}
 use Rattle.rules.specs.Check.{Passes}
-use Rattle.rules.specs.Draft.{Draft, asRead, Spot, nowUses}
-use Rattle.rules.specs.Free.{isLive, blockSpot, freeBlock}
+use Rattle.rules.specs.Draft.{Draft, asRead}
+use Rattle.rules.specs.Free.{isLive, freeBlock}
 use Rattle.rules.specs.Kinds.{live, blockEnd, outside}
 use Rattle.rules.specs.Reallocate.{shrunk}
 use Rattle.rules.specs.Shape.{Entry, shape}
 use Rattle.seek.specs.Seek.{placed}
-use Rattle.settling.specs.Settling.{donorAfter, topAfter}
-use Rattle.release.specs.declared.Joined.{Joined}
-use Rattle.release.specs.Release.{joinM, giveBackM}
 use Rattle.release.specs.Give.{state, givenUpM}
-use Rattle.release.proofs.ReleaseMeaning.{place, joined, after, give-back-is, after-heap}
-use Rattle.release.proofs.TailMeaning.{tailJoined, tailAfter, splitWords, tail-back-is, tail-heap}
+use Rattle.release.proofs.ReleaseMeaning.{place, after, give-back-is, after-heap}
+use Rattle.release.proofs.TailMeaning.{tailAfter, tail-back-is, tail-heap}
 
 abbrev pub drawn : List ℕ → Draft → State
 drawn ws d = state (written ws (d .stores)) (d .heap)
