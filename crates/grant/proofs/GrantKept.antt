@@ -505,34 +505,34 @@ module _ (ws : List ℕ) (h : Heap) (p : Passes ws h) (low : List Entry) (e : En
 
 module _ (ws : List ℕ) (h : Heap) (p : Passes ws h) (n : ℕ) (large : 24 ≤ n) (eight : n % 8 ≡ 0)
     (some : nowhere (sourceOf n (asRead ws h)) ≡ false) where
-  abbrev source : Source
+  abbrev pub source : Source
   source = sourceOf n (asRead ws h)
 
   abbrev es : List Entry
   es = shape ws (h .bytes)
 
-  chosen : Entry
+  pub chosen : Entry
   chosen = source-can ws h p n some .0
 
-  can : CanGrant ws h n source chosen
+  pub can : CanGrant ws h n source chosen
   unfolding chosen
   can = source-can ws h p n some .1
 
-  abbrev low : List Entry
+  abbrev pub low : List Entry
   low = spot (isAt (chosen .place)) es .low
 
-  abbrev high : List Entry
+  abbrev pub high : List Entry
   high = spot (isAt (chosen .place)) es .high
 
-  abbrev parts : Parts
+  abbrev pub parts : Parts
   parts = cut chosen 0 n
 
-  abbrev after : Draft
+  abbrev pub after : Draft
   after =
       nowUses 0 (parts .granted .size) (cond (eqb (parts .above .size) 0) (relink low (chunksOf parts) high (leaveAs (kindIn source) chosen (asRead ws h)))
       (settle (kindIn source) (parts .above) (relink low (chunksOf parts) high (leaveAs (kindIn source) chosen (asRead ws h)))))
 
-  grant-is : grant n (asRead ws h) ≡ record { granted = parts .granted; draft = after }
+  pub grant-is : grant n (asRead ws h) ≡ record { granted = parts .granted; draft = after }
   unfolding grantAt
   grant-is = can .is ∙ rw (can .here)
 

@@ -6,3 +6,4 @@ pub mod HeaderLaws
 pub mod HalfwayLaws
 pub mod SettleLaws
 pub mod PictureLaws
+pub mod SparesLaws
