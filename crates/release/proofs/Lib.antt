@@ -4,3 +4,5 @@ pub mod GivingMeaning
 pub mod ReleaseMeaning
 pub mod TailMeaning
 pub mod AgainLaws
+pub mod GapLaws
+pub mod GapKept
