@@ -3,8 +3,8 @@
 use mathlib.Core.Path.{_≡_, refl, sym, ap, subst, _∙_}
 use mathlib.Core.Logic.{_≢_, _⊎_, inl, inr}
 use mathlib.Core.Bool.{Bool, true, false, cond, false≢true}
-use mathlib.Core.List.{List, [], _∷_, _++_, append-assoc, List·Memᴰ·head, List·Memᴰ·tail, List·Memᴰ·eq-of-singleton, Memᴰ·append-left, Memᴰ·append-right}
-use Prim.Native.Nat.{ℕ, _+_, _*_, _-_, _%_, _≤_, _<_}
+use mathlib.Core.List.{List, [], _∷_, _++_, List·Memᴰ·head, List·Memᴰ·eq-of-singleton}
+use Prim.Native.Nat.{ℕ, _+_, _*_, _-_, _≤_, _<_}
 use native.Mathlib.Omega.{arith}
 use lib.ListN.{length, drop}
 use Rattle.lists.specs.Lists.{Mem, headOr, lastOr, butLast}
@@ -12,17 +12,15 @@ use Rattle.record.specs.declared.heap.Heap.{Heap}
 use Rattle.record.specs.declared.kinds.Kind.{Kind}
 use Rattle.record.specs.declared.kinds.Kind.the-variants.{Start, InUse, Ordinary, Donor, Top, End}
 use Rattle.record.specs.Heap.{withDonor, withTop}
-use Rattle.region.specs.Words.{written}
-use Rattle.rules.specs.Shape.{Entry, entry}
-use Rattle.rules.specs.Kinds.{ordinaryKind, freeKind, liveKind, kindAt, kindOf, ordinary, live, unused, blockEnd, outside}
+use Rattle.rules.specs.Shape.{Entry}
+use Rattle.rules.specs.Kinds.{ordinaryKind, freeKind, liveKind, kindAt, kindOf, ordinary, live, blockEnd, outside}
 use Rattle.rules.specs.Check.{usedBytes, Passes}
 use Rattle.rules.specs.Draft.{Draft, leaveBin, relink, settle, nowUses}
 use Rattle.rules.specs.Join.{Joined, joinedAs, joining, leaveBins, release}
 use Rattle.rules.proofs.KindsLaws.{Being, being, kind-top, kind-donor, kind-ordinary, donor-moved, top-moved}
-use Rattle.rules.proofs.SpotLaws.{Tiled, tiled-empty, begins-with, ends-with, bounds}
-use Rattle.settling.proofs.LayoutLaws.{Beside, Laid, Layout, Cuts, cuts, outer-beside, among, outer-in, middle-in, layout-replaced}
-use Rattle.settling.proofs.HeaderLaws.{Headed, headed-cut, headed-below}
-use Rattle.settling.proofs.HalfwayLaws.{now, Halfway, halfway-fewer, ordinary-free, leave-headed, leave-halfway, leave-keeps, Opened, Closed, closes}
+use Rattle.rules.proofs.SpotLaws.{tiled-empty, begins-with, ends-with, bounds}
+use Rattle.settling.proofs.LayoutLaws.{Beside, cuts, outer-beside, among, outer-in, middle-in}
+use Rattle.settling.proofs.HalfwayLaws.{now, Closed, closes}
 use Rattle.settling.proofs.SettleLaws.{Settles, settles-named, settles-in-bin, settles-as-donor, settles-as-top}
 use Rattle.settling.proofs.PictureLaws.{Pictured, Posts, used-replaced, kinds-after, settled-pictured}
 use Rattle.release.proofs.JoinMeaning.{sees, joinedBy, joining-sees, sees-ordinary}

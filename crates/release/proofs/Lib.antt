@@ -6,3 +6,4 @@ pub mod TailMeaning
 pub mod AgainLaws
 pub mod GapLaws
 pub mod GapKept
+pub mod ReleaseKept
