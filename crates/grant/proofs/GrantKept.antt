@@ -2,7 +2,7 @@
 use mathlib.Core.Path.{_≡_, refl, sym, ap, subst, _∙_}
 use mathlib.Core.Logic.{_≢_, _⊎_, inl, inr}
 use mathlib.Core.Bool.{Bool, true, false, cond, false≢true}
-use mathlib.Core.List.{List, [], _∷_, _++_, append-assoc, List·Memᴰ·head, List·Memᴰ·tail, List·Memᴰ·eq-of-singleton, Memᴰ·append-left, Memᴰ·append-right}
+use mathlib.Core.List.{List, [], _∷_, _++_, List·Memᴰ·head, List·Memᴰ·tail, List·Memᴰ·eq-of-singleton, Memᴰ·append-left, Memᴰ·append-right}
 use Prim.Native.Nat.{ℕ, _+_, _*_, _-_, _%_, _≤_, _<_}
 use native.Mathlib.Nat.{add-zero}
 use native.Mathlib.Omega.{arith}
@@ -24,10 +24,11 @@ use Rattle.rules.specs.Serve.{nowhere}
 use Rattle.rules.specs.Cut.{Parts, cut, chunksOf, leaveAs, grantAt}
 use Rattle.rules.specs.Allocate.{sourceOf, grant}
 use Rattle.rules.proofs.KindsLaws.{Being, being, kind-in-use, kind-top, kind-donor, kind-ordinary, donor-moved, top-moved}
-use Rattle.rules.proofs.SpotLaws.{tiled-empty, Free, IsTop, in-split, bounds, one-chunk, live-between, is-ordinary, is-top, is-donor}
-use Rattle.settling.proofs.LayoutLaws.{Beside, Laid, Layout, layout-read, cuts, outer-beside, among, outer-in, middle-in, layout-replaced}
-use Rattle.settling.proofs.HeaderLaws.{Headed, headed-cut, headed-read}
-use Rattle.settling.proofs.HalfwayLaws.{now, Halfway, halfway-begins, halfway-fewer, leave-headed, leave-halfway, leave-keeps, Opened, Closed, closes}
+use Rattle.rules.proofs.SpotLaws.{Free, IsTop, in-split, bounds, one-chunk, live-between, is-ordinary, is-top, is-donor}
+use Rattle.settling.proofs.LayoutLaws.{Beside, Laid, Layout, among, outer-in, middle-in, layout-replaced}
+use Rattle.settling.proofs.HeaderLaws.{Headed}
+use Rattle.settling.proofs.OpenLaws as opened
+use Rattle.settling.proofs.HalfwayLaws.{now, Halfway, leave-headed, leave-halfway, leave-keeps, Opened, Closed, closes}
 use Rattle.settling.proofs.SettleLaws.{Settles, settles-named, settles-all, settles-in-bin, settles-as-donor, settles-as-top}
 use Rattle.settling.proofs.PictureLaws.{Pictured, Posts, used-replaced, kinds-after, settled-pictured}
 use Rattle.grant.specs.Serve.{kindIn}
@@ -38,71 +39,32 @@ use Rattle.grant.proofs.CutLaws.{Cutting, Whole, Left, cut-either}
 module _ (ws : List ℕ) (h : Heap) (p : Passes ws h) (low : List Entry) (e : Entry) (high : List Entry)
     (split : shape ws (h .bytes) ≡ low ++ e ∷ high) (free : Free ws h e) where
   whole : shape ws (h .bytes) ≡ low ++ e ∷ [] ++ high
-  whole = split ∙ sym (append-assoc low (e ∷ []) high)
+  whole = opened.whole ws h p low e high split (free .between)
 
   laid-out : Layout (h .bytes) (low ++ e ∷ [] ++ high)
-  laid-out = subst (λ (l : List Entry). Layout (h .bytes) l) whole (layout-read ws h p)
+  laid-out = opened.laid-out ws h p low e high split (free .between)
 
   beside : (x : Entry) → Mem x (low ++ high) → Beside x e
-  beside x m = outer-beside (h .bytes) low (e ∷ []) high laid-out x e m (List·Memᴰ·head refl)
+  beside = opened.beside ws h p low e high split (free .between)
 
   elsewhere : (x : Entry) → Mem x (low ++ high) → x .place ≢ e .place
-  elsewhere x m = go (beside x m) (laid-out .chunks x (outer-in low (e ∷ []) high m) .some)
-    where
-      go : Beside x e → 8 ≤ x .size → x .place ≢ e .place
-      go (inl b) s = λ q. omega arith
-      go (inr b) s = let f = free .between in λ q. omega arith
-
-  every-other : (x : Entry) → Mem x (low ++ e ∷ [] ++ high) → x .place ≢ e .place → Mem x (low ++ high)
-  every-other x m n = go (among low (e ∷ []) high m)
-    where
-      go : Mem x (low ++ high) ⊎ Mem x (e ∷ []) → Mem x (low ++ high)
-      go (inl k) = k
-      go (inr k) = absurd (n (ap (λ (d : Entry). d .place) (List·Memᴰ·eq-of-singleton k)))
+  elsewhere = opened.elsewhere ws h p low e high split (free .between)
 
   lows : low ≡ [] → ⊥
-  lows z =
-      let c = cuts (h .bytes) low (e ∷ []) high laid-out in
-      let q = tiled-empty 0 (c .from) low (c .below) z in
-      let f = free .between in
-      omega (arith, c .middle .0)
+  lows = opened.lows ws h p low e high split (free .between)
 
   highs : high ≡ [] → ⊥
-  highs z =
-      let c = cuts (h .bytes) low (e ∷ []) high laid-out in
-      let q = tiled-empty (c .to) (h .bytes) high (c .above) z in
-      let f = free .between in
-      omega (arith, c .middle .2)
+  highs = opened.highs ws h p low e high split (free .between)
 
   long : h .bytes ≤ 4 * length ws
   long = bounds ws h p .fits
 
   start : Halfway ws h (low ++ e ∷ [] ++ high) (asRead ws h)
-  start = subst (λ (l : List Entry). Halfway ws h l (asRead ws h)) whole (halfway-begins ws h p)
-
-  headers-read : Headed ws outside low e × Headed ws e high outside
-  headers-read =
-      let k = headed-cut ws outside low (e ∷ high) outside (subst (λ (l : List Entry). Headed ws outside l outside) split (headed-read ws h p)) in
-      (k .0, k .1 .1)
+  start = opened.start ws h p low e high split (free .between)
 
   -- the donor and the top are in no bin
   opens-kept : ordinary h e ≡ false → Opened ws h low e e high (asRead ws h)
-  unfolding asRead
-  opens-kept o =
-      record {
-        halfway =
-            halfway-fewer ws h (low ++ e ∷ [] ++ high) (low ++ high) (asRead ws h) start (λ x m. outer-in low (e ∷ []) high m)
-            (λ x m u. go x u (among low (e ∷ []) high m));
-        lower = headers-read .0;
-        upper = headers-read .1;
-        donor = refl;
-        top = refl;
-        used = refl;
-      }
-    where
-      go : (x : Entry) → ordinary h x ≡ true → Mem x (low ++ high) ⊎ Mem x (e ∷ []) → Mem x (low ++ high)
-      go x u (inl k) = k
-      go x u (inr k) = absurd (false≢true (sym o ∙ ap (ordinary h) (sym (List·Memᴰ·eq-of-singleton k)) ∙ u))
+  opens-kept = opened.opens-kept ws h p low e high split (free .between)
 
   -- an ordinary chunk leaves its bin
   module _ (o : ordinary h e ≡ true) where
@@ -123,9 +85,9 @@ module _ (ws : List ℕ) (h : Heap) (p : Passes ws h) (low : List Entry) (e : En
         record {
           halfway =
               leave-halfway ws h (low ++ e ∷ [] ++ high) (asRead ws h) start (low ++ e ∷ [] ++ high) laid-out (λ x m. m) e here o (low ++ high)
-              (λ x m. (outer-in low (e ∷ []) high m, elsewhere x m)) every-other;
-          lower = same-headed outside low e (λ x m. Memᴰ·append-left high m) (headers-read .0);
-          upper = same-headed e high outside (λ x m. Memᴰ·append-right low m) (headers-read .1);
+              (λ x m. (outer-in low (e ∷ []) high m, elsewhere x m)) (opened.every-other ws h p low e high split (free .between));
+          lower = same-headed outside low e (λ x m. Memᴰ·append-left high m) (opened.headers-read ws h p low e high split (free .between) .0);
+          upper = same-headed e high outside (λ x m. Memᴰ·append-right low m) (opened.headers-read ws h p low e high split (free .between) .2);
           donor = a .0;
           top = a .1;
           used = a .2;
@@ -144,20 +106,14 @@ module _ (ws : List ℕ) (h : Heap) (p : Passes ws h) (low : List Entry) (e : En
   member = in-split low e high split
 
   outer : (x : Entry) → Mem x (shape ws (h .bytes)) → x .place ≢ e .place → Mem x (low ++ high)
-  outer x m n = every-other x (subst (λ (l : List Entry). Mem x l) whole m) n
+  outer = opened.outer ws h p low e high split (free .between)
 
   top-outer : e .place ≢ h .top .0 → (t : Entry) × Mem t (low ++ high) × ((t .place ≡ h .top .0) × (t .flags ≡ 0) × (blockEnd t + 8 ≡ h .bytes))
-  top-outer n =
-      let t = p .top in
-      let r = t .2 .0 in
-      (t .0, outer (t .0) (t .1) (λ q. n (sym q ∙ r .here)), (r .here, r .free, t .2 .1))
+  top-outer = opened.top-outer ws h p low e high split (free .between)
 
   donor-outer : e .place ≢ h .donor .0 → 0 < h .donor .0
       → (t : Entry) × Mem t (low ++ high) × ((t .place ≡ h .donor .0) × (t .flags ≡ 0) × (h .donor .0 < h .top .0))
-  donor-outer n some =
-      let t = p .donor some in
-      let r = t .2 .0 in
-      (t .0, outer (t .0) (t .1) (λ q. n (sym q ∙ r .here)), (r .here, r .free, t .2 .1))
+  donor-outer = opened.donor-outer ws h p low e high split (free .between)
 
   not-live : live h e ≡ false
   not-live = go (live h e) refl
@@ -505,34 +461,34 @@ module _ (ws : List ℕ) (h : Heap) (p : Passes ws h) (low : List Entry) (e : En
 
 module _ (ws : List ℕ) (h : Heap) (p : Passes ws h) (n : ℕ) (large : 24 ≤ n) (eight : n % 8 ≡ 0)
     (some : nowhere (sourceOf n (asRead ws h)) ≡ false) where
-  abbrev source : Source
+  abbrev pub source : Source
   source = sourceOf n (asRead ws h)
 
   abbrev es : List Entry
   es = shape ws (h .bytes)
 
-  chosen : Entry
+  pub chosen : Entry
   chosen = source-can ws h p n some .0
 
-  can : CanGrant ws h n source chosen
+  pub can : CanGrant ws h n source chosen
   unfolding chosen
   can = source-can ws h p n some .1
 
-  abbrev low : List Entry
+  abbrev pub low : List Entry
   low = spot (isAt (chosen .place)) es .low
 
-  abbrev high : List Entry
+  abbrev pub high : List Entry
   high = spot (isAt (chosen .place)) es .high
 
-  abbrev parts : Parts
+  abbrev pub parts : Parts
   parts = cut chosen 0 n
 
-  abbrev after : Draft
+  abbrev pub after : Draft
   after =
       nowUses 0 (parts .granted .size) (cond (eqb (parts .above .size) 0) (relink low (chunksOf parts) high (leaveAs (kindIn source) chosen (asRead ws h)))
       (settle (kindIn source) (parts .above) (relink low (chunksOf parts) high (leaveAs (kindIn source) chosen (asRead ws h)))))
 
-  grant-is : grant n (asRead ws h) ≡ record { granted = parts .granted; draft = after }
+  pub grant-is : grant n (asRead ws h) ≡ record { granted = parts .granted; draft = after }
   unfolding grantAt
   grant-is = can .is ∙ rw (can .here)
 

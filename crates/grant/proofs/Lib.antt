@@ -8,3 +8,4 @@ pub mod CutMeaning
 pub mod ServeSteps
 pub mod ServeMeaning
 pub mod GrantKept
+pub mod GrantSpares

@@ -6,3 +6,6 @@ pub mod ReleaseMeaning
 pub mod TailMeaning
 pub mod GiveMeaning
 pub mod AgainLaws
+pub mod GapLaws
+pub mod GapKept
+pub mod ReleaseKept

@@ -4,5 +4,7 @@ pub mod FillLaws
 pub mod LayoutLaws
 pub mod HeaderLaws
 pub mod HalfwayLaws
+pub mod OpenLaws
 pub mod SettleLaws
 pub mod PictureLaws
+pub mod SparesLaws
