@@ -35,6 +35,16 @@ leave-all : (xs ys : List Entry) (d : Draft) → leaveBins (xs ++ ys) d ≡ leav
 leave-all [] ys d = refl
 leave-all (x ∷ xs) ys d = leave-all xs ys (leaveBin x d)
 
+-- what is joined is linked in and takes its place
+abbrev pub settledAs : Draft → Joined → Draft
+settledAs d j = settle (j .becomes) (j .here) (relink (j .low) (j .here ∷ []) (j .high) (leaveBins (j .leaving) d))
+
+pub release-is : (h : Heap) (low : List Entry) (part : Entry) (high : List Entry) (d : Draft) → d .heap ≡ h
+    → release low part high d ≡ settledAs d (joinedBy (sees h (lastOr outside low)) (sees h (headOr outside high)) low part high)
+unfolding release
+release-is h low part high d heap =
+    ap (λ (k : Heap). settledAs d (joining k low part high)) heap ∙ ap (settledAs d) (joining-sees low part high h)
+
 module _ (ws : List ℕ) (h : Heap) (p : Passes ws h) (base : List Entry) (rest : ℕ) where
   -- what giving back leaves: a heap that passes, in which the live chunks are those of `base`
   pub record Given (after : Draft) : Type 0 where
@@ -349,18 +359,11 @@ module _ (ws : List ℕ) (h : Heap) (p : Passes ws h) (base : List Entry) (rest 
         (subst (λ (l : List Entry). Gap ws h p base rest l (part .place) (blockEnd part) high d) low-is g) (o refl)
         (subst (λ (l : List Entry). Posts h (l ++ high)) low-is posts)
 
-    abbrev settledAs : Joined → Draft
-    settledAs j = settle (j .becomes) (j .here) (relink (j .low) (j .here ∷ []) (j .high) (leaveBins (j .leaving) d))
-
-    release-is : release lows part high d ≡ settledAs (joinedBy (sees h below) (sees h (headOr outside high)) lows part high)
-    unfolding release
-    release-is = ap (λ (k : Heap). settledAs (joining k lows part high)) heap ∙ ap settledAs (joining-sees lows part high h)
-
     pub gap-given : Given (nowUses gone new (release lows part high d))
     gap-given =
         let under : Bool = ordinaryKind (sees h below) in
         let over : Kind = sees h (headOr outside high) in
         let r = joins-below under (sees-ordinary (h .merge) (kindOf h below)) in
-        rw (release-is, leave-all)
+        rw (release-is h lows part high d heap, leave-all)
         (joins-above gone new count (cond under (butLast lows) lows) (cond under (below .place) (part .place)) (blockEnd part) high
         (leaveBins (cond under (below ∷ []) []) d) (r .0) (r .1) over (sees-kind (h .merge) (kindOf h (headOr outside high))))

@@ -7,3 +7,4 @@ pub mod AgainLaws
 pub mod GapLaws
 pub mod GapKept
 pub mod ReleaseKept
+pub mod ShrinkKept
