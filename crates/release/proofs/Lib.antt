@@ -8,3 +8,4 @@ pub mod GapLaws
 pub mod GapKept
 pub mod ReleaseKept
 pub mod ShrinkKept
+pub mod ReleaseSpares
