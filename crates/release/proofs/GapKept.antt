@@ -19,10 +19,10 @@ use Rattle.rules.specs.Draft.{Draft, leaveBin, relink, settle, nowUses}
 use Rattle.rules.specs.Join.{Joined, joinedAs, joining, leaveBins, release}
 use Rattle.rules.proofs.KindsLaws.{Being, being, kind-top, kind-donor, kind-ordinary, donor-moved, top-moved}
 use Rattle.rules.proofs.SpotLaws.{tiled-empty, begins-with, ends-with, bounds}
-use Rattle.settling.proofs.LayoutLaws.{Beside, cuts, outer-beside, among, outer-in, middle-in}
+use Rattle.settling.proofs.LayoutLaws.{Beside, cuts, outer-beside, beside-elsewhere, among, outer-in, middle-in}
 use Rattle.settling.proofs.HalfwayLaws.{now, Closed, closes}
 use Rattle.settling.proofs.SettleLaws.{Settles, settles-named, settles-in-bin, settles-as-donor, settles-as-top}
-use Rattle.settling.proofs.PictureLaws.{Pictured, Posts, used-replaced, kinds-after, settled-pictured}
+use Rattle.settling.proofs.PictureLaws.{Pictured, Posts, posts-in, used-replaced, kinds-after, settled-pictured}
 use Rattle.release.proofs.JoinMeaning.{sees, joinedBy, joining-sees, sees-ordinary}
 use Rattle.release.proofs.GapLaws.{filling, free-not-live, none-used, Gap, below-joins, above-laid, above-joins, above-widens, above-apart, above-higher, above-else}
 
@@ -73,11 +73,7 @@ module _ (ws : List ℕ) (h : Heap) (p : Passes ws h) (base : List Entry) (rest 
     beside x m = outer-beside (h .bytes) low (fill ∷ []) high (g .layout) x fill m (List·Memᴰ·head refl)
 
     away : (x : Entry) → Mem x (low ++ high) → x .place ≢ from
-    away x m = go (beside x m) (g .layout .chunks x (outer-in low (fill ∷ []) high m) .some) room
-      where
-        go : Beside x fill → 8 ≤ x .size → (8 ≤ from) × (24 ≤ to - from) × (from + (to - from) + 8 ≤ h .bytes) → x .place ≢ from
-        go (inl b) s r = λ q. omega arith
-        go (inr b) s r = λ q. omega (arith, r .1)
+    away x m = beside-elsewhere x fill (beside x m) (g .layout .chunks x (outer-in low (fill ∷ []) high m) .some) (omega (arith, room .1))
 
     highs : high ≡ [] → ⊥
     highs z =
@@ -167,11 +163,7 @@ module _ (ws : List ℕ) (h : Heap) (p : Passes ws h) (base : List Entry) (rest 
         ordinary-given : Given (nowUses gone new (settle Ordinary fill linked))
         ordinary-given =
             given (settle Ordinary fill linked) (h .donor .0) (h .top .0) settled-ordinary (λ x m. refl)
-            (record {
-              top = let t = posts .top in (t .0, outer-in low (fill ∷ []) high (t .1), t .2);
-              donor = λ some. let t = posts .donor some in (t .0, outer-in low (fill ∷ []) high (t .1), t .2);
-            })
-            gone new count
+            (posts-in h (low ++ high) chain (λ x m. outer-in low (fill ∷ []) high m) posts) gone new count
 
       -- it is the donor, in the place of the old one
       module _ (apart : (x : Entry) → Mem x (low ++ high) → x .place ≢ h .donor .0) (below : from < h .top .0)

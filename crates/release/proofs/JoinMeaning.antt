@@ -73,7 +73,7 @@ pub sees-ordinary : (t : Bool) (k : Kind) → ordinaryKind (cond t k InUse) ≡ 
 sees-ordinary true k e = e
 sees-ordinary false k e = absurd (false≢true e)
 
-pub sees-free : (t : Bool) (k : Kind) → freeKind (cond t k InUse) ≡ true → freeKind k ≡ true
+sees-free : (t : Bool) (k : Kind) → freeKind (cond t k InUse) ≡ true → freeKind k ≡ true
 sees-free true k e = e
 sees-free false k e = absurd (false≢true e)
 

@@ -40,7 +40,7 @@ live-not-ordinary End q = refl
 -- the chunk e of a live block, at which the chain is taken apart
 module _ (ws : List ℕ) (h : Heap) (p : Passes ws h) (low : List Entry) (e : Entry) (high : List Entry)
     (split : shape ws (h .bytes) ≡ low ++ e ∷ high) (l : live h e ≡ true) where
-  pub between : Between h e
+  between : Between h e
   between = own ws h p low e high split l .1
 
   pub laid-out : Layout (h .bytes) (low ++ e ∷ [] ++ high)
@@ -110,7 +110,7 @@ module _ (ws : List ℕ) (h : Heap) (p : Passes ws h) (low : List Entry) (e : En
         lives = λ x m k. m;
       }
 
-  pub chunk-given : Given ws h p (low ++ high) (h .used - e .size) (nowUses (e .size) 0 (release low e high (asRead ws h)))
+  chunk-given : Given ws h p (low ++ high) (h .used - e .size) (nowUses (e .size) 0 (release low e high (asRead ws h)))
   unfolding asRead
   chunk-given = gap-given ws h p (low ++ high) (h .used - e .size) (e .size) 0 (omega arith) low e high (asRead ws h) refl chunk-gap posts
 

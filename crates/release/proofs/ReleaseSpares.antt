@@ -10,7 +10,6 @@ use lib.ListN.{drop}
 use Rattle.lists.specs.Lists.{Mem, headOr, lastOr}
 use Rattle.lists.proofs.MembersLaws.{last-member}
 use Rattle.record.specs.declared.heap.Heap.{Heap}
-use Rattle.record.specs.declared.kinds.Kind.{Kind}
 use Rattle.region.specs.Words.{backward}
 use Rattle.region.proofs.PrefixLaws.{Below}
 use Rattle.region.proofs.WordsLaws.{Off}
@@ -18,7 +17,7 @@ use Rattle.rules.specs.Shape.{Entry, shape}
 use Rattle.rules.specs.Kinds.{ordinaryKind, freeKind, kindAt, kindOf, ordinary, isFree, live, blockOf, blockEnd, outside}
 use Rattle.rules.specs.Check.{Passes}
 use Rattle.rules.specs.Draft.{Draft, Spot, asRead, leaveBin}
-use Rattle.rules.specs.Join.{Joined, joinedAs, leaveBins, release}
+use Rattle.rules.specs.Join.{Joined, leaveBins, release}
 use Rattle.rules.specs.Free.{isLive, blockSpot, freeBlock}
 use Rattle.rules.specs.Reallocate.{shrunk}
 use Rattle.rules.proofs.SpotLaws.{one-chunk, live-between}
@@ -26,12 +25,13 @@ use Rattle.settling.proofs.LayoutLaws.{Layout, outer-in, middle-in}
 use Rattle.settling.proofs.HalfwayLaws.{ordinary-free}
 use Rattle.settling.proofs.OpenLaws as opened
 use Rattle.settling.proofs.SparesLaws.{Outside, link-word, free-word, Spared, read-spared, writes-spared, leave-spared, relink-spared, settle-spared, uses-spared, blocks-spared, heap-stores}
-use Rattle.release.proofs.JoinMeaning.{sees, joinedBy, sees-ordinary, here, own, seen-free, Summit, summit}
+use Rattle.release.proofs.JoinMeaning.{sees, joinedBy, sees-ordinary, here, own, seen-free, summit}
 use Rattle.release.proofs.ReleaseMeaning.{splits}
+use Rattle.release.proofs.TailMeaning.{keptChunk, tailChunk, splitDraft}
 use Rattle.release.proofs.GapLaws.{filling}
 use Rattle.release.proofs.GapKept.{release-is}
 use Rattle.release.proofs.ReleaseKept.{filled, others-outer}
-use Rattle.release.proofs.ShrinkKept.{kept, tail, splitDraft, split-laid}
+use Rattle.release.proofs.ShrinkKept.{split-laid}
 
 leaves-spared : (P : ℕ → Type 0) (es : List Entry) (d : Draft) → Spared P d → Spared P (leaveBins es d)
 leaves-spared P [] d s = s
@@ -53,8 +53,9 @@ module _ (ws : List ℕ) (h : Heap) (p : Passes ws h) (low : List Entry) (e : En
   abbrev all : List Entry
   all = lows ++ fill ∷ [] ++ high
 
-  abbrev Free : ℕ → Type 0
-  Free i = Outside (h .bytes) all i
+  -- words outside all blocks, once `part` is free
+  abbrev Open : ℕ → Type 0
+  Open i = Outside (h .bytes) all i
 
   abbrev below : Entry
   below = lastOr outside lows
@@ -63,7 +64,7 @@ module _ (ws : List ℕ) (h : Heap) (p : Passes ws h) (low : List Entry) (e : En
   stays x m = outer-in lows (fill ∷ []) high (sub x m)
 
   -- the first six words of a free chunk
-  free-words : (x : Entry) → Mem x all → x .flags ≡ 0 → (k : ℕ) → k < 6 → Free (x .place / 4 + k)
+  free-words : (x : Entry) → Mem x all → x .flags ≡ 0 → (k : ℕ) → k < 6 → Open (x .place / 4 + k)
   free-words x m f k u =
       let i = y .chunks x m in
       let z = i .eight in
@@ -72,9 +73,9 @@ module _ (ws : List ℕ) (h : Heap) (p : Passes ws h) (low : List Entry) (e : En
   other : (x : Entry) → Mem x (shape ws (h .bytes)) → x .place ≢ e .place → Mem x all
   other x m n = stays x (opened.outer ws h p low e high split (own ws h p low e high split l .1) x m n)
 
-  read-free : Spared Free (asRead ws h)
+  read-free : Spared Open (asRead ws h)
   read-free =
-      read-spared Free ws h p
+      read-spared Open ws h p
       (λ x m f.
       let k = other x m (λ q. away x m f q) in
       (free-words x k f 3 (omega arith), free-words x k f 4 (omega arith)))
@@ -85,13 +86,13 @@ module _ (ws : List ℕ) (h : Heap) (p : Passes ws h) (low : List Entry) (e : En
           omega (arith, own ws h p low e high split l .0)
 
   -- where the result begins, and the chunk above it
-  from-words : (t : Bool) → (t ≡ true → ordinary h below ≡ true) → (k : ℕ) → k < 6 → Free (cond t (below .place) (part .place) / 4 + k)
+  from-words : (t : Bool) → (t ≡ true → ordinary h below ≡ true) → (k : ℕ) → k < 6 → Open (cond t (below .place) (part .place) / 4 + k)
   from-words true o =
       let m = outer-in lows (fill ∷ []) high (Memᴰ·append-left high (last-there h lows (o refl))) in
       free-words below m (ordinary-free (h .bytes) h below (y .chunks below m) (o refl))
   from-words false o = free-words fill (middle-in lows (fill ∷ []) high (List·Memᴰ·head refl)) refl
 
-  end-link : (t : Bool) → (t ≡ true → isFree h (headOr outside high) ≡ true) → Free (headOr outside (cond t (drop 1 high) high) .place / 4 + backward)
+  end-link : (t : Bool) → (t ≡ true → isFree h (headOr outside high) ≡ true) → Open (headOr outside (cond t (drop 1 high) high) .place / 4 + backward)
   end-link t f =
       let s = summit ws h p low e high split l t f in
       let b = own ws h p low e high split l .1 in
@@ -100,12 +101,12 @@ module _ (ws : List ℕ) (h : Heap) (p : Passes ws h) (low : List Entry) (e : En
   abbrev joined : Joined
   joined = joinedBy (sees h below) (sees h (headOr outside high)) lows part high
 
-  pub released-spared : (d : Draft) → d .heap ≡ h → Spared Free d → Spared Free (release lows part high d)
+  released-spared : (d : Draft) → d .heap ≡ h → Spared Open d → Spared Open (release lows part high d)
   released-spared d heap s =
       let words = from-words (ordinaryKind (sees h below)) (sees-ordinary (h .merge) (kindOf h below)) in
       rw (release-is h lows part high d heap)
-      (settle-spared Free (joined .here) _
-      (relink-spared Free (joined .low) (joined .here ∷ []) (joined .high) _ (leaves-spared Free (joined .leaving) d s)
+      (settle-spared Open (joined .here) _
+      (relink-spared Open (joined .low) (joined .here ∷ []) (joined .high) _ (leaves-spared Open (joined .leaving) d s)
       (λ x m. rw (List·Memᴰ·eq-of-singleton m) (words 0 (omega arith), words 1 (omega arith), λ f. words 2 (omega arith)))
       (end-link (freeKind (sees h (headOr outside high))) (seen-free ws h p low e high split l)))
       (words 3 (omega arith), words 4 (omega arith), words 5 (omega arith)) (joined .becomes))
@@ -146,10 +147,10 @@ module _ (ws : List ℕ) (h : Heap) (p : Passes ws h) (b : ℕ) (l : isLive (asR
   -- the block keeps n bytes of its chunk
   module _ (n : ℕ) (some : 24 ≤ n) (eights : n % 8 ≡ 0) (less : n + 24 ≤ blockSpot (asRead ws h) b .here .size) where
     abbrev whole : Entry
-    whole = kept ws h p (s .low) (s .here) (s .high) split is-live n some eights less
+    whole = keptChunk ws h p (s .low) (s .here) (s .high) split is-live n some eights less
 
     abbrev part : Entry
-    part = tail ws h p (s .low) (s .here) (s .high) split is-live n some eights less
+    part = tailChunk ws h p (s .low) (s .here) (s .high) split is-live n some eights less
 
     abbrev parted : List Entry
     parted = s .low ++ whole ∷ [] ++ filling (part .place) (blockEnd part) ∷ [] ++ s .high

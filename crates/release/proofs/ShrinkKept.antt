@@ -14,7 +14,7 @@ use Rattle.region.proofs.WordsLaws.{Off, word-same, word-other}
 use Rattle.rules.specs.Shape.{Entry, entry, shape}
 use Rattle.rules.specs.Kinds.{liveKind, ordinary, live, used, blockOf, blockEnd, outside}
 use Rattle.rules.specs.Check.{usedBytes, Passes}
-use Rattle.rules.specs.Draft.{Draft, Spot, asRead, alsoWrites, nowUses}
+use Rattle.rules.specs.Draft.{Draft, Spot, asRead, nowUses}
 use Rattle.rules.specs.Join.{release}
 use Rattle.rules.specs.Free.{isLive, blockSpot}
 use Rattle.rules.specs.Cut.{Grant}
@@ -26,9 +26,10 @@ use Rattle.settling.proofs.HeaderLaws.{Header, Headed, headed-below, headed-joi
 use Rattle.settling.proofs.HalfwayLaws.{now, Halfway, Passing, halfway-fewer, ordinary-free, writes-halfway, Opened}
 use Rattle.settling.proofs.SettleLaws.{settles-all}
 use Rattle.settling.proofs.OpenLaws as opened
-use Rattle.settling.proofs.PictureLaws.{Pictured, Posts, used-replaced}
+use Rattle.settling.proofs.PictureLaws.{Pictured, Posts, posts-in, used-replaced}
 use Rattle.release.proofs.JoinMeaning.{own}
 use Rattle.release.proofs.ReleaseMeaning.{splits}
+use Rattle.release.proofs.TailMeaning.{keptChunk, tailChunk, splitDraft}
 use Rattle.release.proofs.GapLaws.{filling, free-not-live, Gap}
 use Rattle.release.proofs.GapKept.{Given, gap-given}
 use Rattle.release.proofs.ReleaseKept.{laid-out, opens, posts, used-with, own-used, others-outer, outer-others}
@@ -37,21 +38,21 @@ use Rattle.release.proofs.ReleaseKept.{laid-out, opens, posts, used-wit
 module _ (ws : List ℕ) (h : Heap) (p : Passes ws h) (low : List Entry) (e : Entry) (high : List Entry)
     (split : shape ws (h .bytes) ≡ low ++ e ∷ high) (l : live h e ≡ true)
     (n : ℕ) (some : 24 ≤ n) (eights : n % 8 ≡ 0) (less : n + 24 ≤ e .size) where
-  abbrev pub kept : Entry
-  kept = entry (e .place) n used
+  abbrev kept : Entry
+  kept = keptChunk ws h p low e high split l n some eights less
 
-  abbrev pub tail : Entry
-  tail = entry (e .place + n) (e .size - n) used
+  abbrev tail : Entry
+  tail = tailChunk ws h p low e high split l n some eights less
 
-  abbrev pub fill : Entry
+  abbrev fill : Entry
   fill = filling (tail .place) (blockEnd tail)
 
   -- the kept chunk's forward link is stored first
   abbrev splitStores : List Store
   splitStores = put (kept .place) forward (blockEnd kept) ∷ []
 
-  abbrev pub splitDraft : Draft
-  splitDraft = alsoWrites splitStores (asRead ws h)
+  abbrev begun : Draft
+  begun = splitDraft ws h p low e high split l n some eights less
 
   between : Between h e
   between = own ws h p low e high split l .1
@@ -127,15 +128,15 @@ module _ (ws : List ℕ) (h : Heap) (p : Passes ws h) (low : List Entry) (e : En
       (word-misses x m 3 (omega arith), word-misses x m 4 (omega arith), word-misses x m 5 (omega arith))
 
   -- the kept chunk and the tail are in use, so no chunk waits for a place
-  split-halfway : Halfway ws h (low ++ high) splitDraft
+  split-halfway : Halfway ws h (low ++ high) begun
   unfolding asRead
   split-halfway =
       writes-halfway ws h (low ++ high) (shape ws (h .bytes)) (asRead ws h) splitStores splitStores (opens ws h p low e high split l .halfway) refl
       outer-laid outer-passed
 
-  both-halfway : Halfway ws h (low ++ kept ∷ tail ∷ [] ++ high) splitDraft
+  both-halfway : Halfway ws h (low ++ kept ∷ tail ∷ [] ++ high) begun
   both-halfway =
-      settles-all ws h (low ++ high) splitDraft split-halfway (low ++ kept ∷ tail ∷ [] ++ high) (parted (e .size - n) used refl (omega arith))
+      settles-all ws h (low ++ high) begun split-halfway (low ++ kept ∷ tail ∷ [] ++ high) (parted (e .size - n) used refl (omega arith))
       (λ x m. outer-in low (kept ∷ tail ∷ []) high m) (λ x m. go x (among low (kept ∷ tail ∷ []) high m)) .halfway
     where
       go : (x : Entry) → Mem x (low ++ high) ⊎ Mem x (kept ∷ tail ∷ []) → Mem x (low ++ high) ⊎ (x .flags ≡ 1)
@@ -143,22 +144,22 @@ module _ (ws : List ℕ) (h : Heap) (p : Passes ws h) (low : List Entry) (e : En
       go x (inr (List·Memᴰ·head k)) = inr (ap (λ (d : Entry). d .flags) k)
       go x (inr (List·Memᴰ·tail k)) = inr (ap (λ (d : Entry). d .flags) (List·Memᴰ·eq-of-singleton k))
 
-  kept-halfway : Halfway ws h (low ++ kept ∷ [] ++ high) splitDraft
+  kept-halfway : Halfway ws h (low ++ kept ∷ [] ++ high) begun
   kept-halfway =
-      halfway-fewer ws h (low ++ kept ∷ tail ∷ [] ++ high) (low ++ kept ∷ [] ++ high) splitDraft both-halfway
+      halfway-fewer ws h (low ++ kept ∷ tail ∷ [] ++ high) (low ++ kept ∷ [] ++ high) begun both-halfway
       (λ x m. fewer x (among low (kept ∷ []) high m)) (λ x m o. go x o (among low (kept ∷ tail ∷ []) high m))
     where
       fewer : (x : Entry) → Mem x (low ++ high) ⊎ Mem x (kept ∷ []) → Mem x (low ++ kept ∷ tail ∷ [] ++ high)
       fewer x (inl k) = outer-in low (kept ∷ tail ∷ []) high k
       fewer x (inr k) = middle-in low (kept ∷ tail ∷ []) high (List·Memᴰ·head (List·Memᴰ·eq-of-singleton k))
 
-      go : (x : Entry) → ordinary (now h splitDraft) x ≡ true → Mem x (low ++ high) ⊎ Mem x (kept ∷ tail ∷ []) → Mem x (low ++ kept ∷ [] ++ high)
+      go : (x : Entry) → ordinary (now h begun) x ≡ true → Mem x (low ++ high) ⊎ Mem x (kept ∷ tail ∷ []) → Mem x (low ++ kept ∷ [] ++ high)
       go x o (inl k) = outer-in low (kept ∷ []) high k
       go x o (inr (List·Memᴰ·head k)) = middle-in low (kept ∷ []) high (List·Memᴰ·head k)
       go x o (inr (List·Memᴰ·tail k)) =
           let q = List·Memᴰ·eq-of-singleton k in
           let f = ap (λ (d : Entry). d .flags) q in
-          absurd (omega (arith, ordinary-free (h .bytes) (now h splitDraft) x (rw q (rest-laid (e .size - n) used refl (omega arith))) o))
+          absurd (omega (arith, ordinary-free (h .bytes) (now h begun) x (rw q (rest-laid (e .size - n) used refl (omega arith))) o))
 
   -- the kept chunk's header reaches up to the tail
   kept-header : Header (written ws splitStores) (lastOr outside low) kept fill
@@ -184,7 +185,7 @@ module _ (ws : List ℕ) (h : Heap) (p : Passes ws h) (low : List Entry) (e : En
   split-upper =
       headed-keeps splitStores ws e high outside (λ x m. outer-spared x (Memᴰ·append-right low m)) (opened.headers-read ws h p low e high split between .2)
 
-  split-opened : Opened ws h (low ++ kept ∷ []) fill e high splitDraft
+  split-opened : Opened ws h (low ++ kept ∷ []) fill e high begun
   unfolding asRead
   split-opened =
       record { halfway = kept-halfway; lower = split-lower; upper = split-upper; donor = refl; top = refl; used = refl }
@@ -208,22 +209,17 @@ module _ (ws : List ℕ) (h : Heap) (p : Passes ws h) (low : List Entry) (e : En
       let s : usedBytes h (low ++ kept ∷ fill ∷ [] ++ high) ≡ h .used + n - e .size = omega arith in
       ap (λ (es : List Entry). usedBytes h (es ++ high)) (append-assoc low (kept ∷ []) (fill ∷ [])) ∙ s
 
-  tail-gap : Gap ws h p (low ++ kept ∷ [] ++ high) (h .used + n - e .size) (low ++ kept ∷ []) (tail .place) (blockEnd tail) high splitDraft
+  tail-gap : Gap ws h p (low ++ kept ∷ [] ++ high) (h .used + n - e .size) (low ++ kept ∷ []) (tail .place) (blockEnd tail) high begun
   tail-gap =
       record { layout = split-laid; last = e; opened = split-opened; used = split-used; some = λ x m. m; lives = λ x m k. m }
 
   split-posts : Posts h (low ++ kept ∷ [] ++ high)
-  split-posts =
-      let o = posts ws h p low e high split l in
-      record {
-        top = let t = o .top in (t .0, outer-in low (kept ∷ []) high (t .1), t .2);
-        donor = λ q. let t = o .donor q in (t .0, outer-in low (kept ∷ []) high (t .1), t .2);
-      }
+  split-posts = posts-in h (low ++ high) (low ++ kept ∷ [] ++ high) (λ x m. outer-in low (kept ∷ []) high m) (posts ws h p low e high split l)
 
-  tail-given : Given ws h p (low ++ kept ∷ [] ++ high) (h .used + n - e .size) (nowUses (e .size) n (release (low ++ kept ∷ []) tail high splitDraft))
+  tail-given : Given ws h p (low ++ kept ∷ [] ++ high) (h .used + n - e .size) (nowUses (e .size) n (release (low ++ kept ∷ []) tail high begun))
   unfolding asRead
   tail-given =
-      gap-given ws h p (low ++ kept ∷ [] ++ high) (h .used + n - e .size) (e .size) n refl (low ++ kept ∷ []) tail high splitDraft refl tail-gap split-posts
+      gap-given ws h p (low ++ kept ∷ [] ++ high) (h .used + n - e .size) (e .size) n refl (low ++ kept ∷ []) tail high begun refl tail-gap split-posts
 
 -- the live block at b keeps n bytes of its chunk
 module _ (ws : List ℕ) (h : Heap) (p : Passes ws h) (b : ℕ) (l : isLive (asRead ws h) b ≡ true)
