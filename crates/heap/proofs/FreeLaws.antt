@@ -1,6 +1,6 @@
 -- Free: what the code leaves is what the rule says, refused or not. Assumes nothing.
-use mathlib.Core.Path.{_≡_, refl, sym, ap, _∙_}
-use mathlib.Core.Bool.{Bool, true, false}
+use mathlib.Core.Path.{_≡_, refl, ap, _∙_}
+use mathlib.Core.Bool.{true, false}
 use mathlib.Core.List.{List}
 use Prim.Native.Nat.{ℕ, _-_, _≤_}
 use native.Mathlib.Omega.{arith}
@@ -8,7 +8,6 @@ use lib.IntN.{ℤ, pos}
 use mir.Syntax.{w32}
 use mir.Val.{toZ, ofZ}
 use borrow.Author.Tests.{eq-eqb, ne-eqb}
-use Rattle.lists.specs.Lists.{lastOr}
 use Rattle.record.specs.declared.answers.Answer.the-variants.{Returned}
 use Rattle.record.specs.declared.answers.Refusal.the-variants.{HeapFails, NotLive}
 use Rattle.record.specs.declared.heap.Heap.{Heap}
@@ -16,7 +15,7 @@ use Rattle.record.specs.Heap.{tableOf}
 use Rattle.rules.specs.Check.{Passes, passes}
 use Rattle.rules.specs.Draft.{asRead}
 use Rattle.rules.specs.Free.{isLive, free, freeBlock}
-use Rattle.rules.specs.Kinds.{holdsBlock, outside}
+use Rattle.rules.specs.Kinds.{holdsBlock}
 use Rattle.rules.specs.Outcome.{changeOf, made}
 use Rattle.rules.specs.Shape.{Entry, shape}
 use Rattle.rules.specs.Statements.{Meets}
@@ -25,14 +24,14 @@ use Rattle.rules.proofs.SpotLaws.{bounds, inside, spot-member}
 use Rattle.seek.specs.declared.Place.{Place}
 use Rattle.seek.specs.declared.Sought.{Sought}
 use Rattle.seek.specs.declared.Sought.the-variants.{Found, Nowhere}
-use Rattle.seek.specs.Seek.{placed, soughtIn, hasBlock}
-use Rattle.seek.proofs.SeekLaws.{sought-block, sought-none}
+use Rattle.seek.specs.Seek.{soughtIn, hasBlock}
 use Rattle.release.specs.Give.{state, givenUpM}
-use Rattle.release.proofs.ReleaseMeaning.{place, found-is, housed}
+use Rattle.release.proofs.ReleaseMeaning.{place, housed}
 use Rattle.release.proofs.GiveMeaning.{drawn, give-up-is}
 use Rattle.rules.specs.Calls.{State}
 use Rattle.heap.specs.Replies.{reply, refusing, changeM}
 use Rattle.heap.proofs.ChangeLaws.{change-is}
+use Rattle.heap.proofs.FindLaws.{not-live, live-at}
 
 module _ (ws : List ℕ) (h : Heap) (b : ℕ) where
   pub free-fails : passes ws h ≡ false → Meets ws (free ws h b) (refusing h HeapFails) ws
@@ -51,20 +50,9 @@ module _ (ws : List ℕ) (h : Heap) (b : ℕ) where
       abbrev sought : Sought
       sought = soughtIn (hasBlock (h .bytes) b) 0 (shape ws (h .bytes))
 
-      -- what the walk finds is whether the block is live
-      live-by : (t : Bool) → isLive (asRead ws h) b ≡ t → sought ≡ Nowhere → isLive (asRead ws h) b ≡ false
-      live-by true e z = cc (found-is ws h well b e, z)
-      live-by false e z = e
-
-      found-by : (t : Bool) (x : Place) → isLive (asRead ws h) b ≡ t → sought ≡ Found x → isLive (asRead ws h) b ≡ true
-      unfolding asRead
-      found-by true x e z = e
-      found-by false x e z =
-          cc (sought-block h b 0 (shape ws (h .bytes)) ∙ sought-none (holdsBlock h b) 0 (shape ws (h .bytes)) e, z)
-
       pub free-refuses : (s : Sought) → s ≡ sought → s ≡ Nowhere → Meets ws (free ws h b) (refusing h NotLive) ws
       unfolding free
-      free-refuses s e z = rw (q, ne-eqb b 0 n, live-by _ refl (sym e ∙ z)) refl
+      free-refuses s e z = rw (q, ne-eqb b 0 n, not-live ws h well b s e z) refl
 
       module _ (l : isLive (asRead ws h) b ≡ true) where
         abbrev here : Entry
@@ -93,7 +81,6 @@ module _ (ws : List ℕ) (h : Heap) (b : ℕ) where
           → (size : ℕ) → size ≡ x .end - x .chunk .0 → (change : ℤ) → change ≡ changeM size 0
           → Meets ws (free ws h b) (reply after (Returned (toZ w32 (ofZ w32 change)))) words
       freed s e x z after words g size es change ec =
-          let l = found-by _ x refl (sym e ∙ z) in
-          let k : x ≡ placed (lastOr outside (place ws h well b l .low) .place) (place ws h well b l .here) = cc (found-is ws h well b l, e, z) in
+          let (l, k) = live-at ws h well b s e x z in
           given l after words size change (g ∙ ap (givenUpM ws (tableOf h) h) k ∙ give-up-is ws h well b l)
           (es ∙ ap (λ (y : Place). y .end - y .chunk .0) k ∙ omega arith) ec

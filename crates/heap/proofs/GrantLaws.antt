@@ -68,19 +68,20 @@ module _ (ws : List ℕ) (h : Heap) (q : passes ws h ≡ true) (z : ℕ) (k : pe
   abbrev granted : Grant
   granted = grant n (asRead ws h)
 
-  chosen-is : chooseM ws (tableOf h) (h .heads) (h .donor .0) (h .top .0) n ≡ sourceOf n (asRead ws h)
+  pub chosen-is : chooseM ws (tableOf h) (h .heads) (h .donor .0) (h .top .0) n ≡ sourceOf n (asRead ws h)
   unfolding asRead
   chosen-is = choose-is ws h well n
 
   module _ (some : nowhere (sourceOf n (asRead ws h)) ≡ false) where
-    record Lies : Type 0 where
+    -- where the granted chunk lies
+    pub record Lies : Type 0 where
       pub place : granted .granted .place % 8 ≡ 0
       pub size : granted .granted .size % 8 ≡ 0
       pub large : 8 ≤ granted .granted .size
       pub few : blockEnd (granted .granted) ≤ 65536
       pub fits : blockEnd (granted .granted) ≤ 4 * length (written ws (granted .draft .stores))
 
-    lies : Lies
+    pub lies : Lies
     lies =
         let g = grant-kept ws h well n (need-large z) (need-eight z) some in
         let m : Mem (granted .granted) (shape (written ws (granted .draft .stores)) (granted .draft .heap .bytes)) =

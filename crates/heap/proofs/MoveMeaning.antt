@@ -1,10 +1,10 @@
 -- A block moves: after the grant and the copy the heap passes and the old block is still live, so that giving it back is what the rule says
 -- (`move-is`). Assumes nothing.
 use mathlib.Core.Path.{_≡_, refl, sym, ap, _∙_}
-use mathlib.Core.Logic.{_≢_, _⊎_, inl, inr}
-use mathlib.Core.Bool.{Bool, true, false, cond}
+use mathlib.Core.Logic.{_⊎_, inl, inr}
+use mathlib.Core.Bool.{true, false}
 use mathlib.Core.List.{List, [], _∷_, _++_}
-use Prim.Native.Nat.{ℕ, _+_, _-_, _/_, _%_, _≤_, _<_}
+use Prim.Native.Nat.{ℕ, _-_, _/_, _%_, _≤_, _<_}
 use native.Mathlib.Omega.{arith}
 use borrow.Author.Tests.{eq-eqb}
 use Rattle.lists.specs.Lists.{Mem, lastOr}
@@ -17,12 +17,13 @@ use Rattle.rules.specs.Allocate.{sourceOf, grant}
 use Rattle.rules.specs.Check.{Passes}
 use Rattle.rules.specs.Cut.{Grant}
 use Rattle.rules.specs.Draft.{Draft, asRead, alsoWrites, Spot}
-use Rattle.rules.specs.Free.{isLive, blockSpot, freeBlock}
+use Rattle.rules.specs.Free.{isLive, freeBlock}
 use Rattle.rules.specs.Kinds.{live, blockOf, blockEnd, blockWords, holdsBlock, outside}
 use Rattle.rules.specs.Reallocate.{copied}
 use Rattle.rules.specs.Serve.{nowhere}
 use Rattle.rules.specs.Shape.{Entry, shape, binList}
-use Rattle.rules.proofs.SpotLaws.{around, apart, inside, live-between, one-chunk, spot-splits}
+use Rattle.rules.proofs.SpotLaws.{around, apart, inside, in-split, live-between, one-chunk}
+use Rattle.seek.specs.Seek.{placed}
 use Rattle.blocks.specs.Blocks.{copiedM}
 use Rattle.blocks.proofs.BlocksMeaning.{Disjoint, copy-is}
 use Rattle.settling.proofs.FillLaws.{fills, filled-within}
@@ -33,7 +34,7 @@ use Rattle.grant.proofs.GrantSpares.{grant-spares}
 use Rattle.release.specs.Give.{givenUpM}
 use Rattle.release.proofs.AgainLaws.{again}
 use Rattle.release.proofs.GiveMeaning.{drawn, give-up-is}
-use Rattle.release.proofs.ReleaseMeaning.{housed}
+use Rattle.release.proofs.ReleaseMeaning.{place, splits, housed}
 
 -- the chunk e of a live block, which has less than n bytes, and room for n elsewhere
 module _ (ws : List ℕ) (h : Heap) (p : Passes ws h) (n : ℕ) (large : 24 ≤ n) (eight : n % 8 ≡ 0) (some : nowhere (sourceOf n (asRead ws h)) ≡ false)
@@ -117,8 +118,46 @@ module _ (ws : List ℕ) (h : Heap) (p : Passes ws h) (n : ℕ) (large : 24 ≤ 
   live-again = for-some (λ x. itself (holdsBlock H (blockOf e) x)) (shape W₁ (H .bytes)) .1 (e, there-again, holds-again)
 
   abbrev spotAgain : Spot
-  spotAgain = blockSpot (asRead W₁ H) (blockOf e)
+  spotAgain = place W₁ H passes-again (blockOf e) live-again
 
-  split-again : (shape W₁ (H .bytes) ≡ spotAgain .low ++ spotAgain .here ∷ spotAgain .high) × (holdsBlock H (blockOf e) (spotAgain .here) ≡ true)
-  unfolding asRead
-  split-again = spot-splits (holdsBlock H (blockOf e)) (shape W₁ (H .bytes)) live-again
+  split-again : (shape W₁ (H .bytes) ≡ spotAgain .low ++ spotAgain .here ∷ spotAgain .high) × (live H (spotAgain .here) ≡ true) × (blockOf (spotAgain .here) ≡ blockOf e)
+  split-again = splits W₁ H passes-again (blockOf e) live-again
+
+  -- it is the old chunk that is found there
+  here-again : spotAgain .here ≡ e
+  here-again =
+      let b = split-again .2 in
+      one-chunk W₁ H passes-again (spotAgain .here) e (in-split (spotAgain .low) (spotAgain .here) (spotAgain .high) (split-again .0)) there-again (omega arith)
+
+  split-at : shape W₁ (H .bytes) ≡ spotAgain .low ++ e ∷ spotAgain .high
+  split-at = split-again .0 ∙ ap (λ (x : Entry). spotAgain .low ++ x ∷ spotAgain .high) here-again
+
+  -- the chunk below it, as its link names it
+  below-again : word W₁ (e .place) backward - word W₁ (e .place) backward % 8 ≡ lastOr outside (spotAgain .low) .place
+  below-again =
+      let o = live-between W₁ H passes-again e there-again old-live in
+      let b = o .1 in
+      let a = around W₁ H passes-again (spotAgain .low) e (spotAgain .high) split-at (omega arith) (omega arith) in
+      let i = inside W₁ H passes-again (lastOr outside (spotAgain .low)) (a .below) in
+      omega (arith, a .ownBackward, o .0, i .place)
+
+  again-is : (freeBlock (blockOf e) copiedOver .heap ≡ freeBlock (blockOf e) (asRead W₁ H) .heap)
+      × (freeBlock (blockOf e) copiedOver .stores ≡ copiedOver .stores ++ freeBlock (blockOf e) (asRead W₁ H) .stores)
+      × (freeBlock (blockOf e) copiedOver .homeless ≡ freeBlock (blockOf e) (asRead W₁ H) .homeless)
+  again-is = again W₁ copiedOver (blockOf e) (filled .0 ∙ kept .chain) (λ i. filled .1 i ∙ kept .lists i) (kept .housed)
+
+  drawn-again : drawn W₁ (freeBlock (blockOf e) (asRead W₁ H)) ≡ drawn ws (freeBlock (blockOf e) copiedOver)
+  drawn-again =
+      rw (again-is .0, again-is .1, written-append (copiedOver .stores) (freeBlock (blockOf e) (asRead W₁ H) .stores) ws) refl
+
+  pub move-is : givenUpM W₁ (tableOf h) H (record { before = at (word W₁ (e .place) backward - word W₁ (e .place) backward % 8); chunk = at (e .place); end = blockEnd e; flags = e .flags })
+      ≡ drawn ws (freeBlock (blockOf e) copiedOver)
+  move-is =
+      rw (below-again, ← grant-table ws h p n large eight (sourceOf n (asRead ws h)) refl some)
+      (ap (λ (x : Entry). givenUpM W₁ (tableOf H) H (placed (lastOr outside (spotAgain .low) .place) x)) (sym here-again)
+      ∙ give-up-is W₁ H passes-again (blockOf e) live-again
+      ∙ drawn-again)
+
+  pub move-housed : freeBlock (blockOf e) copiedOver .homeless ≡ false
+  unfolding freeBlock
+  move-housed = again-is .2 ∙ housed W₁ H passes-again (blockOf e) live-again

@@ -144,9 +144,14 @@ module _ (P : ℕ → Type 0) where
       → Fall (headers p es)
   headers-fall p [] f = tt
   headers-fall p (e ∷ es) f =
-      let o = f e (List·Memᴰ·head refl) in
-      (o .0, (o .1, fall-both (sizeStores e (eqb (e .flags) unused)) (headers (e .place) es) (own (eqb (e .flags) unused) refl (o .2))
-      (headers-fall (e .place) es (λ d m. f d (List·Memᴰ·tail m)))))
+      let o = f e (List·Memᴰ·head refl) in (
+        o .0,
+        (
+          o .1,
+          fall-both (sizeStores e (eqb (e .flags) unused)) (headers (e .place) es) (own (eqb (e .flags) unused) refl (o .2))
+              (headers-fall (e .place) es (λ d m. f d (List·Memᴰ·tail m))),
+        ),
+      )
     where
       own : (t : Bool) → eqb (e .flags) unused ≡ t → (e .flags ≡ 0 → P (e .place / 4 + size)) → Fall (sizeStores e t)
       own true q g = (g (eqb-true (e .flags) unused q), tt)

@@ -1,0 +1,183 @@
+-- Reallocate: what the code leaves is what the rule says, refused or not. Assumes nothing.
+use mathlib.Core.Path.{_≡_, refl, sym, ap, _∙_}
+use mathlib.Core.Bool.{Bool, true, false}
+use mathlib.Core.List.{List}
+use Prim.Native.Nat.{ℕ, _+_, _-_, _%_, _^_, _≤_, _<_}
+use native.Mathlib.Decide.{decLt}
+use native.Mathlib.Omega.{arith}
+use borrow.Author.Tests.{eq-eqb, ne-eqb, lt-ltb, le-ltb, le-leb, lt-leb}
+use Rattle.lists.specs.Lists.{Mem}
+use Rattle.record.specs.declared.answers.Refusal.the-variants.{HeapFails, BlockSize, NotLive}
+use Rattle.record.specs.declared.answers.Reply.{Reply}
+use Rattle.record.specs.declared.heap.Heap.{Heap}
+use Rattle.record.specs.Heap.{tableOf}
+use Rattle.region.specs.Places.{blockAt}
+use Rattle.rules.specs.Allocate.{allocate, sourceOf, grant}
+use Rattle.rules.specs.Check.{Passes, passes}
+use Rattle.rules.specs.Cut.{Grant}
+use Rattle.rules.specs.Draft.{Draft, asRead}
+use Rattle.rules.specs.Free.{isLive, freeBlock}
+use Rattle.rules.specs.Kinds.{overhead, blockOf, blockEnd, live}
+use Rattle.rules.specs.Outcome.{made, grants}
+use Rattle.rules.specs.Reallocate.{resize, reallocate, resized}
+use Rattle.rules.specs.Serve.{need, permitted, nowhere}
+use Rattle.rules.specs.Shape.{Entry, shape}
+use Rattle.rules.specs.Statements.{Meets, leftBy, replied}
+use Rattle.rules.proofs.CheckLaws.{passes-iff}
+use Rattle.rules.proofs.SpotLaws.{bounds, inside, in-split}
+use Rattle.seek.specs.declared.Place.{Place}
+use Rattle.seek.specs.declared.Sought.{Sought}
+use Rattle.seek.specs.declared.Sought.the-variants.{Found, Nowhere}
+use Rattle.seek.specs.Seek.{soughtIn, hasBlock}
+use Rattle.grant.specs.Need.{needM}
+use Rattle.grant.proofs.NeedLaws.{need-large, need-eight, permitted-need}
+use Rattle.grant.proofs.ServeMeaning.{serve-is}
+use Rattle.release.proofs.GiveMeaning.{give-up-tail-is}
+use Rattle.release.proofs.ReleaseMeaning.{place, splits}
+use Rattle.release.proofs.TailMeaning.{tail-housed}
+use Rattle.heap.specs.Replies.{refusing}
+use Rattle.heap.specs.Resize.{shrinkM, movedM, moveM, resizeM}
+use Rattle.heap.proofs.ChangeLaws.{change-ruled}
+use Rattle.heap.proofs.GrantLaws.{chosen-is, lies as granted-lies}
+use Rattle.heap.proofs.FindLaws.{placeOf, not-live, live-at}
+use Rattle.heap.proofs.MoveMeaning.{copiedOver, copy-written, move-is, move-housed}
+
+-- the live block at b, in a heap that passes
+module _ (ws : List ℕ) (h : Heap) (q : passes ws h ≡ true) (z : ℕ) (k : permitted z ≡ true) (b : ℕ) (l : isLive (asRead ws h) b ≡ true) where
+  well : Passes ws h
+  well = passes-iff ws h .0 q
+
+  abbrev n : ℕ
+  n = need overhead z
+
+  abbrev e : Entry
+  e = place ws h well b l .here
+
+  abbrev p : Place
+  p = placeOf ws h well b l
+
+  member : Mem e (shape ws (h .bytes))
+  member = in-split (place ws h well b l .low) e (place ws h well b l .high) (splits ws h well b l .0)
+
+  is-live : live h e ≡ true
+  is-live = splits ws h well b l .1
+
+  -- where the chunk lies
+  record Lies : Type 0 where
+    pub size : blockEnd e - e .place ≡ e .size
+    pub block : blockAt (e .place) ≡ blockOf e
+    pub few : e .place + e .size ≤ 65536
+
+  lies : Lies
+  lies =
+      let i = inside ws h well e member in
+      let w = bounds ws h well in
+      record { size = omega arith; block = omega arith; few = omega arith }
+
+  -- the chunk has the need, and nothing to give back
+  stays : n ≤ e .size → e .size < n + 24 → resizeM ws (tableOf h) h p n ≡ leftBy ws (resize ws h b z)
+  unfolding resizeM resize resized asRead
+  stays m u =
+      let i = lies in
+      rw (i .size, le-ltb (e .size) n m, lt-leb (n + 24) (e .size) u, i .block, change-ruled (e .size) (e .size) (omega arith) (omega arith), q, k, l)
+
+  -- the tail is given back
+  shrinks : n + 24 ≤ e .size → resizeM ws (tableOf h) h p n ≡ leftBy ws (resize ws h b z)
+  unfolding resizeM shrinkM resize resized
+  shrinks u =
+      let i = lies in
+      let s = place ws h well b l in
+      let r : (e .place + n) % 2 ^ 32 ≡ e .place + n = omega arith in
+      let housed = tail-housed ws h well (s .low) e (s .high) (splits ws h well b l .0) is-live n (need-large z) (need-eight z) u in
+      rw (
+        i .size,
+        le-ltb (e .size) n (omega arith),
+        le-leb (n + 24) (e .size) u,
+        r,
+        give-up-tail-is ws h well (s .low) e (s .high) (splits ws h well b l .0) is-live n (need-large z) (need-eight z) u (e .flags),
+        i .block,
+        change-ruled (e .size) n (omega arith) (omega arith),
+        q,
+        k,
+        l,
+        housed,
+      )
+
+  -- the block moves, if something can serve
+  module _ (less : e .size < n) where
+    refuses : nowhere (sourceOf n (asRead ws h)) ≡ true → resizeM ws (tableOf h) h p n ≡ leftBy ws (resize ws h b z)
+    unfolding resizeM moveM resize
+    refuses none =
+        let i = lies in
+        rw (i .size, lt-ltb (e .size) n less, chosen-is ws h q z k, none, q, k, l)
+
+    module _ (some : nowhere (sourceOf n (asRead ws h)) ≡ false) where
+      abbrev g : Grant
+      g = grant n (asRead ws h)
+
+      abbrev after : Draft
+      after = copiedOver ws h well n (need-large z) (need-eight z) some e member is-live less
+
+      code-moves : resizeM ws (tableOf h) h p n ≡ leftBy ws (made (grants (e .size) (g .granted)) (freeBlock (blockOf e) after))
+      unfolding resizeM moveM movedM
+      code-moves =
+          let i = lies in
+          let o = granted-lies ws h q z k some in
+          let block : blockAt (g .granted .place) ≡ blockOf (g .granted) = omega arith in
+          rw (
+            i .size,
+            lt-ltb (e .size) n less,
+            chosen-is ws h q z k,
+            some,
+            serve-is ws h well n (need-large z) (need-eight z) (sourceOf n (asRead ws h)) refl some,
+            copy-written ws h well n (need-large z) (need-eight z) some e member is-live less,
+            move-is ws h well n (need-large z) (need-eight z) some e member is-live less,
+            block,
+            change-ruled (e .size) (g .granted .size) (omega arith) (omega arith),
+          )
+
+      rule-moves : resize ws h b z ≡ made (grants (e .size) (g .granted)) (freeBlock (blockOf e) after)
+      unfolding resize resized
+      rule-moves =
+          rw (q, k, l, lt-ltb (e .size) n less, some, move-housed ws h well n (need-large z) (need-eight z) some e member is-live less)
+
+      moves : resizeM ws (tableOf h) h p n ≡ leftBy ws (resize ws h b z)
+      moves = code-moves ∙ sym (ap (leftBy ws) rule-moves)
+
+  resize-is : resizeM ws (tableOf h) h p n ≡ leftBy ws (resize ws h b z)
+  resize-is = by (decLt (e .size) n) (decLt (e .size) (n + 24)) (nowhere (sourceOf n (asRead ws h))) refl
+    where
+      by : Dec (e .size < n) → Dec (e .size < n + 24) → (t : Bool) → nowhere (sourceOf n (asRead ws h)) ≡ t
+          → resizeM ws (tableOf h) h p n ≡ leftBy ws (resize ws h b z)
+      by (yes u) d true t = refuses u t
+      by (yes u) d false t = moves u t
+      by (no u) (yes v) t s = stays (omega arith) v
+      by (no u) (no v) t s = shrinks (omega arith)
+
+module _ (ws : List ℕ) (h : Heap) (b z : ℕ) where
+  pub reallocate-none : b ≡ 0 → (r : Reply) (words : List ℕ) → Meets ws (allocate ws h z) r words → Meets ws (reallocate ws h b z) r words
+  unfolding reallocate
+  reallocate-none e r words g = rw (eq-eqb b 0 e) g
+
+  module _ (n : b ≡ 0 → ⊥) where
+    pub reallocate-fails : passes ws h ≡ false → Meets ws (reallocate ws h b z) (refusing h HeapFails) ws
+    unfolding reallocate resize
+    reallocate-fails q = rw (ne-eqb b 0 n, q) refl
+
+    module _ (q : passes ws h ≡ true) where
+      pub reallocate-refuses : permitted z ≡ false → Meets ws (reallocate ws h b z) (refusing h BlockSize) ws
+      unfolding reallocate resize
+      reallocate-refuses k = rw (ne-eqb b 0 n, q, k) refl
+
+      module _ (k : permitted z ≡ true) (s : Sought) (e : s ≡ soughtIn (hasBlock (h .bytes) b) 0 (shape ws (h .bytes))) where
+        pub reallocate-misses : s ≡ Nowhere → Meets ws (reallocate ws h b z) (refusing h NotLive) ws
+        unfolding reallocate resize
+        reallocate-misses m = rw (ne-eqb b 0 n, q, k, not-live ws h (passes-iff ws h .0 q) b s e m) refl
+
+        pub reallocates : (x : Place) → s ≡ Found x → (m : ℕ) → m ≡ needM z → (r : Reply) (words : List ℕ)
+            → replied r words ≡ resizeM ws (tableOf h) h x m → Meets ws (reallocate ws h b z) r words
+        unfolding reallocate
+        reallocates x f m en r words g =
+            let (l, a) = live-at ws h (passes-iff ws h .0 q) b s e x f in
+            rw (ne-eqb b 0 n)
+            (g ∙ ap (resizeM ws (tableOf h) h x) (en ∙ permitted-need z k) ∙ ap (λ (y : Place). resizeM ws (tableOf h) h y (need overhead z)) a ∙ resize-is ws h q z k b l)
