@@ -29,14 +29,14 @@ use Rattle.rules.proofs.SpotLaws.{spot-at, top-here, donor-here}
 use Rattle.grant.specs.Choose.{ownM, largerM, donorM, topM, chooseM}
 
 module _ (ws : List ℕ) (h : Heap) (p : Passes ws h) (n : ℕ) where
-  abbrev es : List Entry
+  abbrev pub es : List Entry
   es = shape ws (h .bytes)
 
   bins-are : length (tableOf h) ≡ h .bins
   bins-are = let a = p .table .bins in let b = p .table .sizePlaces in length-take-le (h .bins) (h .sizes) (omega arith)
 
   -- the size word of a member, of the donor and of the top is the distance to the next chunk
-  size-on : (c : ℕ) (e : Entry) → Mem e es → e .place ≡ c → sizeOn es c ≡ e .size
+  pub size-on : (c : ℕ) (e : Entry) → Mem e es → e .place ≡ c → sizeOn es c ≡ e .size
   size-on c e m q = ap (λ (d : Entry). d .size) (spot-at ws h p c e m q .1)
 
   member-size : (i c : ℕ) → i < h .bins → Mem c (binList ws h i) → word ws c size ≡ sizeOn es c
