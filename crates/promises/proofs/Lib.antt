@@ -1,1 +1,3 @@
 pub mod ServeLaws
+pub mod RefusedLaws
+pub mod RoomLaws
