@@ -1,3 +1,5 @@
 pub mod ServeLaws
 pub mod RefusedLaws
 pub mod RoomLaws
+pub mod CountsLaws
+pub mod DeterminedLaws

@@ -1,5 +1,5 @@
 -- Every call is refused with the first number whose reason holds, and never otherwise; refused, it changes nothing (`refusing`). Assumes nothing.
-use mathlib.Core.Path.{_≡_, refl, sym, ap, _∙_, subst}
+use mathlib.Core.Path.{_≡_, refl, sym, ap, _∙_}
 use mathlib.Core.Logic.{_↔_, _⊎_, inl, inr, _≢_}
 use mathlib.Core.Bool.{Bool, true, false, not, cond, _&&_, _||_, true≢false, false≢true}
 use mathlib.Core.List.{List, [], _∷_, map, List·Memᴰ·head, List·Memᴰ·tail, List·Memᴰ·not-nil}
@@ -9,26 +9,26 @@ use native.Mathlib.Omega.{arith}
 use lib.Dec.{eqb, leb, ltb}
 use lib.ListN.{length}
 use borrow.Author.Tests.{eq-eqb, ne-eqb}
-use Rattle.lists.specs.Lists.{Mem, any}
-use Rattle.lists.proofs.ListsLaws.{Decides, number-is, at-most, less, meaning, both, both-if, or-else, denied, itself, for-some, not-so}
+use Rattle.lists.specs.Lists.{Mem}
+use Rattle.lists.proofs.ListsLaws.{Decides, number-is, at-most, less, meaning, both, or-else, denied, for-some}
 use Rattle.record.specs.declared.answers.Answer.{Answer}
-use Rattle.record.specs.declared.answers.Answer.the-variants.{Done, Granted, Returned, Told, Counted, Refused}
+use Rattle.record.specs.declared.answers.Answer.the-variants.{Done, Returned, Told, Counted, Refused}
 use Rattle.record.specs.declared.answers.Refusal.{Refusal}
 use Rattle.record.specs.declared.answers.Refusal.the-variants.{RegionLength, BadTable, DonorSize, HeapFails, BlockSize, NotLive, NoRoom, NotThere, NoBinTakes}
 use Rattle.record.specs.declared.heap.Heap.{Heap}
 use Rattle.record.specs.Answers.{numberOf, figuresOf}
-use Rattle.record.specs.Heap.{empty, withMerge}
+use Rattle.record.specs.Heap.{withMerge}
 use Rattle.record.specs.Table.{validTable, ValidTable}
 use Rattle.record.proofs.TableLaws.{valid-iff}
 use Rattle.region.specs.Words.{written}
 use Rattle.rules.specs.Shape.{Entry, shape, heapBytes}
-use Rattle.rules.specs.Kinds.{live, overhead, blockOf, holdsBlock, isAt}
+use Rattle.rules.specs.Kinds.{live, overhead, blockOf, holdsBlock}
 use Rattle.rules.specs.Check.{Passes, passes, countsOf}
-use Rattle.rules.specs.Draft.{Draft, asRead, alsoWrites}
+use Rattle.rules.specs.Draft.{asRead, alsoWrites}
 use Rattle.rules.specs.Serve.{mostBytes, need, permitted, nowhere}
-use Rattle.rules.specs.Outcome.{Outcome, Refusals, refused, unchanged, judged, heapFails, made, grants, changeOf}
+use Rattle.rules.specs.Outcome.{Outcome, Refusals, unchanged, judged, heapFails, made, grants, changeOf}
 use Rattle.rules.specs.Setup.{setup, donorFits, fresh, firstHeaders}
-use Rattle.rules.specs.Allocate.{sourceOf, grant, asFound, cleared, allocateWith, allocate, allocateCleared}
+use Rattle.rules.specs.Allocate.{sourceOf, grant, asFound, cleared, allocate, allocateCleared}
 use Rattle.rules.specs.Free.{isLive, blockSpot, freeBlock, free}
 use Rattle.rules.specs.Reallocate.{resized, resize, reallocate}
 use Rattle.rules.specs.Merge.{setMerge, checked, check}
@@ -36,9 +36,9 @@ use Rattle.rules.specs.Ask.{askChunk, askBin, chunkAnswers, askedSpot, isAsked,
 use Rattle.rules.specs.Calls.{Call, Setup, Allocate, AllocateCleared, Free, Reallocate, SetMerge, Check, AskChunk, AskBin, step}
 use Rattle.rules.proofs.CheckLaws.{passes-iff}
 use Rattle.rules.proofs.SpotLaws.{one-chunk, spot-splits, spot-member}
-use Rattle.promises.specs.Ways.{Way, ours}
+use Rattle.promises.specs.Ways.{ours}
 use Rattle.promises.specs.Room.{HoldsBlock, NoneServes}
-use Rattle.promises.specs.Refused.{WrongLength, WrongDonor, WrongSize, NoBlock, NoPlace, NoQuestion, AskedOf, Because, setupLength, setupTable, setupDonor, fails, allocateSize, clearedSize, reallocateSize, freeNotLive, reallocateNotLive, allocateRoom, clearedRoom, reallocateRoom, askNoChunk, askNoBin, allocateBin, clearedBin, freeBin, reallocateNewBin, reallocateBin, isSetup, First, recordOf, Refusing}
+use Rattle.promises.specs.Refused.{WrongLength, WrongDonor, WrongSize, NoPlace, NoQuestion, AskedOf, Because, setupLength, setupTable, setupDonor, fails, allocateSize, clearedSize, reallocateSize, freeNotLive, reallocateNotLive, allocateRoom, clearedRoom, reallocateRoom, askNoChunk, askNoBin, allocateBin, clearedBin, freeBin, reallocateNewBin, reallocateBin, isSetup, First, recordOf, Refusing}
 use Rattle.promises.proofs.ServeLaws.{room-iff}
 
 -- the tests decide the reasons B, each where those before it do not hold

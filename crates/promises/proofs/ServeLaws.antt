@@ -1,9 +1,9 @@
 -- The rule's four tries find nothing exactly when no chunk of the whole chain can serve (`room-iff`). Assumes nothing.
 use mathlib.Core.Path.{_≡_, refl, sym, ap, _∙_, subst}
-use mathlib.Core.Logic.{_↔_, _⊎_, inl, inr}
-use mathlib.Core.Bool.{Bool, true, false, not, cond, _&&_, _||_, true≢false, false≢true}
+use mathlib.Core.Logic.{_⊎_, inl, inr}
+use mathlib.Core.Bool.{Bool, true, false, not, cond, _&&_, false≢true}
 use mathlib.Core.List.{List, [], _∷_, List·Memᴰ·head, List·Memᴰ·not-nil}
-use Prim.Native.Nat.{ℕ, suc, _+_, _*_, _-_, _%_, _≤_, _<_}
+use Prim.Native.Nat.{ℕ, suc, _+_, _-_, _%_, _≤_, _<_}
 use native.Mathlib.Decide.{ℕ-discrete}
 use native.Mathlib.Omega.{arith}
 use lib.Dec.{eqb, leb}
@@ -19,7 +19,7 @@ use Rattle.record.specs.declared.heap.Heap.{Heap}
 use Rattle.record.specs.declared.sources.Source.{Source}
 use Rattle.record.specs.declared.sources.Source.the-variants.{FromBin, FromDonor, FromTop, Nowhere}
 use Rattle.record.specs.declared.table.Binned.{Binned}
-use Rattle.record.specs.declared.table.Binned.the-variants.{Bin, NoBin}
+use Rattle.record.specs.declared.table.Binned.the-variants.{Bin}
 use Rattle.record.specs.Heap.{tableOf}
 use Rattle.record.specs.Table.{Takes, TakenBy, small, binOf}
 use Rattle.record.proofs.TableLaws.{bin-taken, bin-from, bin-grows, sizes-grow}
@@ -30,7 +30,7 @@ use Rattle.rules.specs.Draft.{asRead}
 use Rattle.rules.specs.Serve.{serves, sizeOn, fromBin, firstFit, ownBin, tryDonor, largerBin, tryTop, firstOf, chosen, nowhere}
 use Rattle.rules.specs.Allocate.{sourceOf}
 use Rattle.rules.proofs.KindsLaws.{kind-ordinary}
-use Rattle.rules.proofs.SpotLaws.{Free, IsOrdinary, inside, flags-free, spot-at, top-here, donor-here, is-ordinary}
+use Rattle.rules.proofs.SpotLaws.{Free, IsOrdinary, inside, flags-free, top-here, donor-here}
 use Rattle.promises.specs.Room.{NoneServes}
 
 -- a try finds something
