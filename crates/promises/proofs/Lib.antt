@@ -3,3 +3,5 @@ pub mod RefusedLaws
 pub mod RoomLaws
 pub mod CountsLaws
 pub mod DeterminedLaws
+pub mod InsideLaws
+pub mod OddLaws

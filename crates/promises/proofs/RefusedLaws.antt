@@ -147,15 +147,15 @@ range-iff most z =
     inside (inr l) k = omega (arith, k .1)
 
 -- the tests of a call that grants a block of z bytes
+abbrev pub allocating : List ℕ → Heap → ℕ → Refusals
+allocating ws h z =
+    heapFails ws h ∷ (not (permitted z), BlockSize) ∷ (nowhere (sourceOf (need overhead z) (asRead ws h)), NoRoom)
+    ∷ (grant (need overhead z) (asRead ws h) .draft .homeless, NoBinTakes) ∷ []
+
 module _ (ws : List ℕ) (h : Heap) (call : Call) (z : ℕ) (s : isSetup call ≡ false)
     (size : WrongSize z ↔ Because ws h call BlockSize) (room : NoneServes ws h (need overhead z) ↔ Because ws h call NoRoom)
     (bin : (grant (need overhead z) (asRead ws h) .draft .homeless ≡ true) ↔ Because ws h call NoBinTakes) where
-  abbrev allocating : Refusals
-  allocating =
-      heapFails ws h ∷ (not (permitted z), BlockSize) ∷ (nowhere (sourceOf (need overhead z) (asRead ws h)), NoRoom)
-      ∷ (grant (need overhead z) (asRead ws h) .draft .homeless, NoBinTakes) ∷ []
-
-  allocating-decided : Decided (Because ws h call) allocating
+  allocating-decided : Decided (Because ws h call) (allocating ws h z)
   allocating-decided = (
     fails-iff ws h call s,
     λ f. (
@@ -165,8 +165,12 @@ module _ (ws : List ℕ) (h : Heap) (call : Call) (z : ℕ) (s : isSetup call �
   )
 
 -- a donor that fits, or none
-abbrev Fitting : List ℕ → ℕ → Type 0
+abbrev pub Fitting : List ℕ → ℕ → Type 0
 Fitting ws donor = (donor ≡ 0) ⊎ (((24 ≤ donor) × (donor % 8 ≡ 0)) × (donor ≤ heapBytes (length ws) - 40))
+
+pub fitting-iff : (ws : List ℕ) (donor : ℕ) → Decides (donorFits (heapBytes (length ws)) donor) (Fitting ws donor)
+fitting-iff ws donor =
+    or-else (number-is donor 0) (both (both (at-most 24 donor) (number-is (donor % 8) 0)) (at-most donor (heapBytes (length ws) - 40)))
 
 -- where each stands in a list
 first : {x : Refusal} {xs : List Refusal} → Mem x (x ∷ xs)
@@ -188,6 +192,14 @@ fifth = List·Memᴰ·tail fourth
 granted : (before : ℕ) (e : Entry) → Accepted (grants before e)
 granted before e r q = let z : _≡_ {A = ℕ} 0 1 = cc in omega arith
 
+-- a chunk holds the live block at b
+pub holds-iff : (h : Heap) (b : ℕ) (e : Entry) → Decides (holdsBlock h b e) ((live h e ≡ true) × (blockOf e ≡ b))
+holds-iff h b e = go (live h e) (number-is (blockOf e) b)
+  where
+    go : {P : Type 0} {u : Bool} (t : Bool) → Decides u P → Decides (cond t u false) ((t ≡ true) × P)
+    go true d = meaning d (λ x. (refl, x)) (λ x. x .1)
+    go false d = (λ q. absurd (false≢true q), λ x. x .0)
+
 module _ (ws : List ℕ) (h : Heap) where
   allocate-judged : (z : ℕ) → Judging (Allocate z) ws h
   unfolding step allocate
@@ -195,7 +207,7 @@ module _ (ws : List ℕ) (h : Heap) where
       let n = need overhead z in
       let g = grant n (asRead ws h) in
       record {
-        tests = allocating ws h (Allocate z) z refl sizes rooms bins;
+        tests = allocating ws h z;
         made = made (grants 0 (g .granted)) (alsoWrites (asFound (g .granted)) (g .draft));
         accepted = granted 0 (g .granted);
         is = refl;
@@ -233,7 +245,7 @@ module _ (ws : List ℕ) (h : Heap) where
   cleared-judged count size =
       let g = grant (need overhead (count * size)) (asRead ws h) in
       record {
-        tests = allocating ws h (AllocateCleared count size) (count * size) refl sizes rooms bins;
+        tests = allocating ws h (count * size);
         made = made (grants 0 (g .granted)) (alsoWrites (cleared (g .granted)) (g .draft));
         accepted = granted 0 (g .granted);
         is = refl;
@@ -267,17 +279,10 @@ module _ (ws : List ℕ) (h : Heap) where
       stands r (clearedBin w) = fourth
 
   -- the chunk of a live block is found on the chain
-  holds-iff : (b : ℕ) (e : Entry) → Decides (holdsBlock h b e) ((live h e ≡ true) × (blockOf e ≡ b))
-  holds-iff b e = both-cond (live h e) (number-is (blockOf e) b)
-    where
-      both-cond : {P : Type 0} {u : Bool} (t : Bool) → Decides u P → Decides (cond t u false) ((t ≡ true) × P)
-      both-cond true d = meaning d (λ x. (refl, x)) (λ x. x .1)
-      both-cond false d = (λ q. absurd (false≢true q), λ x. x .0)
-
   live-iff : (b : ℕ) → Decides (isLive (asRead ws h) b) ((e : Entry) × HoldsBlock ws h b e)
   unfolding asRead
   live-iff b =
-      meaning (for-some (holds-iff b) (shape ws (h .bytes)))
+      meaning (for-some (holds-iff h b) (shape ws (h .bytes)))
       (λ (e, m, (l, q)). (e, record { member = m; live = l; block = q }))
       (λ (e, k). (e, k .member, (k .live, k .block)))
 
@@ -332,7 +337,7 @@ module _ (ws : List ℕ) (h : Heap) where
   new-judged b z e =
       let g = grant (need overhead z) (asRead ws h) in
       record {
-        tests = allocating ws h (Reallocate b z) z refl sizes rooms bins;
+        tests = allocating ws h z;
         made = made (grants 0 (g .granted)) (alsoWrites (asFound (g .granted)) (g .draft));
         accepted = granted 0 (g .granted);
         is = rw (eq-eqb b 0 e) refl;
@@ -381,7 +386,7 @@ module _ (ws : List ℕ) (h : Heap) where
     unfolding asRead
     here-holds =
         let a = live-iff b .1 some in
-        let k = holds-iff b here .0 (spot-splits (holdsBlock h b) (shape ws (h .bytes)) a .1) in
+        let k = holds-iff h b here .0 (spot-splits (holdsBlock h b) (shape ws (h .bytes)) a .1) in
         record { member = spot-member (holdsBlock h b) (shape ws (h .bytes)) a; live = k .0; block = k .1 }
 
     outgrown-iff : (n : ℕ) → Decides (ltb (here .size) n) ((e : Entry) → HoldsBlock ws h b e → e .size < n)
@@ -573,8 +578,7 @@ module _ (ws : List ℕ) (h : Heap) where
 
   donor-iff : (donor : ℕ) → Decides (not (donorFits (heapBytes (length ws)) donor)) (WrongDonor ws donor)
   donor-iff donor =
-      meaning
-      (denied (or-else (number-is donor 0) (both (both (at-most 24 donor) (number-is (donor % 8) 0)) (at-most donor (heapBytes (length ws) - 40)))))
+      meaning (denied (fitting-iff ws donor))
       (λ n. wrong n (ℕ-discrete donor 0) (decLt donor 24) (ℕ-discrete (donor % 8) 0)) right
     where
       wrong : (Fitting ws donor → ⊥) → Dec (donor ≡ 0) → Dec (donor < 24) → Dec (donor % 8 ≡ 0) → WrongDonor ws donor

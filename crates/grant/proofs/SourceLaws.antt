@@ -1,0 +1,205 @@
+-- What the chosen source is on a heap that passes: a free chunk of the chain, large enough for the need, and for a need and 24 bytes more
+-- if it is the donor or the top; and where the chain is taken apart for the grant (`source-can`). Assumes nothing.
+use mathlib.Core.Path.{_≡_, refl, sym, subst}
+use mathlib.Core.Bool.{Bool, true, false, cond, not, _&&_, true≢false}
+use mathlib.Core.List.{List, [], _∷_, _++_, List·Memᴰ·head}
+use Prim.Native.Nat.{ℕ, suc, _+_, _-_, _≤_, _<_}
+use native.Mathlib.Decide.{ℕ-discrete}
+use native.Mathlib.Omega.{arith}
+use lib.Dec.{eqb, leb}
+use lib.ListN.{length-take}
+use borrow.Author.Tests.{eq-eqb, ne-eqb, leb-true}
+use Rattle.lists.specs.Lists.{Mem, headOr, keep, numbersFrom, gathered}
+use Rattle.lists.proofs.ListsLaws.{at-most, number-is, denied, itself, both}
+use Rattle.lists.proofs.MembersLaws.{kept-from}
+use Rattle.lists.proofs.CountLaws.{gathered-from}
+use Rattle.record.specs.declared.heap.Heap.{Heap}
+use Rattle.record.specs.declared.kinds.Kind.{Kind}
+use Rattle.record.specs.declared.kinds.Kind.the-variants.{Start, InUse, Ordinary, Donor, Top, End}
+use Rattle.record.specs.declared.sources.Source.{Source}
+use Rattle.record.specs.declared.sources.Source.the-variants.{FromBin, FromDonor, FromTop, Nowhere}
+use Rattle.record.specs.declared.table.Binned.{Binned}
+use Rattle.record.specs.declared.table.Binned.the-variants.{Bin, NoBin}
+use Rattle.record.specs.Heap.{at, tableOf}
+use Rattle.record.specs.Table.{Takes, TakenBy, small, binOf}
+use Rattle.record.proofs.TableLaws.{bin-taken, sizes-grow}
+use Rattle.rules.specs.Shape.{Entry, shape, binList}
+use Rattle.rules.specs.Kinds.{ordinaryKind, kindOf, isAt}
+use Rattle.rules.specs.Check.{Passes}
+use Rattle.rules.specs.Draft.{asRead, spot}
+use Rattle.rules.specs.Cut.{grantAt, grantFrom}
+use Rattle.rules.specs.Serve.{sizeOn, fromBin, ownBin, tryDonor, largerBin, tryTop, firstOf, chosen, nowhere}
+use Rattle.rules.specs.Allocate.{sourceOf}
+use Rattle.rules.proofs.SpotLaws.{Free, spot-at, top-here, donor-here}
+use Rattle.bins.proofs.HeapBooks.{member-entry}
+use Rattle.grant.proofs.ChooseMeaning.{size-on}
+
+-- the place and the kind of the chunk that a source names
+abbrev pub placeIn : Heap → Source → ℕ
+placeIn h (FromBin c) = c .0
+placeIn h FromDonor = h .donor .0
+placeIn h FromTop = h .top .0
+placeIn h Nowhere = 0
+
+abbrev pub kindIn : Source → Kind
+kindIn (FromBin c) = Ordinary
+kindIn FromDonor = Donor
+kindIn FromTop = Top
+kindIn Nowhere = Start
+
+-- n bytes can be granted from the source, which is the chunk e
+pub record CanGrant (ws : List ℕ) (h : Heap) (n : ℕ) (source : Source) (e : Entry) : Type 0 where
+  pub member : Mem e (shape ws (h .bytes))
+  pub place : e .place ≡ placeIn h source
+  pub kind : kindOf h e ≡ kindIn source
+  pub free : Free ws h e
+  pub enough : n ≤ e .size
+  pub spare : ordinaryKind (kindIn source) ≡ false → n + 24 ≤ e .size
+  pub here : spot (isAt (e .place)) (shape ws (h .bytes)) .here ≡ e
+  pub split : shape ws (h .bytes) ≡ spot (isAt (e .place)) (shape ws (h .bytes)) .low ++ e ∷ spot (isAt (e .place)) (shape ws (h .bytes)) .high
+  pub is : grantFrom source n (asRead ws h) ≡ grantAt (kindIn source) (spot (isAt (e .place)) (shape ws (h .bytes))) n (asRead ws h)
+
+-- what a try finds has a property
+abbrev Good : (Source → Type 0) → Source → Type 0
+Good P s = nowhere s ≡ false → P s
+
+abbrev Goods : (Source → Type 0) → List Source → Type 0
+Goods P [] = Unit {0}
+Goods P (s ∷ ss) = Good P s × Goods P ss
+
+first-good : (P : Source → Type 0) (ss : List Source) → Goods P ss → Good P (firstOf ss)
+first-good P [] g some = absurd (true≢false some)
+first-good P (FromBin c ∷ ss) g some = g .0 some
+first-good P (FromDonor ∷ ss) g some = g .0 some
+first-good P (FromTop ∷ ss) g some = g .0 some
+first-good P (Nowhere ∷ ss) g some = first-good P ss (g .1) some
+
+-- the first of a list, if there is one
+first-member : (cs : List ℕ) → (headOr 0 cs ≡ 0 → ⊥) → Mem (headOr 0 cs) cs
+first-member [] n = absurd (n refl)
+first-member (c ∷ cs) n = List·Memᴰ·head refl
+
+from-bin-good : (P : Source → Type 0) (cs : List ℕ) → ((c : ℕ) → Mem c cs → P (FromBin (at c))) → Good P (fromBin (headOr 0 cs))
+from-bin-good P cs f = go (ℕ-discrete (headOr 0 cs) 0)
+  where
+    go : Dec (headOr 0 cs ≡ 0) → Good P (fromBin (headOr 0 cs))
+    go (yes z) = rw (eq-eqb (headOr 0 cs) 0 z) (λ some. absurd (true≢false some))
+    go (no n) = rw (ne-eqb (headOr 0 cs) 0 n) (λ some. f (headOr 0 cs) (first-member cs n))
+
+if-good : (P : Source → Type 0) (s : Source) (t : Bool) → (t ≡ true → P s) → Good P (cond t s Nowhere)
+if-good P s true f = λ some. f refl
+if-good P s false f = λ some. absurd (true≢false some)
+
+is-ordinary-kind : (k : Kind) → ordinaryKind k ≡ true → k ≡ Ordinary
+is-ordinary-kind Ordinary t = refl
+is-ordinary-kind Start t = absurd (true≢false (sym t))
+is-ordinary-kind InUse t = absurd (true≢false (sym t))
+is-ordinary-kind Donor t = absurd (true≢false (sym t))
+is-ordinary-kind Top t = absurd (true≢false (sym t))
+is-ordinary-kind End t = absurd (true≢false (sym t))
+
+module _ (ws : List ℕ) (h : Heap) (p : Passes ws h) (n : ℕ) where
+  abbrev es : List Entry
+  es = shape ws (h .bytes)
+
+  abbrev Can : Source → Type 0
+  Can s = (e : Entry) × CanGrant ws h n s e
+
+  -- a member of a bin with n bytes
+  from-bin-can : (i c : ℕ) → i < h .bins → Mem c (binList ws h i) → ((e : Entry) → Mem e es → e .place ≡ c → binOf (tableOf h) (e .size) ≡ Bin i → n ≤ e .size)
+      → Can (FromBin (at c))
+  unfolding grantFrom asRead
+  from-bin-can i c l m large =
+      let k = member-entry ws h p i c l m in
+      let r = k .1 in
+      let s = spot-at ws h p (k .0 .place) (k .0) (r .member) refl in (
+        k .0,
+        record {
+          member = r .member;
+          place = r .place;
+          kind = is-ordinary-kind (kindOf h (k .0)) (r .kind);
+          free = r .is .free;
+          enough = large (k .0) (r .member) (r .place) (r .takes);
+          spare = λ q. absurd (true≢false q);
+          here = s .1;
+          split = s .2;
+          is = rw (r .place);
+        },
+      )
+
+  own-good : (b : Binned) → TakenBy (tableOf h) n b → Good Can (ownBin es (binList ws h) n b)
+  own-good (Bin i) k =
+      from-bin-good Can (keep (λ c. leb n (sizeOn es c)) (binList ws h i))
+      (λ c m.
+      let f = kept-from (λ c. leb n (sizeOn es c)) (binList ws h i) m in
+      from-bin-can i c (inside i k) (f .0) (λ e me q t. subst (λ (s : ℕ). n ≤ s) (size-on ws h p n c e me q) (leb-true n (sizeOn es c) (f .1))))
+    where
+      inside : (i : ℕ) → Takes (tableOf h) n i → i < h .bins
+      inside i k = omega (arith, k .inside, length-take (h .bins) (h .sizes))
+  own-good NoBin k = λ some. absurd (true≢false some)
+
+  -- the bins above that of n have larger chunks
+  larger-good : (b : Binned) → TakenBy (tableOf h) n b → Good Can (largerBin h (binList ws h) b)
+  larger-good (Bin i) k =
+      from-bin-good Can (gathered (binList ws h) (numbersFrom (suc i) (h .bins - suc i)))
+      (λ c m.
+      let g = gathered-from (binList ws h) (h .bins - suc i) (suc i) m in
+      from-bin-can (g .0) c (omega (arith, g .1)) (g .2)
+      (λ e me q t. let u = sizes-grow (tableOf h) k (subst (λ (r : Binned). TakenBy (tableOf h) (e .size) r) t (bin-taken (tableOf h) (e .size))) (omega (arith, g .1)) in omega arith))
+  larger-good NoBin k = λ some. absurd (true≢false some)
+
+  donor-good : Good Can (tryDonor h es n)
+  unfolding grantFrom asRead
+  donor-good =
+      if-good Can FromDonor (small (tableOf h) n && not (eqb (h .donor .0) 0) && leb (n + 24) (sizeOn es (h .donor .0)))
+      (λ t.
+      let f = both (both (itself (small (tableOf h) n)) (denied (number-is (h .donor .0) 0))) (at-most (n + 24) (sizeOn es (h .donor .0))) .0 t in
+      let some : 0 < h .donor .0 = omega (arith, f .0 .1) in
+      let d = donor-here ws h p some in
+      let e : Entry = spot (isAt (h .donor .0)) es .here in
+      let s = spot-at ws h p (e .place) e (d .member) refl in (
+        e,
+        record {
+          member = d .member;
+          place = d .place;
+          kind = d .kind;
+          free = d .free;
+          enough = omega (arith, f .1);
+          spare = λ q. f .1;
+          here = s .1;
+          split = s .2;
+          is = rw (d .place);
+        },
+      ))
+
+  top-good : Good Can (tryTop h es n)
+  unfolding grantFrom asRead
+  top-good =
+      if-good Can FromTop (leb (n + 24) (sizeOn es (h .top .0)))
+      (λ t.
+      let f = leb-true (n + 24) (sizeOn es (h .top .0)) t in
+      let d = top-here ws h p in
+      let e : Entry = spot (isAt (h .top .0)) es .here in
+      let s = spot-at ws h p (e .place) e (d .member) refl in (
+        e,
+        record {
+          member = d .member;
+          place = d .place;
+          kind = d .kind;
+          free = d .free;
+          enough = omega arith;
+          spare = λ q. f;
+          here = s .1;
+          split = s .2;
+          is = rw (d .place);
+        },
+      ))
+
+  -- a source that is chosen can grant
+  pub source-can : nowhere (sourceOf n (asRead ws h)) ≡ false → (e : Entry) × CanGrant ws h n (sourceOf n (asRead ws h)) e
+  unfolding asRead chosen
+  source-can =
+      let t = bin-taken (tableOf h) n in
+      let own : Binned = binOf (tableOf h) n in
+      first-good Can (ownBin es (binList ws h) n own ∷ tryDonor h es n ∷ largerBin h (binList ws h) own ∷ tryTop h es n ∷ [])
+      (own-good own t, (donor-good, (larger-good own t, (top-good, tt))))
