@@ -208,6 +208,18 @@ module _ (b : Books) (lists : ℕ → List ℕ) (n : ℕ) (w : OnWay b lists n) 
         go (inl q) = rw (q .0, s) (member-with xs c ys (q .1))
         go (inr q) = q .1
 
+    -- and are still there
+    remains : (j : ℕ) {d : ℕ} → d ≢ c → Mem d (lists j) → Mem d (relisted i (xs ++ ys) lists j)
+    remains j {d} ne k = go (ℕ-discrete j i)
+      where
+        other : (d ≡ c) ⊎ Mem d (xs ++ ys) → Mem d (xs ++ ys)
+        other (inl z) = absurd (ne z)
+        other (inr z) = z
+
+        go : Dec (j ≡ i) → Mem d (relisted i (xs ++ ys) lists j)
+        go (yes z) = rw (eq-eqb j i z) (other (member-without xs c ys (rw (z, s) at k)))
+        go (no m) = rw (ne-eqb j i m) k
+
     leave-each : (j : ℕ) → j < n → Holds (left b i xs ys) j (relisted i (xs ++ ys) lists j)
     leave-each j lj = go (ℕ-discrete j i)
       where
@@ -255,7 +267,7 @@ module _ (b : Books) (lists : ℕ → List ℕ) (n : ℕ) (w : OnWay b lists n) 
     held = rw s at (w .holds i l)
 
     -- a member is one that was, or it is the chunk at c
-    is-from : (j : ℕ) {d : ℕ} → Mem d (relisted i (xs ++ c ∷ ys) lists j) → Mem d (lists j) ⊎ ((j ≡ i) × (d ≡ c))
+    pub is-from : (j : ℕ) {d : ℕ} → Mem d (relisted i (xs ++ c ∷ ys) lists j) → Mem d (lists j) ⊎ ((j ≡ i) × (d ≡ c))
     is-from j {d} k = go (member-relisted i (xs ++ c ∷ ys) lists j k)
       where
         own : (j ≡ i) → (d ≡ c) ⊎ Mem d (xs ++ ys) → Mem d (lists j) ⊎ ((j ≡ i) × (d ≡ c))
@@ -326,6 +338,9 @@ module _ (b : Books) (lists : ℕ → List ℕ) (n : ℕ) (w : OnWay b lists n) 
 
     pub way-stays : (j : ℕ) {d : ℕ} → Mem d (relisted i (upTo (eqb c) (lists i) ++ past (eqb c) (lists i)) lists j) → Mem d (lists j)
     way-stays = stays i c l (upTo (eqb c) (lists i)) (past (eqb c) (lists i)) (split-at-member m)
+
+    pub way-remains : (j : ℕ) {d : ℕ} → d ≢ c → Mem d (lists j) → Mem d (relisted i (upTo (eqb c) (lists i) ++ past (eqb c) (lists i)) lists j)
+    way-remains = remains i c l (upTo (eqb c) (lists i)) (past (eqb c) (lists i)) (split-at-member m)
 
   -- at its head, at its tail
   module _ (i c : ℕ) (l : i < n) (gc : Node (length (b .words)) c) (free : (j d : ℕ) → j < n → Mem d (lists j) → Far c d) where

@@ -1,5 +1,11 @@
+pub mod NeedLaws
 pub mod ChooseLaws
 pub mod ChooseMeaning
 pub mod SourceLaws
 pub mod CutSteps
+pub mod CutLaws
 pub mod CutMeaning
+pub mod ServeSteps
+pub mod ServeMeaning
+pub mod GrantKept
+pub mod GrantSpares

@@ -24,7 +24,7 @@ use Rattle.record.specs.Heap.{at, tableOf}
 use Rattle.record.specs.Table.{Takes, TakenBy, small, binOf}
 use Rattle.record.proofs.TableLaws.{bin-taken, sizes-grow}
 use Rattle.rules.specs.Shape.{Entry, shape, binList}
-use Rattle.rules.specs.Kinds.{ordinaryKind, kindOf, isAt}
+use Rattle.rules.specs.Kinds.{freeKind, ordinaryKind, kindOf, isAt}
 use Rattle.rules.specs.Check.{Passes}
 use Rattle.rules.specs.Draft.{asRead, spot}
 use Rattle.rules.specs.Cut.{grantAt, grantFrom}
@@ -32,25 +32,20 @@ use Rattle.rules.specs.Serve.{sizeOn, fromBin, ownBin, tryDonor, largerBin, try
 use Rattle.rules.specs.Allocate.{sourceOf}
 use Rattle.rules.proofs.SpotLaws.{Free, spot-at, top-here, donor-here}
 use Rattle.bins.proofs.HeapBooks.{member-entry}
+use Rattle.grant.specs.Serve.{placeIn, kindIn}
 use Rattle.grant.proofs.ChooseMeaning.{size-on}
 
--- the place and the kind of the chunk that a source names
-abbrev pub placeIn : Heap → Source → ℕ
-placeIn h (FromBin c) = c .0
-placeIn h FromDonor = h .donor .0
-placeIn h FromTop = h .top .0
-placeIn h Nowhere = 0
-
-abbrev pub kindIn : Source → Kind
-kindIn (FromBin c) = Ordinary
-kindIn FromDonor = Donor
-kindIn FromTop = Top
-kindIn Nowhere = Start
+-- a source is one of the three free kinds
+pub free-source : (s : Source) → nowhere s ≡ false → freeKind (kindIn s) ≡ true
+free-source (FromBin c) q = refl
+free-source FromDonor q = refl
+free-source FromTop q = refl
+free-source Nowhere q = absurd (true≢false q)
 
 -- n bytes can be granted from the source, which is the chunk e
 pub record CanGrant (ws : List ℕ) (h : Heap) (n : ℕ) (source : Source) (e : Entry) : Type 0 where
   pub member : Mem e (shape ws (h .bytes))
-  pub place : e .place ≡ placeIn h source
+  pub place : e .place ≡ placeIn (h .donor .0) (h .top .0) source
   pub kind : kindOf h e ≡ kindIn source
   pub free : Free ws h e
   pub enough : n ≤ e .size

@@ -1,2 +1,4 @@
+pub mod Need
 pub mod Choose
 pub mod Cut
+pub mod Serve

@@ -11,6 +11,7 @@ use mir.Syntax.{w32}
 use mir.Val.{SFits, toZ, ofZ}
 use mir.ValLaws.{toZ-pos, toZ-ofZ}
 use borrow.Author.Tests.{lt-ltb, le-ltb}
+use Rattle.rules.specs.Outcome.{changeOf}
 use Rattle.heap.specs.Replies.{changeM}
 
 either-small : (t : Bool) (x y n : ℕ) → x < n → y < n → mag (cond t (negsuc x) (pos y)) < n
@@ -38,3 +39,11 @@ change-kept before after = toZ-ofZ w32 _ (go (decLt 65536 before) (decLt 65536 a
     go (no n) (yes l) = rw (le-ltb 65536 before (omega arith), lt-ltb 65536 after l) (record { sfits = omega arith })
     go (no n) (no m) =
         rw (le-ltb 65536 before (omega arith), le-ltb 65536 after (omega arith)) (difference-fits after before (omega arith) (omega arith))
+
+-- and it is the rules'
+pub change-ruled : (before after : ℕ) → before ≤ 65536 → after ≤ 65536 → changeM before after ≡ changeOf before after
+unfolding changeM
+change-ruled before after p q = rw (le-ltb 65536 before p, le-ltb 65536 after q)
+
+pub change-is : (before after : ℕ) → before ≤ 65536 → after ≤ 65536 → toZ w32 (ofZ w32 (changeM before after)) ≡ changeOf before after
+change-is before after p q = change-kept before after ∙ change-ruled before after p q

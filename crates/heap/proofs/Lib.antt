@@ -1,3 +1,5 @@
 pub mod ChangeLaws
 pub mod CallLaws
 pub mod FreeLaws
+pub mod GrantLaws
+pub mod AllocateLaws

@@ -1,37 +1,25 @@
 // The public calls: each takes the region and the record, and hands the record back beside its answer.
 // Each asks the check first; setup needs none. How chunks are found, joined and written is in the layers below.
-ghost use mathlib.Core.Path.{_≡_};
-ghost use Rattle.heap.specs.Replies.{givenUpM, refusing};
-ghost use Rattle.rules.specs.Statements.{AsksBin, AsksChunk, Checks, Frees, replied, SetsMerge, SetsUp};
-use crate::change::change;
+ghost use Rattle.rules.specs.Statements.{Allocates, AllocatesCleared, AsksBin, AsksChunk, Checks, Frees, SetsMerge, SetsUp};
+use crate::grants::grant_block;
+use crate::replies::change;
+use crate::replies::refused;
 use audit::passes;
 use audit::verdict;
+use grant::need::is_permitted;
+use grant::need::need_of;
 use headers::distance;
 use record::answers::Answer;
 use record::answers::Refusal;
 use record::answers::Reply;
 use record::heap::Heap;
 use region::Block;
-use region::Chunk;
-use release::give_back;
-use release::join;
-use seek::Place;
+use release::give::give_up;
 use seek::Sought;
 use seek::find_block;
-use settling::donor_after;
-use settling::top_after;
 
-mod change;
-
-// A refusal hands the record back as it came.
-fn refused(heap: Heap, why: Refusal) -> Reply
-    ensures { λ r. ⌜ r ≡ refusing heap why ⌝ }
-{
-    Reply {
-        answer: Answer::Refused(why),
-        heap: heap,
-    }
-}
+mod grants;
+mod replies;
 
 pub fn setup(region: &mut [u32], table: &[u32], donor: u32, merge: bool) -> Reply
     ensures { λ r. ⌜ SetsUp (now (region .entry)) (now (table .entry)) donor merge r (now (region .exit)) ⌝ }
@@ -111,43 +99,36 @@ pub fn ask_bin(region: &mut [u32], heap: Heap, question: u32, bin: u32) -> Reply
     }
 }
 
-// The chunk of a live block is given back, and the record says so.
-fn give_up(region: &mut [u32], table: &[u32], heap: Heap, place: Place) -> Reply
-    ensures { λ r. ⌜ replied r (now (region .exit)) ≡ givenUpM (now (region .entry)) (now (table .entry)) heap place ⌝ }
+pub fn allocate(region: &mut [u32], heap: Heap, z: u32) -> Reply
+    ensures { λ r. ⌜ Allocates (now (region .entry)) heap z r (now (region .exit)) ⌝ }
 {
-    let joined = join(
-        region,
-        heap.bytes,
-        heap.donor,
-        heap.top,
-        heap.merge,
-        place.before,
-        place.chunk,
-        place.end,
-    );
-    let becomes = joined.becomes;
-    let donor = donor_after(becomes, joined.chunk, heap.donor);
-    let top = top_after(becomes, joined.chunk, heap.top);
-    let mut heads = heap.heads;
-    let mut tails = heap.tails;
-    give_back(
-        region,
-        &mut heads,
-        &mut tails,
-        table,
-        joined,
-        place.before,
-        Chunk(place.end),
-    );
-    let size = distance(place.chunk.0, place.end);
-    let used = distance(size, heap.used);
-    Reply {
-        answer: Answer::Returned(change(size, 0)),
-        heap: heap.with_ends(heads, tails)
-            .with_donor(donor)
-            .with_top(top)
-            .with_used(used),
+    if !passes(region, heap) {
+        return refused(heap, Refusal::HeapFails);
     }
+    if !is_permitted(z as u64) {
+        return refused(heap, Refusal::BlockSize);
+    }
+    let bins = heap.bins as usize;
+    let sizes = heap.sizes;
+    let need = need_of(z);
+    grant_block(region, &sizes[..bins], heap, need, false)
+}
+
+// The product is that of two numbers, which 64 bits always hold.
+pub fn allocate_cleared(region: &mut [u32], heap: Heap, count: u32, size: u32) -> Reply
+    ensures { λ r. ⌜ AllocatesCleared (now (region .entry)) heap count size r (now (region .exit)) ⌝ }
+{
+    if !passes(region, heap) {
+        return refused(heap, Refusal::HeapFails);
+    }
+    let product = count as u64 * size as u64;
+    if !is_permitted(product) {
+        return refused(heap, Refusal::BlockSize);
+    }
+    let bins = heap.bins as usize;
+    let sizes = heap.sizes;
+    let need = need_of(product as u32);
+    grant_block(region, &sizes[..bins], heap, need, true)
 }
 
 pub fn free(region: &mut [u32], heap: Heap, block: Block) -> Reply
@@ -168,5 +149,10 @@ pub fn free(region: &mut [u32], heap: Heap, block: Block) -> Reply
     };
     let bins = heap.bins as usize;
     let sizes = heap.sizes;
-    give_up(region, &sizes[..bins], heap, place)
+    let after = give_up(region, &sizes[..bins], heap, place);
+    let size = distance(place.chunk.0, place.end);
+    Reply {
+        answer: Answer::Returned(change(size, 0)),
+        heap: after,
+    }
 }

@@ -8,15 +8,15 @@ use native.Mathlib.Omega.{arith}
 use lib.ListN.{length}
 use Rattle.lists.specs.Lists.{Mem, headOr, lastOr, keep, Distinct}
 
-pub head-append : (d : ℕ) (xs ys : List ℕ) → headOr d (xs ++ ys) ≡ headOr (headOr d ys) xs
+pub head-append : {A : Type 0} (d : A) (xs ys : List A) → headOr d (xs ++ ys) ≡ headOr (headOr d ys) xs
 head-append d [] ys = refl
 head-append d (x ∷ xs) ys = refl
 
-pub last-append : (d : ℕ) (xs ys : List ℕ) → lastOr d (xs ++ ys) ≡ lastOr (lastOr d xs) ys
+pub last-append : {A : Type 0} (d : A) (xs ys : List A) → lastOr d (xs ++ ys) ≡ lastOr (lastOr d xs) ys
 last-append d [] ys = refl
 last-append d (x ∷ xs) ys = last-append x xs ys
 
-pub last-member : (x : ℕ) (xs : List ℕ) → Mem (lastOr x xs) (x ∷ xs)
+pub last-member : {A : Type 0} (x : A) (xs : List A) → Mem (lastOr x xs) (x ∷ xs)
 last-member x [] = List·Memᴰ·head refl
 last-member x (y ∷ ys) = List·Memᴰ·tail (last-member y ys)
 

@@ -69,7 +69,7 @@ module _ (low : List Entry) (e : Entry) (high : List Entry) where
   joining-sees h = seen (h .merge) (kindOf h (lastOr outside low)) (kindOf h (headOr outside high))
 
 -- what it sees as ordinary, or as free, is so
-sees-ordinary : (t : Bool) (k : Kind) → ordinaryKind (cond t k InUse) ≡ true → ordinaryKind k ≡ true
+pub sees-ordinary : (t : Bool) (k : Kind) → ordinaryKind (cond t k InUse) ≡ true → ordinaryKind k ≡ true
 sees-ordinary true k e = e
 sees-ordinary false k e = absurd (false≢true e)
 

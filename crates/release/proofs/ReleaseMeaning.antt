@@ -5,6 +5,7 @@ use mathlib.Core.Bool.{Bool, true, false, cond, false≢true}
 use mathlib.Core.List.{List, [], _∷_, _++_}
 use Prim.Native.Nat.{ℕ}
 use lib.Dec.{eqb}
+use borrow.Author.Tests.{eqb-true}
 use Rattle.lists.specs.Lists.{headOr, lastOr}
 use Rattle.record.specs.declared.heap.Heap.{Heap}
 use Rattle.record.specs.Heap.{tableOf, with}
@@ -42,8 +43,8 @@ last-place : (low : List Entry) → lastOr (entry 0 0 0) low .place ≡ lastOr o
 last-place [] = refl
 last-place (x ∷ xs) = refl
 
-is-live : (t u : Bool) → cond t u false ≡ true → t ≡ true
-is-live true u q = refl
+is-live : (t u : Bool) → cond t u false ≡ true → (t ≡ true) × (u ≡ true)
+is-live true u q = (refl, q)
 is-live false u q = absurd (false≢true q)
 
 -- the chunk of the live block at b is given back
@@ -59,11 +60,12 @@ module _ (ws : List ℕ) (h : Heap) (p : Passes ws h) (b : ℕ) (l : isLive (asR
   abbrev pub after : Draft
   after = release (place .low) (place .here) (place .high) (asRead ws h)
 
-  splits : (shape ws (h .bytes) ≡ place .low ++ place .here ∷ place .high) × (live h (place .here) ≡ true)
+  pub splits : (shape ws (h .bytes) ≡ place .low ++ place .here ∷ place .high) × (live h (place .here) ≡ true) × (blockOf (place .here) ≡ b)
   unfolding asRead
   splits =
       let s = spot-splits (holdsBlock h b) (shape ws (h .bytes)) l in
-      (s .0, is-live (live h (place .here)) (eqb (blockOf (place .here)) b) (s .1))
+      let t = is-live (live h (place .here)) (eqb (blockOf (place .here)) b) (s .1) in
+      (s .0, t .0, eqb-true (blockOf (place .here)) b (t .1))
 
   -- it is what a search for the block finds
   pub found-is : soughtIn (hasBlock (h .bytes) b) 0 (shape ws (h .bytes)) ≡ Found (placed (lastOr outside (place .low) .place) (place .here))

@@ -1,1 +1,2 @@
 pub mod Release
+pub mod Give

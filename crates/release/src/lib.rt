@@ -1,5 +1,5 @@
 // A chunk is given back: what it joins, and then the writes that put the result in its place. All is decided before the first write.
-// How the chunk was found is not known here, and the record is the caller's to set.
+// How the chunk was found is not known here, and the record is set in `give`.
 ghost use mathlib.Core.Path.{_≡_};
 ghost use mathlib.Core.Bool.{cond};
 ghost use Rattle.bins.specs.Books.{books};
@@ -20,6 +20,8 @@ use region::FORWARD;
 use region::word;
 use settling::leave_bin;
 use settling::settle;
+
+pub mod give;
 
 // The free chunk that comes of it, from `chunk` to `end`, with the chunk below it and the flags of the one above. `lower` and `upper`
 // say that an ordinary chunk joined on that side, which has a bin to leave.

@@ -83,3 +83,13 @@ module _ (bytes donor top : ℕ) (e : Entry) where
       go (no s) (no b) (no f) (no t) (yes p) =
           rw (← kind-donor bytes donor top e s b f t p) (omega arith, b, omega arith, p)
       go (no s) (no b) (no f) (no t) (no d) = rw (← kind-ordinary bytes donor top e s b f t d) (omega arith, b, omega arith)
+
+-- a chunk at neither of two places is of one kind, whichever of them the record names
+module _ (bytes a b other : ℕ) (e : Entry) (na : e .place ≡ a → ⊥) (nb : e .place ≡ b → ⊥) where
+  pub donor-moved : kindAt bytes a other e ≡ kindAt bytes b other e
+  unfolding kindAt
+  donor-moved = rw (ne-eqb (e .place) a na, ne-eqb (e .place) b nb)
+
+  pub top-moved : kindAt bytes other a e ≡ kindAt bytes other b e
+  unfolding kindAt
+  top-moved = rw (ne-eqb (e .place) a na, ne-eqb (e .place) b nb)

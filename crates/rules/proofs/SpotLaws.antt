@@ -8,7 +8,7 @@ use Prim.Native.Nat.{ℕ, _+_, _*_, _-_, _%_, _≤_, _<_}
 use native.Mathlib.Omega.{arith}
 use lib.ListN.{length, drop}
 use borrow.Author.Tests.{eqb-true, eq-eqb, ne-eqb}
-use Rattle.lists.specs.Lists.{Mem, headOr, lastOr, butLast, any, keep, upTo, past}
+use Rattle.lists.specs.Lists.{Mem, headOr, lastOr, butLast, any, keep, total, upTo, past}
 use Rattle.lists.proofs.ListsLaws.{number-is, for-some}
 use Rattle.record.specs.declared.heap.Heap.{Heap}
 use Rattle.record.specs.declared.kinds.Kind.{Kind}
@@ -115,7 +115,7 @@ tiled-eights a b (x ∷ y ∷ es) t z f (List·Memᴰ·head q) =
 tiled-eights a b (x ∷ es) t z f (List·Memᴰ·tail m) =
     tiled-eights (blockEnd x) b es (t .2) z (λ d k. f d (List·Memᴰ·tail k)) m
 
-tiled-empty : (a b : ℕ) (es : List Entry) → Tiled a es b → es ≡ [] → a ≡ b
+pub tiled-empty : (a b : ℕ) (es : List Entry) → Tiled a es b → es ≡ [] → a ≡ b
 tiled-empty a b es t z = rw z at t
 
 -- the first is the only one if it reaches b
@@ -125,12 +125,21 @@ tiled-one a b (x ∷ []) t l q = refl
 tiled-one a b (x ∷ y ∷ es) t l q = let u = tiled-up (blockEnd y) b es (t .2 .2) in absurd (omega (arith, t .2 .0, t .2 .1))
 
 -- the least size bounds their number
-tiled-few : (a b : ℕ) (es : List Entry) → Tiled a es b → ((e : Entry) → Mem e es → 8 ≤ e .size) → a + 8 * length es ≤ b
+pub tiled-few : (a b : ℕ) (es : List Entry) → Tiled a es b → ((e : Entry) → Mem e es → 8 ≤ e .size) → a + 8 * length es ≤ b
 tiled-few a b [] t f = omega arith
 tiled-few a b (e ∷ es) t f =
     let r = tiled-few (blockEnd e) b es (t .2) (λ d m. f d (List·Memᴰ·tail m)) in
     let s = f e (List·Memᴰ·head refl) in
     omega arith
+
+-- some of them have at most the bytes of all
+tiled-some : (q : Entry → Bool) (a b : ℕ) (es : List Entry) → Tiled a es b → a + total (λ e. e .size) (keep q es) ≤ b
+tiled-some q a b [] t = omega arith
+tiled-some q a b (e ∷ es) t = go (q e) (tiled-some q (blockEnd e) b es (t .2))
+  where
+    go : (t : Bool) → blockEnd e + total (λ (d : Entry). d .size) (keep q es) ≤ b → a + total (λ (d : Entry). d .size) (cond t (e ∷ keep q es) (keep q es)) ≤ b
+    go true r = let z = t .0 in omega arith
+    go false r = let z = t .0 in omega arith
 
 -- a chunk behind another names it
 backed-next : (ws : List ℕ) (q : ℕ) (low : List Entry) (e d : Entry) (high : List Entry) → Backed ws q (low ++ e ∷ d ∷ high)
@@ -292,6 +301,10 @@ module _ (ws : List ℕ) (h : Heap) (p : Passes ws h) where
   -- each has 8 bytes at least
   pub few-chunks : 8 * length es ≤ h .bytes
   few-chunks = let t = tiled-few 0 (h .bytes) es tiled (λ e m. inside e m .some) in omega arith
+
+  -- the used bytes are bytes of the heap
+  pub used-few : h .used ≤ h .bytes
+  used-few = let t = tiled-some (live h) 0 (h .bytes) es tiled in omega (arith, p .used)
 
   pub apart : (d e : Entry) → Mem d es → Mem e es → (d .place ≡ e .place → ⊥) → (blockEnd d ≤ e .place) ⊎ (blockEnd e ≤ d .place)
   apart d e m k n = tiled-apart 0 (h .bytes) es tiled m k n

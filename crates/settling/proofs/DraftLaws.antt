@@ -1,18 +1,16 @@
 -- The rules' steps on a heap in the making, beside what the code makes of its books: a chunk leaves its bin, a chunk is linked in,
 -- a chunk is put into its bin. After each step the books are those of the draft. Assumes nothing.
 use mathlib.Core.Path.{_≡_, refl, ap}
-use mathlib.Core.Logic.{_≢_, _⊎_, inl, inr}
+use mathlib.Core.Logic.{_≢_}
 use mathlib.Core.Bool.{Bool, true, false, cond}
 use mathlib.Core.List.{List, [], _∷_, _++_, append-assoc}
 use Prim.Native.Nat.{ℕ, _+_, _-_, _/_, _%_, _^_, _≤_, _<_}
-use native.Mathlib.Decide.{ℕ-discrete, decLt}
+use native.Mathlib.Decide.{decLt}
 use native.Mathlib.Nat.{add-zero}
 use native.Mathlib.Omega.{arith}
 use lib.Dec.{eqb, ltb}
 use lib.ListN.{length, getD, set, length-take}
-use borrow.Author.Tests.{eq-eqb, ne-eqb}
 use Rattle.lists.specs.Lists.{Mem, headOr, lastOr, upTo, past}
-use Rattle.lists.proofs.MembersLaws.{member-without}
 use Rattle.record.specs.declared.heap.Heap.{Heap}
 use Rattle.record.specs.declared.kinds.Kind.{Kind}
 use Rattle.record.specs.declared.kinds.Kind.the-variants.{Start, InUse, Ordinary, Donor, Top, End}
@@ -31,7 +29,7 @@ use Rattle.rules.specs.Join.{joinedAs}
 use Rattle.bins.specs.Books.{Books, books, leaveM, putM, putIntoM}
 use Rattle.bins.proofs.RunsLaws.{Node}
 use Rattle.bins.proofs.BooksLaws.{Far, putStores}
-use Rattle.bins.proofs.WayLaws.{OnWay, split-at-member, way-begins, way-keeps, way-leaves, way-left-far, way-stays, way-puts-head, way-puts-tail}
+use Rattle.bins.proofs.WayLaws.{OnWay, way-begins, way-keeps, way-leaves, way-left-far, way-stays, way-remains, way-puts-head, way-puts-tail}
 use Rattle.settling.specs.Settling.{putBinnedM, putInBinM, alsoWritten, settleM, donorAfter, topAfter}
 
 -- the words and the ends of a draft
@@ -100,18 +98,6 @@ module _ (ws : List ℕ) (h : Heap) (d : Draft) (f : Follows ws h d) where
     unfolding leaveBin
     leaves-is = rw (f .table, t)
 
-    stays-listed : (xs ys cs : List ℕ) → cs ≡ xs ++ e .place ∷ ys → d .lists i ≡ cs → (j c : ℕ) → c ≢ e .place → Mem c (d .lists j)
-        → Mem c (cond (eqb j i) (xs ++ ys) (d .lists j))
-    stays-listed xs ys cs s q j c ne k = go (ℕ-discrete j i)
-      where
-        own : (c ≡ e .place) ⊎ Mem c (xs ++ ys) → Mem c (xs ++ ys)
-        own (inl z) = absurd (ne z)
-        own (inr z) = z
-
-        go : Dec (j ≡ i) → Mem c (cond (eqb j i) (xs ++ ys) (d .lists j))
-        go (yes z) = rw (eq-eqb j i z) (own (member-without xs (e .place) ys (rw (z, q, s) at k)))
-        go (no n) = rw (ne-eqb j i n) k
-
     pub leave-step : Gone ws h d e (leaveBin e d)
     unfolding leave
     leave-step =
@@ -131,7 +117,7 @@ module _ (ws : List ℕ) (h : Heap) (d : Draft) (f : Follows ws h d) where
                 housed = f .housed;
               };
           stays = λ j c lj k. way-stays (booksOf ws d) (d .lists) (h .bins) (f .way) i (e .place) l m j k;
-          keeps = λ j c ne k. stays-listed xs ys (d .lists i) (split-at-member m) refl j c ne k;
+          keeps = λ j c ne k. way-remains (booksOf ws d) (d .lists) (h .bins) (f .way) i (e .place) l m j ne k;
           far = λ j c lj k. way-left-far (booksOf ws d) (d .lists) (h .bins) (f .way) i (e .place) l m j c lj k;
         })
 

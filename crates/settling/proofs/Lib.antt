@@ -1,3 +1,10 @@
 pub mod SettlingSteps
 pub mod DraftLaws
 pub mod FillLaws
+pub mod LayoutLaws
+pub mod HeaderLaws
+pub mod HalfwayLaws
+pub mod OpenLaws
+pub mod SettleLaws
+pub mod PictureLaws
+pub mod SparesLaws

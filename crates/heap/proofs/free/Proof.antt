@@ -22,9 +22,8 @@ returns-3 c =
 
 returns-4 : tie.Need-returns-4
 returns-4 c =
-    let told = c .before .before .before .before .before .before .before .before in
-    freed _ _ _ (sym (c .before .before .before .before .before .before .before .before .before .before .before .before .before .before .before .passes .ensures) ∙ not-false _ (c .before .before .before .before .before .before .before .before .before .before .before .before .before .before .if1 .left)) (told .before .before .before .before .if2 .left) _ (told .before .before .find-block .ensures) _ (told .sought .given .1) _ _
-    (c .before .before .give-up .ensures)
+    freed _ _ _ (sym (c .before .before .before .before .before .before .before .before .before .before .before .before .before .before .before .before .before .passes .ensures) ∙ not-false _ (c .before .before .before .before .before .before .before .before .before .before .before .before .before .before .before .before .if1 .left)) (c .before .before .before .before .before .before .before .before .before .before .before .before .before .before .if2 .left) _ (c .before .before .before .before .before .before .before .before .before .before .before .before .find-block .ensures) _ (c .before .before .before .before .before .before .before .before .before .before .sought .given .1)
+    _ _ (c .before .before .before .before .give-up .ensures) _ (c .before .distance .ensures) _ (c .change .ensures)
 
 pub free-spec : {M : Type 1} → statement M
 free-spec =
@@ -45,6 +44,8 @@ free-spec =
     (λ c. search needs)
     (λ c. bins-there _ _ (sym (c .before .before .before .before .before .before .before .before .before .before .before .passes .ensures) ∙ not-false _ (c .before .before .before .before .before .before .before .before .before .before .if1 .left)))
     (λ c. sym (length-take-le _ _ (bins-there _ _ (sym (c .before .before .before .before .before .before .before .before .before .before .before .before .passes .ensures) ∙ not-false _ (c .before .before .before .before .before .before .before .before .before .before .before .if1 .left)))))
+    (λ c κs. search needs)
+    (λ c κs. search needs)
     (λ c κs. search needs)
     (λ c. search needs)
     returns-4)

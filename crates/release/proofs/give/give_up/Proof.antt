@@ -1,10 +1,10 @@
--- `heap::give_up` gives the chunk back, and sets every field that this changes. Assumes nothing.
+-- `give::give_up` gives the chunk back, and sets every field that this changes. Assumes nothing.
 use Prim.Native.Nat.{ℕ}
 use mathlib.Core.Path.{sym}
 use borrow.Author.Needs.{needs, length-unmapped}
-use Rattle.heap.proofs.FreeLaws.{gives-up}
-use Rattle.heap.proofs.give_up.Statement.{statement}
-use Rattle.heap.proofs.give_up.Tie as tie
+use Rattle.release.proofs.GiveSteps.{gives-up}
+use Rattle.release.proofs.give.give_up.Statement.{statement}
+use Rattle.release.proofs.give.give_up.Tie as tie
 
 heads-long : tie.Need-slice-aggregate-give-back
 heads-long c =
@@ -18,16 +18,15 @@ tails-long c =
 
 same-length : tie.Need-same-length
 same-length c =
-    let given = c .before .before .before .before .before .before .before .before .before .before .before .give-back in
+    let given = c .before .before .before .before .before .before .before .before .before .before .give-back in
     search needs
 
 returns : tie.Need-returns
 returns c =
-    let sized = c .before .before .before .before .before .before in
-    let given = sized .before .before .before .before .before in
+    let given = c .before .before .before .before .before .before .before .before .before .before in
     let topped = given .before .before .before .before .before .before in
-    gives-up _ _ _ _ _ (topped .before .before .join .ensures) _ _ _ (given .give-back .ensures) _ (sized .distance .ensures)
-    _ (c .before .before .before .before .before .distance2 .ensures) _ (c .before .before .before .before .change .ensures) _ _ (topped .before .donor-after .ensures) (topped .top-after .ensures)
+    gives-up _ _ _ _ _ (topped .before .before .join .ensures) _ _ _ (given .give-back .ensures) _ (c .before .before .before .before .before .distance .ensures) _ (c .before .before .before .before .distance2 .ensures)
+    _ _ (topped .before .donor-after .ensures) (topped .top-after .ensures)
     _ _ _ _ (c .before .before .before .with-ends .ensures) (c .before .before .with-donor .ensures) (c .before .with-top .ensures) (c .with-used .ensures)
 
 pub give-up-spec : {M : Type 1} → statement M
@@ -39,7 +38,6 @@ give-up-spec =
     (λ c κs. search needs)
     heads-long
     tails-long
-    (λ c κs. search needs)
     (λ c κs. search needs)
     (λ c κs. search needs)
     (λ c κs. search needs)

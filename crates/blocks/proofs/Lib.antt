@@ -1,0 +1,2 @@
+pub mod BlocksLaws
+pub mod BlocksMeaning

@@ -1,0 +1,101 @@
+-- A request for room that something can serve is met as the rules say: the words, the record, and the chunk that is granted (`serve-is`).
+-- Whether something can is ChooseMeaning's. Assumes nothing.
+use mathlib.Core.Path.{_≡_, sym, ap, _∙_}
+use mathlib.Core.Bool.{false}
+use mathlib.Core.List.{List}
+use Prim.Native.Nat.{ℕ, _+_, _-_, _%_, _^_, _≤_, _<_}
+use native.Mathlib.Decide.{decLt}
+use native.Mathlib.Omega.{arith}
+use borrow.Author.Tests.{le-leb, lt-leb}
+use Rattle.bins.specs.Books.{books}
+use Rattle.record.specs.declared.heap.Heap.{Heap}
+use Rattle.record.specs.declared.kinds.Kind.{Kind}
+use Rattle.record.specs.declared.sources.Source.{Source}
+use Rattle.record.specs.Heap.{at, tableOf, with}
+use Rattle.region.specs.Words.{written}
+use Rattle.rules.specs.Allocate.{sourceOf, grant}
+use Rattle.rules.specs.Check.{Passes}
+use Rattle.rules.specs.Cut.{Grant, grantAt, grantFrom}
+use Rattle.rules.specs.Draft.{asRead, Spot, spot}
+use Rattle.rules.specs.Kinds.{isAt, used}
+use Rattle.rules.specs.Serve.{nowhere}
+use Rattle.rules.specs.Shape.{Entry, entry, shape}
+use Rattle.rules.proofs.SpotLaws.{bounds, inside, used-few}
+use Rattle.settling.specs.Settling.{donorAfter, topAfter}
+use Rattle.settling.proofs.DraftLaws.{booksOf}
+use Rattle.grant.specs.Cut.{grantedM, cutM, takeM}
+use Rattle.grant.specs.Serve.{kindIn, Leaves, leaves, takenM, servedM}
+use Rattle.grant.proofs.SourceLaws.{CanGrant, free-source, source-can}
+use Rattle.grant.proofs.CutMeaning.{Serving, Taken, chunk-taken}
+
+-- what the code hands back of the rule's grant
+abbrev pub handed : List ℕ → Grant → Leaves
+handed ws g =
+    leaves (written ws (g .draft .stores)) (record { heap = g .draft .heap; chunk = at (g .granted .place); size = g .granted .size })
+
+granted-few : (n s : ℕ) → n ≤ s → grantedM n s ≤ s
+unfolding grantedM
+granted-few n s l = go (decLt s (n + 24))
+  where
+    go : Dec (s < n + 24) → grantedM n s ≤ s
+    go (yes k) = rw (lt-leb (n + 24) s k) (omega arith)
+    go (no k) = rw (le-leb (n + 24) s (omega arith)) l
+
+module _ (ws : List ℕ) (h : Heap) (p : Passes ws h) (n : ℕ) (large : 24 ≤ n) (eight : n % 8 ≡ 0) where
+  -- m bytes of the chunk e are granted as the rule says
+  taken-is : (k : Kind) (e : Entry) (m : ℕ) (g : Grant) → m + h .used < 2 ^ 32
+      → takeM (books ws (h .heads) (h .tails)) (tableOf h) k (cutM ws (e .place) n) ≡ booksOf ws (g .draft)
+      → cutM ws (e .place) n .rest .0 ≡ e .place + m
+      → g .granted ≡ entry (e .place) m used
+      → g .draft .heap ≡ with h (g .draft .heap .heads) (g .draft .heap .tails) (donorAfter k (e .place + m) (h .donor .0)) (topAfter k (e .place + m) (h .top .0)) (h .merge) (h .used + m)
+      → takenM ws (tableOf h) h k (e .place) n ≡ handed ws g
+  unfolding takenM
+  taken-is k e m g few is rest given heap =
+      let z : e .place + m - e .place ≡ m = omega arith in
+      let u : (h .used + m) % 2 ^ 32 ≡ h .used + m = omega arith in
+      rw (is, rest, z, u)
+      (ap (λ (x : Heap). leaves (written ws (g .draft .stores)) (record { heap = x; chunk = at (e .place); size = m })) (sym heap)
+      ∙ ap (λ (y : Entry). leaves (written ws (g .draft .stores)) (record { heap = g .draft .heap; chunk = at (y .place); size = y .size })) (sym given))
+
+  module _ (source : Source) (s : source ≡ sourceOf n (asRead ws h)) (some : nowhere source ≡ false) where
+    found : (e : Entry) × CanGrant ws h n source e
+    found = rw (sym s) at (source-can ws h p n (rw s at some))
+
+    abbrev here : Spot
+    here = spot (isAt (found .0 .place)) (shape ws (h .bytes))
+
+    serving : Serving ws h n (kindIn source) (here .low) (found .0) (here .high)
+    serving =
+        let c = found .1 in
+        record {
+          split = c .split;
+          free = c .free;
+          kind = c .kind;
+          isFree = free-source source some;
+          enough = c .enough;
+          spare = c .spare;
+        }
+
+    -- the rule's grant is of this chunk
+    ruled : grantAt (kindIn source) (record { low = here .low; here = found .0; high = here .high }) n (asRead ws h) ≡ grant n (asRead ws h)
+    ruled =
+        ap (λ (x : Entry). grantAt (kindIn source) (record { low = here .low; here = x; high = here .high }) n (asRead ws h)) (sym (found .1 .here))
+        ∙ sym (found .1 .is)
+        ∙ ap (λ (x : Source). grantFrom x n (asRead ws h)) s
+
+    taken : Taken ws h p n large eight (kindIn source) (here .low) (found .0) (here .high) serving (grantedM n (found .0 .size)) (grant n (asRead ws h))
+    taken = rw ruled at (chunk-taken ws h p n large eight (kindIn source) (here .low) (found .0) (here .high) serving)
+
+    pub serve-is : servedM ws (tableOf h) h source n ≡ handed ws (grant n (asRead ws h))
+    unfolding servedM
+    serve-is =
+        let c = found .1 in
+        let t = taken in
+        let g = granted-few n (found .0 .size) (c .enough) in
+        let i = inside ws h p (found .0) (c .member) in
+        let b = bounds ws h p in
+        rw (sym (c .place))
+        (taken-is (kindIn source) (found .0) (grantedM n (found .0 .size)) (grant n (asRead ws h)) (omega (arith, used-few ws h p)) (t .is) (t .rest) (t .granted) (t .heap))
+
+    pub grant-housed : grant n (asRead ws h) .draft .homeless ≡ false
+    grant-housed = taken .housed

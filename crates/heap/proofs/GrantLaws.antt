@@ -1,0 +1,127 @@
+-- A block is granted or refused for room as the rules of the allocates say (`grant-block-is`). Assumes nothing.
+use mathlib.Core.Path.{_≡_, refl, sym, ap, _∙_}
+use mathlib.Core.Bool.{Bool, true, false, cond}
+use mathlib.Core.List.{List, _++_, append-nil}
+use Prim.Native.Nat.{ℕ, _+_, _*_, _%_, _^_, _≤_}
+use native.Mathlib.Omega.{arith}
+use lib.IntN.{ℤ}
+use lib.ListN.{length}
+use mir.Syntax.{w32}
+use mir.Val.{toZ, ofZ}
+use Rattle.lists.specs.Lists.{Mem}
+use Rattle.record.specs.declared.answers.Answer.the-variants.{Granted}
+use Rattle.record.specs.declared.answers.Refusal.the-variants.{NoRoom}
+use Rattle.record.specs.declared.answers.Reply.{Reply}
+use Rattle.record.specs.declared.heap.Heap.{Heap}
+use Rattle.record.specs.declared.sources.Source.{Source}
+use Rattle.record.specs.Heap.{tableOf}
+use Rattle.region.specs.declared.Block.{Block}
+use Rattle.region.specs.Places.{blockAt}
+use Rattle.region.specs.Words.{Store, written}
+use Rattle.region.proofs.WordsLaws.{written-append}
+use Rattle.rules.specs.Allocate.{sourceOf, grant, asFound, cleared, allocateWith}
+use Rattle.rules.specs.Check.{Passes, passes}
+use Rattle.rules.specs.Cut.{Grant}
+use Rattle.rules.specs.Draft.{asRead, alsoWrites}
+use Rattle.rules.specs.Kinds.{overhead, blockOf, blockEnd}
+use Rattle.rules.specs.Outcome.{made, grants}
+use Rattle.rules.specs.Serve.{need, permitted, nowhere}
+use Rattle.rules.specs.Shape.{Entry, shape}
+use Rattle.rules.specs.Statements.{leftBy, replied}
+use Rattle.rules.proofs.CheckLaws.{passes-iff}
+use Rattle.rules.proofs.SpotLaws.{bounds, inside}
+use Rattle.blocks.proofs.BlocksMeaning.{clear-is}
+use Rattle.grant.specs.declared.serve.Grant.{Grant as Given}
+use Rattle.grant.specs.Choose.{chooseM}
+use Rattle.grant.specs.Serve.{leaves, servedM}
+use Rattle.grant.proofs.NeedLaws.{need-large, need-eight}
+use Rattle.grant.proofs.ChooseMeaning.{choose-is}
+use Rattle.grant.proofs.ServeMeaning.{handed, serve-is, grant-housed}
+use Rattle.grant.proofs.GrantKept.{grant-kept, granted-there}
+use Rattle.heap.specs.Replies.{reply, refusing, changeM}
+use Rattle.heap.specs.Grants.{filledM, grantedM, grantBlockM}
+use Rattle.heap.proofs.ChangeLaws.{change-kept, change-ruled}
+
+-- the code's steps, over plain variables
+module _ (ws table : List ℕ) (h : Heap) (n : ℕ) (clears : Bool) (source : Source) (e : source ≡ chooseM ws table (h .heads) (h .donor .0) (h .top .0) n)
+    {t : Bool} (et : t ≡ nowhere source) where
+  pub grants-none : t ≡ true → (r : Reply) → r ≡ refusing h NoRoom → replied r ws ≡ grantBlockM ws table h n clears
+  unfolding grantBlockM
+  grants-none q r er = rw (er, sym e, sym et, q)
+
+  pub grants-some : t ≡ false → (words : List ℕ) (g : Given) → leaves words g ≡ servedM ws table h source n
+      → (block : Block) → block .0 ≡ blockAt (g .chunk .0) → (end : ℕ) → end ≡ (g .chunk .0 + g .size) % 2 ^ 32
+      → (filled : List ℕ) → filled ≡ filledM words clears (block .0) end → (change : ℤ) → change ≡ changeM 0 (g .size)
+      → replied (reply (g .heap) (Granted block (toZ w32 (ofZ w32 change)))) filled ≡ grantBlockM ws table h n clears
+  unfolding grantBlockM grantedM
+  grants-some q words g eg block eb end ee filled ef change ec =
+      rw (sym e, sym et, q, sym eg, ec, change-kept 0 (g .size), ef, eb, ee)
+
+-- the rule's grant, which is a chunk of a heap that passes
+module _ (ws : List ℕ) (h : Heap) (q : passes ws h ≡ true) (z : ℕ) (k : permitted z ≡ true) where
+  well : Passes ws h
+  well = passes-iff ws h .0 q
+
+  abbrev n : ℕ
+  n = need overhead z
+
+  abbrev granted : Grant
+  granted = grant n (asRead ws h)
+
+  chosen-is : chooseM ws (tableOf h) (h .heads) (h .donor .0) (h .top .0) n ≡ sourceOf n (asRead ws h)
+  unfolding asRead
+  chosen-is = choose-is ws h well n
+
+  module _ (some : nowhere (sourceOf n (asRead ws h)) ≡ false) where
+    record Lies : Type 0 where
+      pub place : granted .granted .place % 8 ≡ 0
+      pub size : granted .granted .size % 8 ≡ 0
+      pub large : 8 ≤ granted .granted .size
+      pub few : blockEnd (granted .granted) ≤ 65536
+      pub fits : blockEnd (granted .granted) ≤ 4 * length (written ws (granted .draft .stores))
+
+    lies : Lies
+    lies =
+        let g = grant-kept ws h well n (need-large z) (need-eight z) some in
+        let m : Mem (granted .granted) (shape (written ws (granted .draft .stores)) (granted .draft .heap .bytes)) =
+        rw (g .chain) (granted-there ws h well n (need-large z) (need-eight z) some) in
+        let i = inside _ _ (g .passes) (granted .granted) m in
+        let b = bounds _ _ (g .passes) in
+        record { place = i .place; size = i .size; large = i .some; few = omega arith; fits = omega arith }
+
+    -- zeros, or nothing
+    filled-is : (clears : Bool) → filledM (written ws (granted .draft .stores)) clears (blockOf (granted .granted)) (blockEnd (granted .granted))
+        ≡ written ws (granted .draft .stores ++ cond clears cleared asFound (granted .granted))
+    unfolding filledM
+    filled-is true =
+        let l = lies in
+        clear-is (written ws (granted .draft .stores)) (granted .granted) (l .place) (l .size) (l .large) (l .fits)
+        ∙ sym (written-append (granted .draft .stores) (cleared (granted .granted)) ws)
+    filled-is false = ap (written ws) (sym (append-nil (granted .draft .stores)))
+
+    code-is : (clears : Bool) → grantedM clears (handed ws granted)
+        ≡ leftBy ws (made (grants 0 (granted .granted)) (alsoWrites (cond clears cleared asFound (granted .granted)) (granted .draft)))
+    unfolding grantedM
+    code-is clears =
+        let l = lies in
+        let b : blockAt (granted .granted .place) ≡ blockOf (granted .granted) = omega arith in
+        let e : (granted .granted .place + granted .granted .size) % 2 ^ 32 ≡ blockEnd (granted .granted) = omega arith in
+        rw (b, e, change-ruled 0 (granted .granted .size) (omega arith) (omega arith), filled-is clears)
+
+    ruled-is : (fill : Entry → List Store) → allocateWith fill ws h z ≡ made (grants 0 (granted .granted)) (alsoWrites (fill (granted .granted)) (granted .draft))
+    ruled-is fill = rw (q, k, some, grant-housed ws h well n (need-large z) (need-eight z) _ refl some)
+
+    serves : (clears : Bool) → grantBlockM ws (tableOf h) h n clears
+        ≡ leftBy ws (made (grants 0 (granted .granted)) (alsoWrites (cond clears cleared asFound (granted .granted)) (granted .draft)))
+    unfolding grantBlockM
+    serves clears =
+        rw (chosen-is, some, serve-is ws h well n (need-large z) (need-eight z) (sourceOf n (asRead ws h)) refl some) (code-is clears)
+
+  pub grant-block-is : (clears : Bool) → grantBlockM ws (tableOf h) h n clears ≡ leftBy ws (allocateWith (cond clears cleared asFound) ws h z)
+  unfolding grantBlockM
+  grant-block-is clears = by (nowhere (sourceOf n (asRead ws h))) refl
+    where
+      by : (t : Bool) → nowhere (sourceOf n (asRead ws h)) ≡ t
+          → grantBlockM ws (tableOf h) h n clears ≡ leftBy ws (allocateWith (cond clears cleared asFound) ws h z)
+      by true e = rw (chosen-is, e, q, k)
+      by false e = serves e clears ∙ sym (ap (leftBy ws) (ruled-is e (cond clears cleared asFound)))

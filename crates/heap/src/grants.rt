@@ -1,0 +1,43 @@
+// A block is granted or refused for room: what both allocates come to once their size is known, cleared or as found.
+ghost use mathlib.Core.Path.{_≡_};
+ghost use Rattle.heap.specs.Grants.{filledM, grantBlockM};
+ghost use Rattle.rules.specs.Statements.{replied};
+use crate::replies::change;
+use crate::replies::refused;
+use blocks::clear_block;
+use grant::serve::find;
+use grant::serve::is_nowhere;
+use grant::serve::serve;
+use record::answers::Answer;
+use record::answers::Refusal;
+use record::answers::Reply;
+use record::heap::Heap;
+use region::Block;
+use region::block_of;
+
+fn fill(region: &mut [u32], clears: bool, block: Block, end: u32)
+    ensures { λ _. ⌜ now (region .exit) ≡ filledM (now (region .entry)) clears (block .0) end ⌝ }
+{
+    if !clears {
+        return;
+    }
+    clear_block(region, block, end);
+}
+
+pub fn grant_block(region: &mut [u32], table: &[u32], heap: Heap, need: u32, clears: bool) -> Reply
+    ensures { λ r. ⌜ replied r (now (region .exit)) ≡ grantBlockM (now (region .entry)) (now (table .entry)) heap need clears ⌝ }
+{
+    let source = find(region, table, heap, need);
+    if is_nowhere(source) {
+        return refused(heap, Refusal::NoRoom);
+    }
+    let grant = serve(region, table, heap, source, need);
+    let block = block_of(grant.chunk);
+    let end = std::num::wrapping_add_u32(grant.chunk.0, grant.size);
+    fill(region, clears, block, end);
+    let after = grant.heap;
+    Reply {
+        answer: Answer::Granted(block, change(0, grant.size)),
+        heap: after,
+    }
+}

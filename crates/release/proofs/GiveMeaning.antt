@@ -1,0 +1,61 @@
+-- Giving up the chunk of a live block leaves what the rule of free says (`give-up-is`), and giving up the tail of one what the rule of
+-- shrinking says (`give-up-tail-is`). Assumes nothing.
+use mathlib.Core.Path.{_≡_, ap}
+use mathlib.Core.Bool.{true}
+use mathlib.Core.List.{List, [], _∷_, _++_}
+use Prim.Native.Nat.{ℕ, _+_, _-_, _%_, _≤_}
+use native.Mathlib.Omega.{arith}
+use Rattle.lists.specs.Lists.{lastOr}
+use Rattle.record.specs.declared.heap.Heap.{Heap}
+use Rattle.record.specs.Heap.{at, tableOf, with, withUsed}
+use Rattle.region.specs.Words.{written, put, forward}
+use Rattle.rules.specs.Calls.{State}
+use Rattle.rules.specs.Check.{Passes}
+use Rattle.rules.specs.Draft.{Draft, asRead}
+use Rattle.rules.specs.Free.{isLive, freeBlock}
+use Rattle.rules.specs.Kinds.{live, blockEnd, outside}
+use Rattle.rules.specs.Reallocate.{shrunk}
+use Rattle.rules.specs.Shape.{Entry, shape}
+use Rattle.seek.specs.Seek.{placed}
+use Rattle.release.specs.Give.{state, givenUpM}
+use Rattle.release.proofs.ReleaseMeaning.{place, after, give-back-is, after-heap}
+use Rattle.release.proofs.TailMeaning.{tailAfter, tail-back-is, tail-heap}
+
+abbrev pub drawn : List ℕ → Draft → State
+drawn ws d = state (written ws (d .stores)) (d .heap)
+
+-- a record that says fewer bytes are used
+fewer-used : (h after : Heap) (heads tails : List ℕ) (donor top gone before left : ℕ) → after ≡ with h heads tails donor top (h .merge) (h .used)
+    → gone + left ≡ before → with h heads tails donor top (h .merge) (h .used - gone) ≡ withUsed after (after .used + left - before)
+fewer-used h after heads tails donor top gone before left e s =
+    rw e (ap (λ (u : ℕ). with h heads tails donor top (h .merge) u) (omega arith))
+
+-- the chunk of the live block at b
+module _ (ws : List ℕ) (h : Heap) (p : Passes ws h) (b : ℕ) (l : isLive (asRead ws h) b ≡ true) where
+  pub give-up-is : givenUpM ws (tableOf h) h (placed (lastOr outside (place ws h p b l .low) .place) (place ws h p b l .here))
+      ≡ drawn ws (freeBlock b (asRead ws h))
+  unfolding givenUpM freeBlock
+  give-up-is =
+      let e : Entry = place ws h p b l .here in
+      let size-is : blockEnd e - e .place ≡ e .size = omega arith in
+      rw (size-is, give-back-is ws h p b l)
+      (ap (state (written ws (after ws h p b l .stores)))
+      (fewer-used h (after ws h p b l .heap) _ _ _ _ (e .size) (e .size) 0 (after-heap ws h p b l) (omega arith)))
+
+-- the tail of the chunk e of a live block, above n bytes that are kept
+module _ (ws : List ℕ) (h : Heap) (p : Passes ws h) (low : List Entry) (e : Entry) (high : List Entry)
+    (split : shape ws (h .bytes) ≡ low ++ e ∷ high) (l : live h e ≡ true)
+    (n : ℕ) (some : 24 ≤ n) (eights : n % 8 ≡ 0) (less : n + 24 ≤ e .size) where
+  abbrev pub ruled : Draft
+  ruled = shrunk (record { low = low; here = e; high = high }) n (asRead ws h) .draft
+
+  pub give-up-tail-is : (f : ℕ)
+      → givenUpM (written ws (put (e .place) forward (e .place + n) ∷ [])) (tableOf h) h (record { before = at (e .place); chunk = at (e .place + n); end = blockEnd e; flags = f })
+      ≡ drawn ws ruled
+  unfolding givenUpM
+  give-up-tail-is f =
+      let d : Draft = tailAfter ws h p low e high split l n some eights less in
+      let size-is : blockEnd e - (e .place + n) ≡ e .size - n = omega arith in
+      rw (size-is, tail-back-is ws h p low e high split l n some eights less)
+      (ap (state (written ws (d .stores)))
+      (fewer-used h (d .heap) _ _ _ _ (e .size - n) (e .size) n (tail-heap ws h p low e high split l n some eights less) (omega arith)))

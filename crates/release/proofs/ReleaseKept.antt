@@ -1,0 +1,158 @@
+-- Giving back a live block leaves a heap that passes and is read as the draft says (`free-kept`): every other live chunk stays, and no chunk
+-- becomes live. Assumes nothing.
+use mathlib.Core.Path.{_≡_, refl, sym, ap, subst, _∙_}
+use mathlib.Core.Logic.{_≢_}
+use mathlib.Core.Bool.{true, false, false≢true}
+use mathlib.Core.List.{List, [], _∷_, _++_, List·Memᴰ·head, List·Memᴰ·eq-of-singleton}
+use Prim.Native.Nat.{ℕ, _+_, _-_}
+use native.Mathlib.Nat.{add-zero}
+use native.Mathlib.Omega.{arith}
+use Rattle.lists.specs.Lists.{Mem}
+use Rattle.record.specs.declared.heap.Heap.{Heap}
+use Rattle.record.specs.declared.kinds.Kind.{Kind}
+use Rattle.record.specs.declared.kinds.Kind.the-variants.{Start, InUse, Ordinary, Donor, Top, End}
+use Rattle.rules.specs.Shape.{Entry, shape}
+use Rattle.rules.specs.Kinds.{ordinaryKind, liveKind, kindOf, live, blockOf, blockEnd, outside}
+use Rattle.rules.specs.Check.{usedBytes, Passes}
+use Rattle.rules.specs.Draft.{Spot, asRead, nowUses}
+use Rattle.rules.specs.Join.{release}
+use Rattle.rules.specs.Free.{isLive, freeBlock}
+use Rattle.rules.proofs.SpotLaws.{Between, is-top, is-donor}
+use Rattle.settling.proofs.LayoutLaws.{Laid, Layout, outer-in, middle-in, layout-replaced}
+use Rattle.settling.proofs.HeaderLaws.{headed-below}
+use Rattle.settling.proofs.HalfwayLaws.{Opened}
+use Rattle.settling.proofs.OpenLaws as opened
+use Rattle.settling.proofs.PictureLaws.{Pictured, Posts, used-replaced}
+use Rattle.release.proofs.JoinMeaning.{here, own}
+use Rattle.release.proofs.ReleaseMeaning.{place, splits}
+use Rattle.release.proofs.GapLaws.{filling, none-used, Gap}
+use Rattle.release.proofs.GapKept.{Given, gap-given}
+
+-- a chunk with a live block is not ordinary
+live-not-ordinary : (k : Kind) → liveKind k ≡ true → ordinaryKind k ≡ false
+live-not-ordinary InUse q = refl
+live-not-ordinary Ordinary q = absurd (false≢true q)
+live-not-ordinary Donor q = refl
+live-not-ordinary Top q = refl
+live-not-ordinary Start q = refl
+live-not-ordinary End q = refl
+
+-- the chunk e of a live block, at which the chain is taken apart
+module _ (ws : List ℕ) (h : Heap) (p : Passes ws h) (low : List Entry) (e : Entry) (high : List Entry)
+    (split : shape ws (h .bytes) ≡ low ++ e ∷ high) (l : live h e ≡ true) where
+  between : Between h e
+  between = own ws h p low e high split l .1
+
+  pub laid-out : Layout (h .bytes) (low ++ e ∷ [] ++ high)
+  laid-out = opened.laid-out ws h p low e high split between
+
+  -- it is in no bin, and neither the donor nor the top
+  pub opens : Opened ws h low e e high (asRead ws h)
+  opens = opened.opens-kept ws h p low e high split between (live-not-ordinary (kindOf h e) l)
+
+  pub posts : Posts h (low ++ high)
+  posts =
+      let f = own ws h p low e high split l .0 in
+      let m = here ws h p low e high split l in
+      record {
+        top = opened.top-outer ws h p low e high split between (λ q. let t = is-top ws h p e m q .free .flags in omega arith);
+        donor = λ some. opened.donor-outer ws h p low e high split between (λ q. let t = is-donor ws h p e m some q .free .flags in omega arith) some;
+      }
+
+  -- it counts among the used bytes
+  pub used-with : h .used ≡ usedBytes h (low ++ e ∷ [] ++ high)
+  used-with = p .used ∙ ap (usedBytes h) (opened.whole ws h p low e high split between)
+
+  pub own-used : usedBytes h (e ∷ []) ≡ e .size
+  own-used = rw l (add-zero (e .size))
+
+  -- given back, it leaves a gap
+  fill-laid : Laid (h .bytes) (filling (e .place) (blockEnd e))
+  fill-laid =
+      let b = between in
+      let y = laid-out .chunks e (middle-in low (e ∷ []) high (List·Memᴰ·head refl)) .eight in
+      record {
+        eight = y;
+        some = omega arith;
+        ends = omega arith;
+        flags = omega arith;
+        room = λ lo hi. omega arith;
+        free = λ _. omega arith;
+      }
+
+  filled : Layout (h .bytes) (low ++ filling (e .place) (blockEnd e) ∷ [] ++ high)
+  filled =
+      layout-replaced (h .bytes) low (e ∷ []) (filling (e .place) (blockEnd e) ∷ []) high laid-out
+      (opened.lows ws h p low e high split between) (opened.highs ws h p low e high split between)
+      (λ a b t. (t .0, omega (arith, t .1), omega (arith, t .2))) (λ x m. rw (List·Memᴰ·eq-of-singleton m) fill-laid)
+
+  chunk-gap : Gap ws h p (low ++ high) (h .used - e .size) low (e .place) (blockEnd e) high (asRead ws h)
+  chunk-gap =
+      record {
+        layout = filled;
+        last = e;
+        opened =
+            record {
+              halfway = opens .halfway;
+              lower = headed-below _ outside low e (filling (e .place) (blockEnd e)) refl (opens .lower);
+              upper = opens .upper;
+              donor = opens .donor;
+              top = opens .top;
+              used = opens .used;
+            };
+        used =
+            let r = used-replaced h h low (e ∷ []) (filling (e .place) (blockEnd e) ∷ []) high (λ x m. refl) in
+            let a = none-used h (filling (e .place) (blockEnd e)) refl in
+            let b = own-used in
+            let c = used-with in
+            omega arith;
+        some = λ x m. m;
+        lives = λ x m k. m;
+      }
+
+  pub chunk-given : Given ws h p (low ++ high) (h .used - e .size) (nowUses (e .size) 0 (release low e high (asRead ws h)))
+  unfolding asRead
+  chunk-given = gap-given ws h p (low ++ high) (h .used - e .size) (e .size) 0 (omega arith) low e high (asRead ws h) refl chunk-gap posts
+
+-- the live block at b is given back
+module _ (ws : List ℕ) (h : Heap) (p : Passes ws h) (b : ℕ) (l : isLive (asRead ws h) b ≡ true) where
+  abbrev s : Spot
+  s = place ws h p b l
+
+  split : shape ws (h .bytes) ≡ s .low ++ s .here ∷ s .high
+  split = splits ws h p b l .0
+
+  is-live : live h (s .here) ≡ true
+  is-live = splits ws h p b l .1
+
+  -- chunks of other blocks
+  pub others-outer : (e : Entry) → Mem e (shape ws (h .bytes)) → blockOf e ≢ b → Mem e (s .low ++ s .high)
+  others-outer e m n =
+      opened.outer ws h p (s .low) (s .here) (s .high) split (between ws h p (s .low) (s .here) (s .high) split is-live) e m
+      (λ q. n (ap (λ (c : ℕ). c + 8) q ∙ splits ws h p b l .2))
+
+  pub outer-others : (e : Entry) → Mem e (s .low ++ s .high) → Mem e (shape ws (h .bytes)) × (blockOf e ≢ b)
+  outer-others e m =
+      let k = between ws h p (s .low) (s .here) (s .high) split is-live in (
+        subst (λ (es : List Entry). Mem e es) (sym (opened.whole ws h p (s .low) (s .here) (s .high) split k)) (outer-in (s .low) (s .here ∷ []) (s .high) m),
+        λ q. opened.elsewhere ws h p (s .low) (s .here) (s .high) split k e m (omega (arith, splits ws h p b l .2)),
+      )
+
+  free-given : Given ws h p (s .low ++ s .high) (h .used - s .here .size) (freeBlock b (asRead ws h))
+  unfolding freeBlock
+  free-given = chunk-given ws h p (s .low) (s .here) (s .high) split is-live
+
+  pub free-kept : Pictured ws (freeBlock b (asRead ws h))
+  free-kept = free-given .pictured
+
+  -- every other live chunk stays, and no other is live then
+  pub others-stay : (e : Entry) → Mem e (shape ws (h .bytes)) → live h e ≡ true → blockOf e ≢ b
+      → Mem e (freeBlock b (asRead ws h) .chain) × (live (freeBlock b (asRead ws h) .heap) e ≡ true)
+  others-stay e m k n = free-given .stays e (others-outer e m n) k
+
+  pub none-new : (e : Entry) → Mem e (freeBlock b (asRead ws h) .chain) → live (freeBlock b (asRead ws h) .heap) e ≡ true
+      → Mem e (shape ws (h .bytes)) × (live h e ≡ true) × (blockOf e ≢ b)
+  none-new e m k =
+      let r = free-given .only e m k in
+      let o = outer-others e (r .0) in
+      (o .0, r .1, o .1)

@@ -1,0 +1,354 @@
+-- The headers of neighbouring chunks: links, flags, and the size words of free ones. A heap that passes has them along its chain; a chain
+-- that has them is what is read; stores elsewhere keep them; and linking chunks in between two parts of a chain makes them right again. Assumes nothing.
+use mathlib.Core.Path.{_≡_, refl, sym, ap, subst, _∙_}
+use mathlib.Core.Logic.{_≢_, inl, inr}
+use mathlib.Core.Bool.{Bool, true, false}
+use mathlib.Core.List.{List, [], _∷_, _++_, List·Memᴰ·head, List·Memᴰ·tail, Memᴰ·append-left, Memᴰ·append-right}
+use Prim.Native.Nat.{ℕ, _+_, _*_, _-_, _/_, _%_, _≤_, _<_}
+use native.Mathlib.Decide.{ℕ-discrete}
+use native.Mathlib.Omega.{arith}
+use lib.Dec.{eqb}
+use lib.ListN.{length}
+use borrow.Author.Tests.{eqb-true, eqb-false}
+use Rattle.lists.specs.Lists.{Mem, headOr, lastOr}
+use Rattle.lists.proofs.MembersLaws.{head-append, last-append}
+use Rattle.record.specs.declared.heap.Heap.{Heap}
+use Rattle.region.specs.Words.{word, Store, put, written, forward, backward, size}
+use Rattle.region.proofs.WordsLaws.{Off, off, got, length-written, written-append, word-same, word-other}
+use Rattle.rules.specs.Shape.{Entry, entry, flagsAt, shape}
+use Rattle.rules.specs.Kinds.{unused, blockEnd, outside}
+use Rattle.rules.specs.Check.{Backed, Passes}
+use Rattle.rules.specs.Draft.{headers, sizeStores}
+use Rattle.rules.proofs.ShapeLaws.{chainFrom, shape-goes, shape-stops, shape-is}
+use Rattle.rules.proofs.SpotLaws.{Tiled, tiled-in, tiled-up, tiled, inside, ends, Inside}
+use Rattle.bins.proofs.RunsLaws.{off-both}
+use Rattle.settling.proofs.LayoutLaws.{Beside, Laid, Layout, Cuts, laid-beside, cuts, outer-beside, outer-in, middle-in}
+
+-- the header of e, which stands between b and n
+pub record Header (ws : List ℕ) (b e n : Entry) : Type 0 where
+  pub back : word ws (e .place) backward ≡ b .place + e .flags
+  pub forth : word ws (e .place) forward ≡ n .place
+  pub sized : e .flags ≡ 0 → word ws (e .place) size ≡ e .size
+
+-- the headers of neighbouring chunks, the first of which stands above b and the last below n
+abbrev pub Headed : List ℕ → Entry → List Entry → Entry → Type 0
+Headed ws b [] n = Unit {0}
+Headed ws b (e ∷ es) n = Header ws b e (headOr n es) × Headed ws e es n
+
+module _ (ws : List ℕ) where
+  pub headed-cut : (b : Entry) (xs ys : List Entry) (n : Entry) → Headed ws b (xs ++ ys) n
+      → Headed ws b xs (headOr n ys) × Headed ws (lastOr b xs) ys n
+  headed-cut b [] ys n h = (tt, h)
+  headed-cut b (x ∷ xs) ys n h =
+      let r = headed-cut x xs ys n (h .1) in
+      ((rw (head-append n xs ys) at (h .0), r .0), r .1)
+
+  pub headed-joined : (b : Entry) (xs ys : List Entry) (n : Entry) → Headed ws b xs (headOr n ys) → Headed ws (lastOr b xs) ys n
+      → Headed ws b (xs ++ ys) n
+  headed-joined b [] ys n h k = k
+  headed-joined b (x ∷ xs) ys n h k = (rw (head-append n xs ys) (h .0), headed-joined x xs ys n (h .1) k)
+
+  -- of the chunk above only the place counts
+  pub headed-below : (b : Entry) (xs : List Entry) (n m : Entry) → n .place ≡ m .place → Headed ws b xs n → Headed ws b xs m
+  headed-below b [] n m q h = tt
+  headed-below b (x ∷ []) n m q h = (record { back = h .0 .back; forth = h .0 .forth ∙ q; sized = h .0 .sized }, tt)
+  headed-below b (x ∷ y ∷ ys) n m q h = (h .0, headed-below x (y ∷ ys) n m q (h .1))
+
+  pub headed-backed : (b : Entry) (es : List Entry) (n : Entry) → Headed ws b es n → Backed ws (b .place) es
+  headed-backed b [] n h = tt
+  headed-backed b (e ∷ es) n h = (h .0 .back, headed-backed e es n (h .1))
+
+  pub headed-sized : (b : Entry) (es : List Entry) (n : Entry) {e : Entry} → Headed ws b es n → Mem e es → e .flags ≡ 0
+      → word ws (e .place) size ≡ e .size
+  headed-sized b (x ∷ es) n h (List·Memᴰ·head q) f = rw q (h .0 .sized (rw q at f))
+  headed-sized b (x ∷ es) n h (List·Memᴰ·tail m) f = headed-sized x es n (h .1) m f
+
+  pub headed-last : (b : Entry) (es : List Entry) (n : Entry) → (es ≡ [] → ⊥) → Headed ws b es n → word ws (lastOr b es .place) forward ≡ n .place
+  headed-last b [] n s h = absurd (s refl)
+  headed-last b (e ∷ []) n s h = h .0 .forth
+  headed-last b (e ∷ d ∷ es) n s h = headed-last e (d ∷ es) n (λ z. none z) (h .1)
+    where
+      none : (d ∷ es ≡ []) → ⊥
+      none z = let q : _≡_ {A = ℕ} 0 1 = cc in omega arith
+
+-- the chain of a heap that passes
+pub headed-read : (ws : List ℕ) (h : Heap) → Passes ws h → Headed ws outside (shape ws (h .bytes)) outside
+headed-read ws h p =
+    along 0 outside (shape ws (h .bytes)) (tiled ws h p) (p .backward) (λ e m. (inside ws h p e m, p .chunks e m .sized)) (p .chain .endsThere)
+  where
+    along : (a : ℕ) (b : Entry) (es : List Entry) → Tiled a es (h .bytes) → Backed ws (b .place) es
+        → ((e : Entry) → Mem e es → Inside ws h e × (e .flags ≡ 0 → word ws (e .place) size ≡ e .size))
+        → word ws (lastOr b es .place) forward ≡ 0 → Headed ws b es outside
+    along a b [] t k f z = tt
+    along a b (e ∷ []) t k f z = (record { back = k .0; forth = z; sized = f e (List·Memᴰ·head refl) .1 }, tt)
+    along a b (e ∷ d ∷ es) t k f z =
+        let u = tiled-up (blockEnd d) (h .bytes) es (t .2 .2) in
+        let i = f e (List·Memᴰ·head refl) in (
+          record {
+            back = k .0;
+            forth = i .0 .next (omega (arith, t .2 .0, t .2 .1)) ∙ sym (t .2 .0);
+            sized = i .1;
+          },
+          along (blockEnd e) e (d ∷ es) (t .2) (k .1) (λ x m. f x (List·Memᴰ·tail m)) z,
+        )
+
+-- a chain with its headers is what is read
+module _ (ws : List ℕ) (bytes : ℕ) where
+  entry-is : (e : Entry) (s f : ℕ) → s ≡ e .size → f ≡ e .flags → entry (e .place) s f ≡ e
+  entry-is e s f p q = rw (p, q)
+
+  reads-from : (b e : Entry) (es : List Entry) → Tiled (e .place) (e ∷ es) bytes → Headed ws b (e ∷ es) outside → b .place % 8 ≡ 0
+      → ((d : Entry) → Mem d (e ∷ es) → Laid bytes d) → chainFrom ws bytes (e .place) ≡ e ∷ es
+  reads-from b e [] t k z f =
+      let l = f e (List·Memᴰ·head refl) in
+      let back = k .0 .back in
+      let forth = k .0 .forth in
+      shape-stops ws bytes (e .place) (λ u. omega (arith, u .0))
+      ∙ ap (λ (x : Entry). x ∷ []) (entry-is e (bytes - e .place) (flagsAt ws (e .place)) (omega (arith, t .2)) (omega arith))
+  reads-from b e (d ∷ es) t k z f =
+      let l = f e (List·Memᴰ·head refl) in
+      let back = k .0 .back in
+      let forth : word ws (e .place) forward ≡ d .place = k .0 .forth in
+      let u = tiled-up (blockEnd d) bytes es (t .2 .2) in
+      let here : d .place ≡ blockEnd e = t .2 .0 in
+      let some : 0 < d .size = t .2 .1 in
+      let rest = reads-from e d es (rw (← here) at (t .2)) (k .1) (l .eight) (λ x m. f x (List·Memᴰ·tail m)) in
+      shape-goes ws bytes (e .place) (omega arith, omega arith)
+      ∙ ap (λ (x : Entry). x ∷ chainFrom ws bytes (word ws (e .place) forward))
+      (entry-is e (word ws (e .place) forward - e .place) (flagsAt ws (e .place)) (omega arith) (omega arith))
+      ∙ ap (λ (c : ℕ). e ∷ chainFrom ws bytes c) forth
+      ∙ ap (λ (l : List Entry). e ∷ l) rest
+
+  pub reads-as : (es : List Entry) → 0 < bytes → Layout bytes es → Headed ws outside es outside → shape ws bytes ≡ es
+  reads-as [] some y k = absurd (let t = y .tiled in omega arith)
+  reads-as (e ∷ es) some y k =
+      let here : e .place ≡ 0 = y .tiled .0 in
+      let t : Tiled (e .place) (e ∷ es) bytes = (refl, y .tiled .1, y .tiled .2) in
+      shape-is ws bytes ∙ ap (chainFrom ws bytes) (sym here) ∙ reads-from outside e es t k (omega arith) (y .chunks)
+
+-- stores that are to no word of the header of e
+abbrev pub Spares : List Store → Entry → Type 0
+Spares ss e =
+    Off (e .place / 4 + forward) ss × Off (e .place / 4 + backward) ss × (e .flags ≡ 0 → Off (e .place / 4 + size) ss)
+
+pub header-keeps : (ss : List Store) (ws : List ℕ) (b e n : Entry) → Spares ss e → Header ws b e n → Header (written ws ss) b e n
+header-keeps ss ws b e n s k =
+    record {
+      back = off ss ws (e .place) backward (s .1) ∙ k .back;
+      forth = off ss ws (e .place) forward (s .0) ∙ k .forth;
+      sized = λ f. off ss ws (e .place) size (s .2 f) ∙ k .sized f;
+    }
+
+pub headed-keeps : (ss : List Store) (ws : List ℕ) (b : Entry) (es : List Entry) (n : Entry) → ((e : Entry) → Mem e es → Spares ss e)
+    → Headed ws b es n → Headed (written ws ss) b es n
+headed-keeps ss ws b [] n s k = tt
+headed-keeps ss ws b (e ∷ es) n s k =
+    (header-keeps ss ws b e (headOr n es) (s e (List·Memᴰ·head refl)) (k .0), headed-keeps ss ws e es n (λ d m. s d (List·Memᴰ·tail m)) (k .1))
+
+-- the word at index x is none of the header of e
+abbrev Misses : ℕ → Entry → Type 0
+Misses x e = (x ≢ e .place / 4 + forward) × (x ≢ e .place / 4 + backward) × (e .flags ≡ 0 → x ≢ e .place / 4 + size)
+
+headers-off : (x p : ℕ) (es : List Entry) → ((e : Entry) → Mem e es → Misses x e) → Off x (headers p es)
+headers-off x p [] f = tt
+headers-off x p (e ∷ es) f =
+    let r = headers-off x (e .place) es (λ d m. f d (List·Memᴰ·tail m)) in
+    let g = f e (List·Memᴰ·head refl) in
+    (g .0, (g .1, off-both x (sizeStores e (eqb (e .flags) unused)) (headers (e .place) es) (own (eqb (e .flags) unused) refl (g .2)) r))
+  where
+    own : (t : Bool) → eqb (e .flags) unused ≡ t → (e .flags ≡ 0 → x ≢ e .place / 4 + size) → Off x (sizeStores e t)
+    own true q g = (g (eqb-true (e .flags) unused q), tt)
+    own false q g = tt
+
+-- no word of a chunk is of the header of one beside it
+module _ (bytes : ℕ) where
+  beside-misses : (d e : Entry) (k : ℕ) → Laid bytes d → Laid bytes e → 4 * k + 4 ≤ d .size → Beside d e → Misses (d .place / 4 + k) e
+  beside-misses d e k x y s (inl b) = let p = x .eight in let q = y .eight in omega arith
+  beside-misses d e k x y s (inr b) =
+      let p = x .eight in
+      let q = y .eight in
+      let r = y .some in
+      (omega arith, omega arith, λ f. omega (arith, y .free f .1))
+
+  module _ (d : Entry) (x : Laid bytes d) (p : ℕ) (es : List Entry) (y : (e : Entry) → Mem e es → Laid bytes e)
+      (apart : (e : Entry) → Mem e es → Beside d e) where
+    pub words-spared : (k : ℕ) → 4 * k + 4 ≤ d .size → Off (d .place / 4 + k) (headers p es)
+    words-spared k s = headers-off (d .place / 4 + k) p es (λ e m. beside-misses d e k x (y e m) s (apart e m))
+
+    pub headers-spare : Spares (headers p es) d
+    headers-spare =
+        let s = x .some in
+        (words-spared 0 (omega arith), words-spared 1 (omega arith), λ f. words-spared 2 (omega (arith, x .free f .1)))
+
+  -- the stores of a header
+  abbrev headerStores : ℕ → Entry → Bool → List Store
+  headerStores p e t = put (e .place) forward (blockEnd e) ∷ put (e .place) backward (p + e .flags) ∷ sizeStores e t
+
+  header-written : (ws : List ℕ) (b e n : Entry) → Laid bytes e → bytes ≤ 4 * length ws → blockEnd e ≡ n .place
+      → (t : Bool) → eqb (e .flags) unused ≡ t → Header (written ws (headerStores (b .place) e t)) b e n
+  header-written ws b e n x l q true f =
+      let z = eqb-true (e .flags) unused f in
+      let s = x .free z in
+      let i = x .eight in
+      let j = x .ends in
+      let ss : List Store = headerStores (b .place) e true in
+      record {
+        back = got 1 ss ws (omega (arith, s .1)) (omega arith);
+        forth = got 0 ss ws (omega (arith, s .1)) (omega arith) ∙ q;
+        sized = λ _. got 2 ss ws (omega (arith, s .1)) tt;
+      }
+  header-written ws b e n x l q false f =
+      let s = x .some in
+      let i = x .eight in
+      let j = x .ends in
+      let ss : List Store = headerStores (b .place) e false in
+      record {
+        back = got 1 ss ws (omega arith) tt;
+        forth = got 0 ss ws (omega arith) (omega arith) ∙ q;
+        sized = λ z. absurd (eqb-false (e .flags) unused f z);
+      }
+
+  -- neighbouring chunks, the first of which follows b, get their headers
+  pub headers-written : (ws : List ℕ) (b : Entry) (es : List Entry) (n : Entry) (a : ℕ) → Tiled a es (n .place)
+      → ((e : Entry) → Mem e es → Laid bytes e) → bytes ≤ 4 * length ws → Headed (written ws (headers (b .place) es)) b es n
+  headers-written ws b [] n a t f l = tt
+  headers-written ws b (e ∷ es) n a t f l =
+      let ss : List Store = headerStores (b .place) e (eqb (e .flags) unused) in
+      let k = length-written ss ws in
+      let x = f e (List·Memᴰ·head refl) in
+      let own = header-written ws b e (headOr n es) x l (next es (t .2)) (eqb (e .flags) unused) refl in
+      rw (written-append ss (headers (e .place) es) ws) (
+        header-keeps (headers (e .place) es) (written ws ss) b e (headOr n es)
+            (headers-spare e x (e .place) es (λ d m. f d (List·Memᴰ·tail m)) (λ d m. inl (tiled-in (blockEnd e) (n .place) es (t .2) m .0))) own,
+        headers-written (written ws ss) e es n (blockEnd e) (t .2) (λ d m. f d (List·Memᴰ·tail m)) (omega arith),
+      )
+    where
+      next : (ds : List Entry) → Tiled (blockEnd e) ds (n .place) → blockEnd e ≡ headOr n ds .place
+      next [] u = u
+      next (d ∷ ds) u = sym (u .0)
+
+-- the stores by which the chunks news are linked in between low and high
+abbrev pub linkStores : List Entry → List Entry → List Entry → List Store
+linkStores low news high =
+    headers (lastOr outside low .place) news
+    ++ put (headOr outside high .place) backward (lastOr (lastOr outside low) news .place + headOr outside high .flags) ∷ []
+
+-- the backward link of the chunk e is to no word of a chunk beside it
+link-spares : (bytes : ℕ) (d e : Entry) (v : ℕ) → Laid bytes d → Laid bytes e → Beside d e → Spares (put (e .place) backward v ∷ []) d
+link-spares bytes d e v x y b =
+    let s = x .some in (
+      (beside-misses bytes d e 0 x y (omega arith) b .1, tt),
+      (beside-misses bytes d e 1 x y (omega arith) b .1, tt),
+      λ f. (beside-misses bytes d e 2 x y (omega (arith, x .free f .1)) b .1, tt),
+    )
+
+-- the first of neighbouring chunks follows b from now on
+rebacked : (bytes : ℕ) (ws : List ℕ) (q b x : Entry) (xs : List Entry) (n : Entry) → Laid bytes x → ((d : Entry) → Mem d xs → Laid bytes d)
+    → ((d : Entry) → Mem d xs → Beside d x) → bytes ≤ 4 * length ws → Headed ws q (x ∷ xs) n
+    → Headed (written ws (put (x .place) backward (b .place + x .flags) ∷ [])) b (x ∷ xs) n
+rebacked bytes ws q b x xs n y f apart l k =
+    let s = y .some in
+    let e = y .ends in
+    let i = y .eight in (
+      record {
+        back = word-same ws (x .place) backward (b .place + x .flags) (omega arith);
+        forth = word-other ws (x .place) backward (b .place + x .flags) (x .place) forward (omega arith) ∙ k .0 .forth;
+        sized = λ z. word-other ws (x .place) backward (b .place + x .flags) (x .place) size (omega arith) ∙ k .0 .sized z;
+      },
+      headed-keeps (put (x .place) backward (b .place + x .flags) ∷ []) ws x xs n
+          (λ d m. link-spares bytes d x (b .place + x .flags) (f d m) y (apart d m)) (k .1),
+    )
+
+module _ (bytes : ℕ) (low news : List Entry) (x : Entry) (xs : List Entry) (y : Layout bytes (low ++ news ++ x ∷ xs)) where
+  abbrev below : Entry
+  below = lastOr outside low
+
+  abbrev upLink : List Store
+  upLink = put (x .place) backward (lastOr below news .place + x .flags) ∷ []
+
+  parts : Cuts bytes low news (x ∷ xs) y
+  parts = cuts bytes low news (x ∷ xs) y
+
+  low-laid : (d : Entry) → Mem d low → Laid bytes d
+  low-laid d m = y .chunks d (outer-in low news (x ∷ xs) (Memᴰ·append-left (x ∷ xs) m))
+
+  new-laid : (d : Entry) → Mem d news → Laid bytes d
+  new-laid d m = y .chunks d (middle-in low news (x ∷ xs) m)
+
+  high-laid : (d : Entry) → Mem d (x ∷ xs) → Laid bytes d
+  high-laid d m = y .chunks d (outer-in low news (x ∷ xs) (Memᴰ·append-right low m))
+
+  -- the first of the upper part lies above all that is below, and below all that is above
+  low-beside : (d : Entry) → Mem d low → Beside d x
+  low-beside d m =
+      let t = tiled-in 0 (parts .from) low (parts .below) m in
+      let u = tiled-up (parts .from) (parts .to) news (parts .middle) in
+      inl (omega (arith, t .2, parts .above .0))
+
+  new-beside : (d : Entry) → Mem d news → Beside d x
+  new-beside d m =
+      let t = tiled-in (parts .from) (parts .to) news (parts .middle) m in
+      inl (omega (arith, t .2, parts .above .0))
+
+  high-beside : (d : Entry) → Mem d xs → Beside d x
+  high-beside d m = inr (tiled-in (blockEnd x) bytes xs (parts .above .2) m .0)
+
+  up-spares : (d : Entry) → Laid bytes d → Beside d x → Spares upLink d
+  up-spares d k b = link-spares bytes d x (lastOr below news .place + x .flags) k (high-laid x (List·Memᴰ·head refl)) b
+
+  module _ (ws : List ℕ) (long : bytes ≤ 4 * length ws) where
+    -- the words with the headers of news
+    abbrev inner : List ℕ
+    inner = written ws (headers (below .place) news)
+
+    -- chunks outside have kept theirs
+    outer-kept : (b : Entry) (es : List Entry) (n : Entry) → ((d : Entry) → Mem d es → Mem d (low ++ x ∷ xs)) → Headed ws b es n → Headed inner b es n
+    outer-kept b es n f k =
+        headed-keeps (headers (below .place) news) ws b es n
+        (λ d m.
+        headers-spare bytes d (y .chunks d (outer-in low news (x ∷ xs) (f d m))) (below .place) news new-laid
+        (λ e j. outer-beside bytes low news (x ∷ xs) y d e (f d m) j))
+        k
+
+    inner-long : bytes ≤ 4 * length inner
+    inner-long = let k = length-written (headers (below .place) news) ws in omega arith
+
+    linked : (q : Entry) → Headed ws outside low (headOr x news) → Headed ws q (x ∷ xs) outside
+        → Headed (written inner upLink) outside (low ++ news ++ x ∷ xs) outside
+    linked q lower upper =
+        headed-joined (written inner upLink) outside (low ++ news) (x ∷ xs) outside
+        (headed-joined (written inner upLink) outside low news x
+        (headed-keeps upLink inner outside low (headOr x news) (λ d m. up-spares d (low-laid d m) (low-beside d m))
+        (outer-kept outside low (headOr x news) (λ d m. Memᴰ·append-left (x ∷ xs) m) lower))
+        (headed-keeps upLink inner below news x (λ d m. up-spares d (new-laid d m) (new-beside d m))
+        (headers-written bytes ws below news x (parts .from) (subst (λ (v : ℕ). Tiled (parts .from) news v) (sym (parts .above .0)) (parts .middle)) new-laid long)))
+        (rw (last-append outside low news)
+        (rebacked bytes inner q (lastOr below news) x xs outside (high-laid x (List·Memᴰ·head refl)) (λ d m. high-laid d (List·Memᴰ·tail m)) high-beside inner-long
+        (outer-kept q (x ∷ xs) outside (λ d m. Memᴰ·append-right low m) upper)))
+
+-- linking news in between low and high makes the headers right along the whole chain
+pub link-headed : (bytes : ℕ) (low news high : List Entry) → Layout bytes (low ++ news ++ high) → (high ≡ [] → ⊥) → (ws : List ℕ) → bytes ≤ 4 * length ws
+    → (q : Entry) → Headed ws outside low (headOr (headOr outside high) news) → Headed ws q high outside
+    → Headed (written ws (linkStores low news high)) outside (low ++ news ++ high) outside
+link-headed bytes low news [] y some ws long q lower upper = absurd (some refl)
+link-headed bytes low news (x ∷ xs) y some ws long q lower upper =
+    rw written-append (linked bytes low news x xs y ws long q lower upper)
+
+-- words of the chunks below and above, past their links, are not written
+pub link-off : (bytes : ℕ) (low news high : List Entry) → Layout bytes (low ++ news ++ high) → (high ≡ [] → ⊥) → (d : Entry) → Mem d (low ++ high)
+    → (k : ℕ) → 2 ≤ k → 4 * k + 4 ≤ d .size → Off (d .place / 4 + k) (linkStores low news high)
+link-off bytes low news [] y some d m k two s = absurd (some refl)
+link-off bytes low news (x ∷ xs) y some d m k two s =
+    off-both (d .place / 4 + k) (headers (lastOr outside low .place) news) (upLink bytes low news x xs y)
+    (words-spared bytes d own (lastOr outside low .place) news (new-laid bytes low news x xs y) (λ e j. outer-beside bytes low news (x ∷ xs) y d e m j) k s)
+    (go (ℕ-discrete (d .place) (x .place)), tt)
+  where
+    own : Laid bytes d
+    own = y .chunks d (outer-in low news (x ∷ xs) m)
+
+    first : Mem x (low ++ news ++ x ∷ xs)
+    first = Memᴰ·append-right (low ++ news) (List·Memᴰ·head refl)
+
+    go : Dec (d .place ≡ x .place) → d .place / 4 + k ≢ x .place / 4 + backward
+    go (yes q) = omega arith
+    go (no n) = beside-misses bytes d x k own (y .chunks x first) s (laid-beside bytes (low ++ news ++ x ∷ xs) y d x (outer-in low news (x ∷ xs) m) first n) .1

@@ -1,0 +1,182 @@
+-- How the chunks of a chain lie, with no word read: one behind the other from 0 to the end of the heap bytes, each with room for its header,
+-- start and end in use; and that they still do where some of them are replaced by others that fill the same bytes. Assumes nothing.
+use mathlib.Core.Path.{_≡_, refl, sym, ap, _∙_}
+use mathlib.Core.Logic.{_⊎_, inl, inr}
+use mathlib.Core.List.{List, [], _∷_, _++_, append-assoc, List·Memᴰ·append-cases, Memᴰ·append-left, Memᴰ·append-right}
+use Prim.Native.Nat.{ℕ, suc, _+_, _*_, _%_, _≤_, _<_}
+use native.Mathlib.Omega.{arith}
+use lib.ListN.{length}
+use Rattle.lists.specs.Lists.{Mem, headOr, lastOr}
+use Rattle.lists.proofs.MembersLaws.{last-append}
+use Rattle.record.specs.declared.heap.Heap.{Heap}
+use Rattle.rules.specs.Shape.{Entry, shape}
+use Rattle.rules.specs.Kinds.{blockEnd, outside}
+use Rattle.rules.specs.Check.{Ended, Passes}
+use Rattle.rules.proofs.ChainLaws.{Rising, rising-from, same-place}
+use Rattle.rules.proofs.SpotLaws.{Tiled, tiled-cut, tiled-in, tiled-apart, tiled-few, tiled, inside, free-between, ends}
+
+-- members of a list with something put into its middle
+module _ {A : Type 0} {x : A} (low mid high : List A) where
+  pub among : Mem x (low ++ mid ++ high) → Mem x (low ++ high) ⊎ Mem x mid
+  among m = go (List·Memᴰ·append-cases (low ++ mid) m)
+    where
+      below : Mem x low ⊎ Mem x mid → Mem x (low ++ high) ⊎ Mem x mid
+      below (inl k) = inl (Memᴰ·append-left high k)
+      below (inr k) = inr k
+
+      go : Mem x (low ++ mid) ⊎ Mem x high → Mem x (low ++ high) ⊎ Mem x mid
+      go (inl k) = below (List·Memᴰ·append-cases low k)
+      go (inr k) = inl (Memᴰ·append-right low k)
+
+  pub outer-in : Mem x (low ++ high) → Mem x (low ++ mid ++ high)
+  outer-in m = go (List·Memᴰ·append-cases low m)
+    where
+      go : Mem x low ⊎ Mem x high → Mem x (low ++ mid ++ high)
+      go (inl k) = Memᴰ·append-left high (Memᴰ·append-left mid k)
+      go (inr k) = Memᴰ·append-right (low ++ mid) k
+
+  pub middle-in : Mem x mid → Mem x (low ++ mid ++ high)
+  middle-in m = Memᴰ·append-left high (Memᴰ·append-right low m)
+
+-- tiles put together, and each place has one
+pub tiled-joined : (a b c : ℕ) (xs ys : List Entry) → Tiled a xs b → Tiled b ys c → Tiled a (xs ++ ys) c
+tiled-joined a b c [] ys t u = rw t u
+tiled-joined a b c (x ∷ xs) ys t u = (t .0, t .1, tiled-joined (blockEnd x) b c xs ys (t .2) u)
+
+tiled-rising : (a b : ℕ) (es : List Entry) → Tiled a es b → Rising a es
+tiled-rising a b [] t = tt
+tiled-rising a b (e ∷ es) t = (omega (arith, t .0), rising-from (suc (e .place)) (blockEnd e) es (omega (arith, t .1)) (tiled-rising (blockEnd e) b es (t .2)))
+
+-- one behind the other, whichever comes first
+abbrev pub Beside : Entry → Entry → Type 0
+Beside d e = (blockEnd d ≤ e .place) ⊎ (blockEnd e ≤ d .place)
+
+-- a chunk lies inside, with room for its header: two words, and six if it is free, which neither start nor end is
+pub record Laid (bytes : ℕ) (e : Entry) : Type 0 where
+  pub eight : e .place % 8 ≡ 0
+  pub some : 8 ≤ e .size
+  pub ends : blockEnd e ≤ bytes
+  pub flags : e .flags ≤ 1
+  pub room : 0 < e .place → e .place + 8 < bytes → 24 ≤ e .size
+  pub free : e .flags ≡ 0 → (8 ≤ e .place) × (24 ≤ e .size) × (blockEnd e + 8 ≤ bytes)
+
+pub record Layout (bytes : ℕ) (es : List Entry) : Type 0 where
+  pub tiled : Tiled 0 es bytes
+  pub chunks : (e : Entry) → Mem e es → Laid bytes e
+  pub ended : Ended es
+  pub reaches : lastOr outside es .place + 8 ≡ bytes
+
+pub layout-read : (ws : List ℕ) (h : Heap) → Passes ws h → Layout (h .bytes) (shape ws (h .bytes))
+layout-read ws h p =
+    record {
+      tiled = tiled ws h p;
+      chunks = λ e m. laid e m;
+      ended = p .ends;
+      reaches = p .chain .reachesEnd;
+    }
+  where
+    laid : (e : Entry) → Mem e (shape ws (h .bytes)) → Laid (h .bytes) e
+    laid e m =
+        let i = inside ws h p e m in
+        record {
+          eight = i .place;
+          some = i .some;
+          ends = i .ends;
+          flags = i .flags;
+          room = p .chunks e m .room;
+          free = λ f. let b = free-between ws h p e m f in (b .above, b .some, b .below);
+        }
+
+module _ (bytes : ℕ) (es : List Entry) (y : Layout bytes es) where
+  pub laid-once : (d e : Entry) → Mem d es → Mem e es → d .place ≡ e .place → d ≡ e
+  laid-once d e m k q = same-place 0 es (tiled-rising 0 bytes es (y .tiled)) m k q
+
+  pub laid-beside : (d e : Entry) → Mem d es → Mem e es → (d .place ≡ e .place → ⊥) → Beside d e
+  laid-beside d e m k n = tiled-apart 0 bytes es (y .tiled) m k n
+
+  -- each has 8 bytes at least
+  pub laid-few : 8 * length es ≤ bytes
+  laid-few = let t = tiled-few 0 bytes es (y .tiled) (λ e m. y .chunks e m .some) in omega arith
+
+  -- a free chunk ends below the chunks above it
+  pub laid-below : (d e : Entry) → Mem d es → Mem e es → d .flags ≡ 0 → d .place < e .place → d .place + 24 ≤ e .place
+  laid-below d e m k f l = go (laid-beside d e m k (λ q. omega arith)) (y .chunks d m .free f) (y .chunks e k .some)
+    where
+      go : Beside d e → (8 ≤ d .place) × (24 ≤ d .size) × (blockEnd d + 8 ≤ bytes) → 8 ≤ e .size → d .place + 24 ≤ e .place
+      go (inl b) r s = omega arith
+      go (inr b) r s = absurd (omega arith)
+
+-- a chain in three parts
+module _ (bytes : ℕ) (low mid high : List Entry) (y : Layout bytes (low ++ mid ++ high)) where
+  pub record Cuts : Type 0 where
+    pub from : ℕ
+    pub to : ℕ
+    pub below : Tiled 0 low from
+    pub middle : Tiled from mid to
+    pub above : Tiled to high bytes
+
+  pub cuts : Cuts
+  cuts =
+      let r = tiled-cut 0 bytes (low ++ mid) high (y .tiled) in
+      let s = tiled-cut 0 (r .0) low mid (r .1) in
+      record { from = s .0; to = r .0; below = s .1; middle = s .2; above = r .2 }
+
+  -- chunks of the outer parts are beside those of the middle
+  pub outer-beside : (d e : Entry) → Mem d (low ++ high) → Mem e mid → Beside d e
+  outer-beside d e m k = go (List·Memᴰ·append-cases low m)
+    where
+      go : Mem d low ⊎ Mem d high → Beside d e
+      go (inl j) =
+          let a = tiled-in 0 (cuts .from) low (cuts .below) j in
+          let b = tiled-in (cuts .from) (cuts .to) mid (cuts .middle) k in
+          inl (omega (arith, a .2, b .0))
+      go (inr j) =
+          let a = tiled-in (cuts .to) bytes high (cuts .above) j in
+          let b = tiled-in (cuts .from) (cuts .to) mid (cuts .middle) k in
+          inr (omega (arith, a .0, b .2))
+
+-- the ends of a list do not depend on what is put into its middle
+first-stays : (b : Entry) (xs ys : List Entry) → (xs ≡ [] → ⊥) → headOr b (xs ++ ys) ≡ headOr b xs
+first-stays b [] ys n = absurd (n refl)
+first-stays b (x ∷ xs) ys n = refl
+
+last-stays : (b c : Entry) (ys : List Entry) → (ys ≡ [] → ⊥) → lastOr b ys ≡ lastOr c ys
+last-stays b c [] n = absurd (n refl)
+last-stays b c (y ∷ ys) n = refl
+
+-- the chunks olds are replaced by the chunks news, which fill the same bytes
+module _ (bytes : ℕ) (low olds news high : List Entry) (y : Layout bytes (low ++ olds ++ high))
+    (lows : low ≡ [] → ⊥) (highs : high ≡ [] → ⊥) (same : (a b : ℕ) → Tiled a olds b → Tiled a news b)
+    (fit : (e : Entry) → Mem e news → Laid bytes e) where
+  first-is : (mid : List Entry) → headOr outside (low ++ mid ++ high) ≡ headOr outside low
+  first-is mid = ap (headOr outside) (append-assoc low mid high) ∙ first-stays outside low (mid ++ high) lows
+
+  last-is : (mid : List Entry) → lastOr outside (low ++ mid ++ high) ≡ lastOr outside high
+  last-is mid = last-append outside (low ++ mid) high ∙ last-stays _ outside high highs
+
+  first-same : headOr outside (low ++ news ++ high) ≡ headOr outside (low ++ olds ++ high)
+  first-same = first-is news ∙ sym (first-is olds)
+
+  last-same : lastOr outside (low ++ news ++ high) ≡ lastOr outside (low ++ olds ++ high)
+  last-same = last-is news ∙ sym (last-is olds)
+
+  laid-new : (e : Entry) → Mem e (low ++ high) ⊎ Mem e news → Laid bytes e
+  laid-new e (inl m) = y .chunks e (outer-in low olds high m)
+  laid-new e (inr m) = fit e m
+
+  pub layout-replaced : Layout bytes (low ++ news ++ high)
+  layout-replaced =
+      let c = cuts bytes low olds high y in
+      record {
+        tiled =
+            tiled-joined 0 (c .to) bytes (low ++ news) high
+            (tiled-joined 0 (c .from) (c .to) low news (c .below) (same (c .from) (c .to) (c .middle))) (c .above);
+        chunks = λ e m. laid-new e (among low news high m);
+        ended =
+            record {
+              startSize = rw first-same (y .ended .startSize);
+              startUsed = rw first-same (y .ended .startUsed);
+              endUsed = rw last-same (y .ended .endUsed);
+            };
+        reaches = rw last-same (y .reaches);
+      }
