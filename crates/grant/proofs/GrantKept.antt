@@ -25,7 +25,7 @@ use Rattle.rules.specs.Cut.{Parts, cut, chunksOf, leaveAs, grantAt}
 use Rattle.rules.specs.Allocate.{sourceOf, grant}
 use Rattle.rules.proofs.KindsLaws.{Being, being, kind-in-use, kind-top, kind-donor, kind-ordinary, donor-moved, top-moved}
 use Rattle.rules.proofs.SpotLaws.{Free, IsTop, in-split, bounds, one-chunk, live-between, is-ordinary, is-top, is-donor}
-use Rattle.settling.proofs.LayoutLaws.{Beside, Laid, Layout, among, outer-in, middle-in, layout-replaced}
+use Rattle.settling.proofs.LayoutLaws.{Beside, Laid, Layout, every-other, among, outer-in, middle-in, layout-replaced}
 use Rattle.settling.proofs.HeaderLaws.{Headed}
 use Rattle.settling.proofs.OpenLaws as opened
 use Rattle.settling.proofs.HalfwayLaws.{now, Halfway, leave-headed, leave-halfway, leave-keeps, Opened, Closed, closes}
@@ -85,7 +85,7 @@ module _ (ws : List ℕ) (h : Heap) (p : Passes ws h) (low : List Entry) (e : En
         record {
           halfway =
               leave-halfway ws h (low ++ e ∷ [] ++ high) (asRead ws h) start (low ++ e ∷ [] ++ high) laid-out (λ x m. m) e here o (low ++ high)
-              (λ x m. (outer-in low (e ∷ []) high m, elsewhere x m)) (opened.every-other ws h p low e high split (free .between));
+              (λ x m. (outer-in low (e ∷ []) high m, elsewhere x m)) (every-other low e high);
           lower = same-headed outside low e (λ x m. Memᴰ·append-left high m) (opened.headers-read ws h p low e high split (free .between) .0);
           upper = same-headed e high outside (λ x m. Memᴰ·append-right low m) (opened.headers-read ws h p low e high split (free .between) .2);
           donor = a .0;

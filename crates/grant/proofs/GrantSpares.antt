@@ -42,8 +42,9 @@ module _ (ws : List ℕ) (h : Heap) (p : Passes ws h) (n : ℕ) (large : 24 ≤ 
   abbrev es : List Entry
   es = shape ws (h .bytes)
 
-  abbrev Free : ℕ → Type 0
-  Free i = Outside (h .bytes) es i
+  -- words outside all blocks
+  abbrev Open : ℕ → Type 0
+  Open i = Outside (h .bytes) es i
 
   abbrev from : Entry
   from = chosen ws h p n large eight some
@@ -73,7 +74,7 @@ module _ (ws : List ℕ) (h : Heap) (p : Passes ws h) (n : ℕ) (large : 24 ≤ 
   laid-out = layout-read ws h p
 
   -- words of the source, and of the chunk above it the link
-  source-word : (c k : ℕ) → c % 8 ≡ 0 → from .place ≤ c → c + 4 * k + 4 ≤ blockEnd from → Free (c / 4 + k)
+  source-word : (c k : ℕ) → c % 8 ≡ 0 → from .place ≤ c → c + 4 * k + 4 ≤ blockEnd from → Open (c / 4 + k)
   source-word = let c = taken in free-word (h .bytes) es laid-out from (c .member) (c .free .flags)
 
   sides : Around ws es lower from upper
@@ -82,7 +83,7 @@ module _ (ws : List ℕ) (h : Heap) (p : Passes ws h) (n : ℕ) (large : 24 ≤ 
       let b = c .free .between in
       around ws h p lower from upper (c .split) (omega arith) (omega arith)
 
-  above-link : Free (headOr outside upper .place / 4 + backward)
+  above-link : Open (headOr outside upper .place / 4 + backward)
   above-link = link-word (h .bytes) es laid-out (headOr outside upper) (sides .above) 1 (omega arith)
 
   -- the parts lie inside the source
@@ -90,7 +91,7 @@ module _ (ws : List ℕ) (h : Heap) (p : Passes ws h) (n : ℕ) (large : 24 ≤ 
   from-eight = let c = taken in inside ws h p from (c .member) .place
 
   granted-free : Cutting from n pieces
-      → Free (granted .place / 4 + forward) × Free (granted .place / 4 + backward) × (granted .flags ≡ 0 → Free (granted .place / 4 + size))
+      → Open (granted .place / 4 + forward) × Open (granted .place / 4 + backward) × (granted .flags ≡ 0 → Open (granted .place / 4 + size))
   granted-free c =
       let z = from-eight in
       let q = c .place in
@@ -101,7 +102,7 @@ module _ (ws : List ℕ) (h : Heap) (p : Passes ws h) (n : ℕ) (large : 24 ≤ 
         λ f. source-word (granted .place) 2 (omega arith) (omega arith) (omega arith),
       )
 
-  above-free : Left from n pieces → (k : ℕ) → k < 6 → Free (above .place / 4 + k)
+  above-free : Left from n pieces → (k : ℕ) → k < 6 → Open (above .place / 4 + k)
   above-free w k l =
       let z = from-eight in
       let q = w .cutting .next in
@@ -111,11 +112,11 @@ module _ (ws : List ℕ) (h : Heap) (p : Passes ws h) (n : ℕ) (large : 24 ≤ 
       source-word (above .place) k (omega arith) (omega arith) (omega arith)
 
   new-free : Whole from n pieces ⊎ Left from n pieces → (x : Entry) → Mem x (chunksOf pieces)
-      → Free (x .place / 4 + forward) × Free (x .place / 4 + backward) × (x .flags ≡ 0 → Free (x .place / 4 + size))
+      → Open (x .place / 4 + forward) × Open (x .place / 4 + backward) × (x .flags ≡ 0 → Open (x .place / 4 + size))
   new-free (inl w) x m = rw (List·Memᴰ·eq-of-singleton (rw (w .chunks) at m)) (granted-free (w .cutting))
   new-free (inr w) x m = go (rw (w .chunks) at m)
     where
-      go : Mem x (granted ∷ above ∷ []) → Free (x .place / 4 + forward) × Free (x .place / 4 + backward) × (x .flags ≡ 0 → Free (x .place / 4 + size))
+      go : Mem x (granted ∷ above ∷ []) → Open (x .place / 4 + forward) × Open (x .place / 4 + backward) × (x .flags ≡ 0 → Open (x .place / 4 + size))
       go (List·Memᴰ·head q) = rw q (granted-free (w .cutting))
       go (List·Memᴰ·tail k) =
           rw (List·Memᴰ·eq-of-singleton k) (above-free w 0 (omega arith), above-free w 1 (omega arith), λ f. above-free w 2 (omega arith))
@@ -124,34 +125,34 @@ module _ (ws : List ℕ) (h : Heap) (p : Passes ws h) (n : ℕ) (large : 24 ≤ 
   linked =
       relink lower (chunksOf pieces) upper (leaveAs kind from (asRead ws h))
 
-  linked-spared : Spared Free linked
+  linked-spared : Spared Open linked
   linked-spared =
-      relink-spared Free lower (chunksOf pieces) upper _
-      (leaves-spared Free kind from (asRead ws h)
-      (read-spared Free ws h p
+      relink-spared Open lower (chunksOf pieces) upper _
+      (leaves-spared Open kind from (asRead ws h)
+      (read-spared Open ws h p
       (λ e m f.
       let i = inside ws h p e m in
       let b = free-between ws h p e m f in
-      let w : (k : ℕ) → k < 6 → Free (e .place / 4 + k) = λ k l. free-word (h .bytes) es laid-out e m f (e .place) k (i .place) (omega arith) (omega arith) in
+      let w : (k : ℕ) → k < 6 → Open (e .place / 4 + k) = λ k l. free-word (h .bytes) es laid-out e m f (e .place) k (i .place) (omega arith) (omega arith) in
       (w 3 (omega arith), w 4 (omega arith)))))
       (new-free (cut-either from n large (taken .enough))) above-link
 
   -- what is left of the source takes its place
   rest-spared : eqb (above .size) 0 ≡ false → Whole from n pieces ⊎ Left from n pieces
-      → Spared Free (settle kind above linked)
+      → Spared Open (settle kind above linked)
   rest-spared q (inl w) = absurd (eqb-false (above .size) 0 q (w .nothing))
   rest-spared q (inr w) =
-      settle-spared Free above linked linked-spared (above-free w 3 (omega arith), above-free w 4 (omega arith), above-free w 5 (omega arith))
+      settle-spared Open above linked linked-spared (above-free w 3 (omega arith), above-free w 4 (omega arith), above-free w 5 (omega arith))
       kind
 
-  after-spared : Spared Free (after ws h p n large eight some)
-  after-spared = uses-spared Free 0 (granted .size) _ (go (eqb (above .size) 0) refl)
+  after-spared : Spared Open (after ws h p n large eight some)
+  after-spared = uses-spared Open 0 (granted .size) _ (go (eqb (above .size) 0) refl)
     where
-      go : (t : Bool) → eqb (above .size) 0 ≡ t → Spared Free (cond t linked (settle kind above linked))
+      go : (t : Bool) → eqb (above .size) 0 ≡ t → Spared Open (cond t linked (settle kind above linked))
       go true q = linked-spared
       go false q = rest-spared q (cut-either from n large (taken .enough))
 
-  grant-spared : Spared Free (grant n (asRead ws h) .draft)
+  grant-spared : Spared Open (grant n (asRead ws h) .draft)
   grant-spared = rw (grant-is ws h p n large eight some) after-spared
 
   -- the word at index i is inside the live block of e

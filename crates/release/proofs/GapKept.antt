@@ -19,10 +19,10 @@ use Rattle.rules.specs.Draft.{Draft, leaveBin, relink, settle, nowUses}
 use Rattle.rules.specs.Join.{Joined, joinedAs, joining, leaveBins, release}
 use Rattle.rules.proofs.KindsLaws.{Being, being, kind-top, kind-donor, kind-ordinary, donor-moved, top-moved}
 use Rattle.rules.proofs.SpotLaws.{tiled-empty, begins-with, ends-with, bounds}
-use Rattle.settling.proofs.LayoutLaws.{Beside, cuts, outer-beside, among, outer-in, middle-in}
+use Rattle.settling.proofs.LayoutLaws.{Beside, cuts, outer-beside, beside-elsewhere, among, outer-in, middle-in}
 use Rattle.settling.proofs.HalfwayLaws.{now, Closed, closes}
 use Rattle.settling.proofs.SettleLaws.{Settles, settles-named, settles-in-bin, settles-as-donor, settles-as-top}
-use Rattle.settling.proofs.PictureLaws.{Pictured, Posts, used-replaced, kinds-after, settled-pictured}
+use Rattle.settling.proofs.PictureLaws.{Pictured, Posts, posts-in, used-replaced, kinds-after, settled-pictured}
 use Rattle.release.proofs.JoinMeaning.{sees, joinedBy, joining-sees, sees-ordinary}
 use Rattle.release.proofs.GapLaws.{filling, free-not-live, none-used, Gap, below-joins, above-laid, above-joins, above-widens, above-apart, above-higher, above-else}
 
@@ -34,6 +34,16 @@ sees-kind false k f = absurd (false≢true f)
 leave-all : (xs ys : List Entry) (d : Draft) → leaveBins (xs ++ ys) d ≡ leaveBins ys (leaveBins xs d)
 leave-all [] ys d = refl
 leave-all (x ∷ xs) ys d = leave-all xs ys (leaveBin x d)
+
+-- what is joined is linked in and takes its place
+abbrev pub settledAs : Draft → Joined → Draft
+settledAs d j = settle (j .becomes) (j .here) (relink (j .low) (j .here ∷ []) (j .high) (leaveBins (j .leaving) d))
+
+pub release-is : (h : Heap) (low : List Entry) (part : Entry) (high : List Entry) (d : Draft) → d .heap ≡ h
+    → release low part high d ≡ settledAs d (joinedBy (sees h (lastOr outside low)) (sees h (headOr outside high)) low part high)
+unfolding release
+release-is h low part high d heap =
+    ap (λ (k : Heap). settledAs d (joining k low part high)) heap ∙ ap (settledAs d) (joining-sees low part high h)
 
 module _ (ws : List ℕ) (h : Heap) (p : Passes ws h) (base : List Entry) (rest : ℕ) where
   -- what giving back leaves: a heap that passes, in which the live chunks are those of `base`
@@ -63,11 +73,7 @@ module _ (ws : List ℕ) (h : Heap) (p : Passes ws h) (base : List Entry) (rest 
     beside x m = outer-beside (h .bytes) low (fill ∷ []) high (g .layout) x fill m (List·Memᴰ·head refl)
 
     away : (x : Entry) → Mem x (low ++ high) → x .place ≢ from
-    away x m = go (beside x m) (g .layout .chunks x (outer-in low (fill ∷ []) high m) .some) room
-      where
-        go : Beside x fill → 8 ≤ x .size → (8 ≤ from) × (24 ≤ to - from) × (from + (to - from) + 8 ≤ h .bytes) → x .place ≢ from
-        go (inl b) s r = λ q. omega arith
-        go (inr b) s r = λ q. omega (arith, r .1)
+    away x m = beside-elsewhere x fill (beside x m) (g .layout .chunks x (outer-in low (fill ∷ []) high m) .some) (omega (arith, room .1))
 
     highs : high ≡ [] → ⊥
     highs z =
@@ -157,11 +163,7 @@ module _ (ws : List ℕ) (h : Heap) (p : Passes ws h) (base : List Entry) (rest 
         ordinary-given : Given (nowUses gone new (settle Ordinary fill linked))
         ordinary-given =
             given (settle Ordinary fill linked) (h .donor .0) (h .top .0) settled-ordinary (λ x m. refl)
-            (record {
-              top = let t = posts .top in (t .0, outer-in low (fill ∷ []) high (t .1), t .2);
-              donor = λ some. let t = posts .donor some in (t .0, outer-in low (fill ∷ []) high (t .1), t .2);
-            })
-            gone new count
+            (posts-in h (low ++ high) chain (λ x m. outer-in low (fill ∷ []) high m) posts) gone new count
 
       -- it is the donor, in the place of the old one
       module _ (apart : (x : Entry) → Mem x (low ++ high) → x .place ≢ h .donor .0) (below : from < h .top .0)
@@ -349,18 +351,11 @@ module _ (ws : List ℕ) (h : Heap) (p : Passes ws h) (base : List Entry) (rest 
         (subst (λ (l : List Entry). Gap ws h p base rest l (part .place) (blockEnd part) high d) low-is g) (o refl)
         (subst (λ (l : List Entry). Posts h (l ++ high)) low-is posts)
 
-    abbrev settledAs : Joined → Draft
-    settledAs j = settle (j .becomes) (j .here) (relink (j .low) (j .here ∷ []) (j .high) (leaveBins (j .leaving) d))
-
-    release-is : release lows part high d ≡ settledAs (joinedBy (sees h below) (sees h (headOr outside high)) lows part high)
-    unfolding release
-    release-is = ap (λ (k : Heap). settledAs (joining k lows part high)) heap ∙ ap settledAs (joining-sees lows part high h)
-
     pub gap-given : Given (nowUses gone new (release lows part high d))
     gap-given =
         let under : Bool = ordinaryKind (sees h below) in
         let over : Kind = sees h (headOr outside high) in
         let r = joins-below under (sees-ordinary (h .merge) (kindOf h below)) in
-        rw (release-is, leave-all)
+        rw (release-is h lows part high d heap, leave-all)
         (joins-above gone new count (cond under (butLast lows) lows) (cond under (below .place) (part .place)) (blockEnd part) high
         (leaveBins (cond under (below ∷ []) []) d) (r .0) (r .1) over (sees-kind (h .merge) (kindOf h (headOr outside high))))

@@ -17,7 +17,7 @@ use Rattle.rules.specs.Check.{usedBytes, Passes}
 use Rattle.rules.specs.Draft.{Draft, leaveBin}
 use Rattle.rules.proofs.KindsLaws.{Being, being, kind-top, kind-donor}
 use Rattle.rules.proofs.SpotLaws.{Tiled, tiled-empty}
-use Rattle.settling.proofs.LayoutLaws.{Beside, Laid, Layout, Cuts, cuts, outer-beside, among, outer-in, middle-in, layout-replaced}
+use Rattle.settling.proofs.LayoutLaws.{Laid, Layout, Cuts, cuts, outer-beside, beside-elsewhere, every-other, among, outer-in, middle-in, layout-replaced}
 use Rattle.settling.proofs.HeaderLaws.{Headed, headed-cut, headed-below}
 use Rattle.settling.proofs.HalfwayLaws.{now, Halfway, halfway-fewer, ordinary-free, leave-headed, leave-halfway, leave-keeps, Opened}
 use Rattle.settling.proofs.PictureLaws.{Posts, used-replaced}
@@ -82,10 +82,10 @@ module _ (ws : List ℕ) (h : Heap) (p : Passes ws h) (base : List Entry) (rest 
     free : x .flags ≡ 0
     whole : (a b : ℕ) → Tiled a two b → Tiled a (filling from to ∷ []) b
     fits : Laid (h .bytes) (filling from to)
-    unused : usedBytes h two ≡ 0
+    nothing : usedBytes h two ≡ 0
     used : usedBytes h (low ++ two ++ high) ≡ rest
     last : Entry
-    opened : Halfway ws h (low ++ x ∷ [] ++ high) d
+    halfway : Halfway ws h (low ++ x ∷ [] ++ high) d
     lower : Headed (written ws (d .stores)) outside low (filling from to)
     upper : Headed (written ws (d .stores)) last high outside
     donor : d .heap .donor .0 ≡ h .donor .0
@@ -112,7 +112,7 @@ module _ (ws : List ℕ) (h : Heap) (p : Passes ws h) (base : List Entry) (rest 
     still-used : usedBytes h (low ++ filling from to ∷ [] ++ high) ≡ rest
     still-used =
         let r = used-replaced h h low two (filling from to ∷ []) high (λ e m. refl) in
-        let a = w .unused in
+        let a = w .nothing in
         let b = none-used h (filling from to) refl in
         let c = w .used in
         omega arith
@@ -126,12 +126,8 @@ module _ (ws : List ℕ) (h : Heap) (p : Passes ws h) (base : List Entry) (rest 
 
     elsewhere : (z : Entry) → Mem z (low ++ high) → z .place ≢ x .place
     elsewhere z m =
-        go (outer-beside (h .bytes) low two high (w .layout) z x m (w .there)) (w .layout .chunks z (outer-in low two high m) .some)
+        beside-elsewhere z x (outer-beside (h .bytes) low two high (w .layout) z x m (w .there)) (w .layout .chunks z (outer-in low two high m) .some)
         (w .layout .chunks x (middle-in low two high (w .there)) .some)
-      where
-        go : Beside z x → 8 ≤ z .size → 8 ≤ x .size → z .place ≢ x .place
-        go (inl b) s t = λ q. omega arith
-        go (inr b) s t = λ q. omega arith
 
     -- the draft's record names the donor and the top of before
     same-kind : (z : Entry) → kindOf (now h d) z ≡ kindOf h z
@@ -146,7 +142,7 @@ module _ (ws : List ℕ) (h : Heap) (p : Passes ws h) (base : List Entry) (rest 
           opened =
               record {
                 halfway =
-                    halfway-fewer ws h (low ++ x ∷ [] ++ high) (low ++ high) d (w .opened) (λ z m. outer-in low (x ∷ []) high m)
+                    halfway-fewer ws h (low ++ x ∷ [] ++ high) (low ++ high) d (w .halfway) (λ z m. outer-in low (x ∷ []) high m)
                     (λ z m u. go z u (among low (x ∷ []) high m));
                 lower = w .lower;
                 upper = w .upper;
@@ -179,30 +175,23 @@ module _ (ws : List ℕ) (h : Heap) (p : Passes ws h) (base : List Entry) (rest 
       was-ordinary : ordinary (now h d) x ≡ true
       was-ordinary = ap ordinaryKind (same-kind x) ∙ o
 
-      every-other : (z : Entry) → Mem z (low ++ x ∷ [] ++ high) → z .place ≢ x .place → Mem z (low ++ high)
-      every-other z m n = go (among low (x ∷ []) high m)
-        where
-          go : Mem z (low ++ high) ⊎ Mem z (x ∷ []) → Mem z (low ++ high)
-          go (inl k) = k
-          go (inr k) = absurd (n (ap (λ (e : Entry). e .place) (List·Memᴰ·eq-of-singleton k)))
-
       same-headed : (b : Entry) (es : List Entry) (n : Entry) → ((z : Entry) → Mem z es → Mem z (low ++ high)) → Headed (written ws (d .stores)) b es n
           → Headed (written ws (leaveBin x d .stores)) b es n
       same-headed b es n f k =
-          leave-headed ws h (low ++ x ∷ [] ++ high) d (w .opened) (low ++ two ++ high) (w .layout) stays x own was-ordinary b es n
+          leave-headed ws h (low ++ x ∷ [] ++ high) d (w .halfway) (low ++ two ++ high) (w .layout) stays x own was-ordinary b es n
           (λ z m. (z, outer-in low two high (f z m), refl)) k
 
       widen-left : Gap low from to high (leaveBin x d)
       widen-left =
-          let a = leave-keeps ws h (low ++ x ∷ [] ++ high) d (w .opened) (low ++ two ++ high) (w .layout) stays x own was-ordinary in
+          let a = leave-keeps ws h (low ++ x ∷ [] ++ high) d (w .halfway) (low ++ two ++ high) (w .layout) stays x own was-ordinary in
           record {
             layout = filled;
             last = w .last;
             opened =
                 record {
                   halfway =
-                      leave-halfway ws h (low ++ x ∷ [] ++ high) d (w .opened) (low ++ two ++ high) (w .layout) stays x own was-ordinary (low ++ high)
-                      (λ z m. (outer-in low (x ∷ []) high m, elsewhere z m)) every-other;
+                      leave-halfway ws h (low ++ x ∷ [] ++ high) d (w .halfway) (low ++ two ++ high) (w .layout) stays x own was-ordinary (low ++ high)
+                      (λ z m. (outer-in low (x ∷ []) high m, elsewhere z m)) (every-other low x high);
                   lower = same-headed outside low (filling from to) (λ z m. Memᴰ·append-left high m) (w .lower);
                   upper = same-headed (w .last) high outside (λ z m. Memᴰ·append-right low m) (w .upper);
                   donor = a .0 ∙ w .donor;
@@ -248,10 +237,10 @@ module _ (ws : List ℕ) (h : Heap) (p : Passes ws h) (base : List Entry) (rest 
           free = free;
           whole = λ a b t. (t .0, omega (arith, t .1, t .2 .0, t .2 .1), omega (arith, t .1, t .2 .0, t .2 .1, t .2 .2));
           fits = under-fits;
-          unused = two-unused h x (filling from to) free refl;
+          nothing = two-unused h x (filling from to) free refl;
           used = ap (λ (l : List Entry). usedBytes h (l ++ high)) (sym (append-assoc low (x ∷ []) (filling from to ∷ []))) ∙ g .used;
           last = g .last;
-          opened = g .opened .halfway;
+          halfway = g .opened .halfway;
           lower =
               headed-below (written ws (d .stores)) outside low x (filling (x .place) to) refl
               (headed-cut (written ws (d .stores)) outside low (x ∷ []) (filling from to) (g .opened .lower) .0);
@@ -305,10 +294,10 @@ module _ (ws : List ℕ) (h : Heap) (p : Passes ws h) (base : List Entry) (rest 
           free = free;
           whole = λ a b t. (t .0, omega (arith, t .1, t .2 .0, t .2 .1), omega (arith, t .1, t .2 .0, t .2 .1, t .2 .2));
           fits = over-fits;
-          unused = two-unused h (filling from to) x refl free;
+          nothing = two-unused h (filling from to) x refl free;
           used = ap (usedBytes h) (sym over-chain) ∙ g .used;
           last = x;
-          opened = subst (λ (l : List Entry). Halfway ws h l d) over-stay (g .opened .halfway);
+          halfway = subst (λ (l : List Entry). Halfway ws h l d) over-stay (g .opened .halfway);
           lower = headed-below (written ws (d .stores)) outside low (filling from to) (filling from (blockEnd x)) refl (g .opened .lower);
           upper = g .opened .upper .1;
           donor = g .opened .donor;

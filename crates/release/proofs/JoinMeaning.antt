@@ -113,11 +113,11 @@ pub record Lies (ws : List ℕ) (h : Heap) (c : ℕ) (lower upper : Entry) (u : 
   pub becomes : (k : Kind) × (u .becomes ≡ joinedAs k)
 
 -- the upper end of the result, and the chunk above, which is y
-record Summit (es : List Entry) (e : Entry) (to named : ℕ) (y : Entry) : Type 0 where
-  member : Mem y es
-  place : y .place ≡ to
-  up : blockEnd e ≤ to
-  link : named ≡ to
+pub record Summit (es : List Entry) (e : Entry) (to named : ℕ) (y : Entry) : Type 0 where
+  pub member : Mem y es
+  pub place : y .place ≡ to
+  pub up : blockEnd e ≤ to
+  pub link : named ≡ to
 
 module _ (ws : List ℕ) (h : Heap) (p : Passes ws h) (low : List Entry) (e : Entry) (high : List Entry)
     (split : shape ws (h .bytes) ≡ low ++ e ∷ high) (l : live h e ≡ true) where
@@ -158,7 +158,7 @@ module _ (ws : List ℕ) (h : Heap) (p : Passes ws h) (low : List Entry) (e : En
       let a = around ws h p (butLast low) below (e ∷ high) split-low (omega arith) (omega arith) in
       omega (arith, a .ownBackward, f .flags)
 
-  summit : (u : Bool) → (u ≡ true → isFree h above ≡ true)
+  pub summit : (u : Bool) → (u ≡ true → isFree h above ≡ true)
       → Summit es e (cond u (blockEnd above) (blockEnd e)) (cond u (word ws (blockEnd e) forward) (blockEnd e)) (headOr outside (cond u (drop 1 high) high))
   summit false o =
       record { member = sides .above; place = sides .abovePlace; up = omega arith; link = refl }

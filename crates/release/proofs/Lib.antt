@@ -9,3 +9,5 @@ pub mod AgainLaws
 pub mod GapLaws
 pub mod GapKept
 pub mod ReleaseKept
+pub mod ShrinkKept
+pub mod ReleaseSpares

@@ -16,7 +16,7 @@ use Rattle.rules.specs.Kinds.{ordinaryKind, liveKind, kindOf, live, blockOf, bl
 use Rattle.rules.specs.Check.{usedBytes, Passes}
 use Rattle.rules.specs.Draft.{Spot, asRead, nowUses}
 use Rattle.rules.specs.Join.{release}
-use Rattle.rules.specs.Free.{isLive, freeBlock}
+use Rattle.rules.specs.Free.{isLive, blockSpot, freeBlock}
 use Rattle.rules.proofs.SpotLaws.{Between, is-top, is-donor}
 use Rattle.settling.proofs.LayoutLaws.{Laid, Layout, outer-in, middle-in, layout-replaced}
 use Rattle.settling.proofs.HeaderLaws.{headed-below}
@@ -24,7 +24,7 @@ use Rattle.settling.proofs.HalfwayLaws.{Opened}
 use Rattle.settling.proofs.OpenLaws as opened
 use Rattle.settling.proofs.PictureLaws.{Pictured, Posts, used-replaced}
 use Rattle.release.proofs.JoinMeaning.{here, own}
-use Rattle.release.proofs.ReleaseMeaning.{place, splits}
+use Rattle.release.proofs.ReleaseMeaning.{splits}
 use Rattle.release.proofs.GapLaws.{filling, none-used, Gap}
 use Rattle.release.proofs.GapKept.{Given, gap-given}
 
@@ -80,7 +80,7 @@ module _ (ws : List ℕ) (h : Heap) (p : Passes ws h) (low : List Entry) (e : En
         free = λ _. omega arith;
       }
 
-  filled : Layout (h .bytes) (low ++ filling (e .place) (blockEnd e) ∷ [] ++ high)
+  pub filled : Layout (h .bytes) (low ++ filling (e .place) (blockEnd e) ∷ [] ++ high)
   filled =
       layout-replaced (h .bytes) low (e ∷ []) (filling (e .place) (blockEnd e) ∷ []) high laid-out
       (opened.lows ws h p low e high split between) (opened.highs ws h p low e high split between)
@@ -110,14 +110,14 @@ module _ (ws : List ℕ) (h : Heap) (p : Passes ws h) (low : List Entry) (e : En
         lives = λ x m k. m;
       }
 
-  pub chunk-given : Given ws h p (low ++ high) (h .used - e .size) (nowUses (e .size) 0 (release low e high (asRead ws h)))
+  chunk-given : Given ws h p (low ++ high) (h .used - e .size) (nowUses (e .size) 0 (release low e high (asRead ws h)))
   unfolding asRead
   chunk-given = gap-given ws h p (low ++ high) (h .used - e .size) (e .size) 0 (omega arith) low e high (asRead ws h) refl chunk-gap posts
 
 -- the live block at b is given back
 module _ (ws : List ℕ) (h : Heap) (p : Passes ws h) (b : ℕ) (l : isLive (asRead ws h) b ≡ true) where
   abbrev s : Spot
-  s = place ws h p b l
+  s = blockSpot (asRead ws h) b
 
   split : shape ws (h .bytes) ≡ s .low ++ s .here ∷ s .high
   split = splits ws h p b l .0

@@ -1,8 +1,8 @@
 -- How the chunks of a chain lie, with no word read: one behind the other from 0 to the end of the heap bytes, each with room for its header,
 -- start and end in use; and that they still do where some of them are replaced by others that fill the same bytes. Assumes nothing.
 use mathlib.Core.Path.{_≡_, refl, sym, ap, _∙_}
-use mathlib.Core.Logic.{_⊎_, inl, inr}
-use mathlib.Core.List.{List, [], _∷_, _++_, append-assoc, List·Memᴰ·append-cases, Memᴰ·append-left, Memᴰ·append-right}
+use mathlib.Core.Logic.{_≢_, _⊎_, inl, inr}
+use mathlib.Core.List.{List, [], _∷_, _++_, append-assoc, List·Memᴰ·append-cases, List·Memᴰ·eq-of-singleton, Memᴰ·append-left, Memᴰ·append-right}
 use Prim.Native.Nat.{ℕ, suc, _+_, _*_, _%_, _≤_, _<_}
 use native.Mathlib.Omega.{arith}
 use lib.ListN.{length}
@@ -38,6 +38,14 @@ module _ {A : Type 0} {x : A} (low mid high : List A) where
   pub middle-in : Mem x mid → Mem x (low ++ mid ++ high)
   middle-in m = Memᴰ·append-left high (Memᴰ·append-right low m)
 
+-- all chunks of a list but the one in its middle
+pub every-other : (low : List Entry) (e : Entry) (high : List Entry) (x : Entry) → Mem x (low ++ e ∷ [] ++ high) → x .place ≢ e .place → Mem x (low ++ high)
+every-other low e high x m n = go (among low (e ∷ []) high m)
+  where
+    go : Mem x (low ++ high) ⊎ Mem x (e ∷ []) → Mem x (low ++ high)
+    go (inl k) = k
+    go (inr k) = absurd (n (ap (λ (d : Entry). d .place) (List·Memᴰ·eq-of-singleton k)))
+
 -- tiles put together, and each place has one
 pub tiled-joined : (a b c : ℕ) (xs ys : List Entry) → Tiled a xs b → Tiled b ys c → Tiled a (xs ++ ys) c
 tiled-joined a b c [] ys t u = rw t u
@@ -50,6 +58,10 @@ tiled-rising a b (e ∷ es) t = (omega (arith, t .0), rising-from (suc (e .place
 -- one behind the other, whichever comes first
 abbrev pub Beside : Entry → Entry → Type 0
 Beside d e = (blockEnd d ≤ e .place) ⊎ (blockEnd e ≤ d .place)
+
+pub beside-elsewhere : (d e : Entry) → Beside d e → 8 ≤ d .size → 8 ≤ e .size → d .place ≢ e .place
+beside-elsewhere d e (inl b) s t q = omega arith
+beside-elsewhere d e (inr b) s t q = omega arith
 
 -- a chunk lies inside, with room for its header: two words, and six if it is free, which neither start nor end is
 pub record Laid (bytes : ℕ) (e : Entry) : Type 0 where

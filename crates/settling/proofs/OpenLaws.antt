@@ -4,7 +4,7 @@ use mathlib.Core.Path.{_≡_, refl, sym, ap, subst, _∙_}
 use mathlib.Core.Logic.{_≢_, _⊎_, inl, inr}
 use mathlib.Core.Bool.{true, false, false≢true}
 use mathlib.Core.List.{List, [], _∷_, _++_, append-assoc, List·Memᴰ·head, List·Memᴰ·eq-of-singleton}
-use Prim.Native.Nat.{ℕ, _+_, _≤_, _<_}
+use Prim.Native.Nat.{ℕ, _+_, _<_}
 use native.Mathlib.Omega.{arith}
 use Rattle.lists.specs.Lists.{Mem, headOr, lastOr}
 use Rattle.record.specs.declared.heap.Heap.{Heap}
@@ -13,7 +13,7 @@ use Rattle.rules.specs.Kinds.{ordinary, blockEnd, outside}
 use Rattle.rules.specs.Check.{Passes}
 use Rattle.rules.specs.Draft.{asRead}
 use Rattle.rules.proofs.SpotLaws.{tiled-empty, Between}
-use Rattle.settling.proofs.LayoutLaws.{Beside, Layout, Cuts, layout-read, cuts, outer-beside, among, outer-in}
+use Rattle.settling.proofs.LayoutLaws.{Beside, Layout, Cuts, layout-read, cuts, outer-beside, beside-elsewhere, every-other, among, outer-in}
 use Rattle.settling.proofs.HeaderLaws.{Header, Headed, headed-cut, headed-read}
 use Rattle.settling.proofs.HalfwayLaws.{Halfway, halfway-begins, halfway-fewer, Opened}
 
@@ -29,21 +29,10 @@ module _ (ws : List ℕ) (h : Heap) (p : Passes ws h) (low : List Entry) (e : En
   beside x m = outer-beside (h .bytes) low (e ∷ []) high laid-out x e m (List·Memᴰ·head refl)
 
   pub elsewhere : (x : Entry) → Mem x (low ++ high) → x .place ≢ e .place
-  elsewhere x m = go (beside x m) (laid-out .chunks x (outer-in low (e ∷ []) high m) .some)
-    where
-      go : Beside x e → 8 ≤ x .size → x .place ≢ e .place
-      go (inl k) s = λ q. omega arith
-      go (inr k) s = λ q. omega arith
-
-  pub every-other : (x : Entry) → Mem x (low ++ e ∷ [] ++ high) → x .place ≢ e .place → Mem x (low ++ high)
-  every-other x m n = go (among low (e ∷ []) high m)
-    where
-      go : Mem x (low ++ high) ⊎ Mem x (e ∷ []) → Mem x (low ++ high)
-      go (inl k) = k
-      go (inr k) = absurd (n (ap (λ (d : Entry). d .place) (List·Memᴰ·eq-of-singleton k)))
+  elsewhere x m = beside-elsewhere x e (beside x m) (laid-out .chunks x (outer-in low (e ∷ []) high m) .some) (omega (arith, b .some))
 
   pub outer : (x : Entry) → Mem x (shape ws (h .bytes)) → x .place ≢ e .place → Mem x (low ++ high)
-  outer x m n = every-other x (subst (λ (l : List Entry). Mem x l) whole m) n
+  outer x m n = every-other low e high x (subst (λ (l : List Entry). Mem x l) whole m) n
 
   -- there are chunks below it and above it
   parts : Cuts (h .bytes) low (e ∷ []) high laid-out

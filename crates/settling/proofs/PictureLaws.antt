@@ -40,6 +40,13 @@ pub record Posts (h : Heap) (es : List Entry) : Type 0 where
   pub top : (e : Entry) × Mem e es × ((e .place ≡ h .top .0) × (e .flags ≡ 0) × (blockEnd e + 8 ≡ h .bytes))
   pub donor : 0 < h .donor .0 → (e : Entry) × Mem e es × ((e .place ≡ h .donor .0) × (e .flags ≡ 0) × (h .donor .0 < h .top .0))
 
+pub posts-in : (h : Heap) (es fs : List Entry) → ((e : Entry) → Mem e es → Mem e fs) → Posts h es → Posts h fs
+posts-in h es fs f p =
+    record {
+      top = let t = p .top in (t .0, f (t .0) (t .1), t .2);
+      donor = λ some. let t = p .donor some in (t .0, f (t .0) (t .1), t .2);
+    }
+
 module _ (ws : List ℕ) (h : Heap) (p : Passes ws h) (es : List Entry) (d : Draft) (f : Halfway ws h es d) (y : Layout (h .bytes) es)
     (k : Headed (written ws (d .stores)) outside es outside) (posts : Posts (now h d) es) where
   abbrev words : List ℕ

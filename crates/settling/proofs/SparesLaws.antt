@@ -69,7 +69,7 @@ module _ (P : ℕ → Type 0) where
   Fall [] = Unit {0}
   Fall (s ∷ ss) = P (s .chunk / 4 + s .number) × Fall ss
 
-  pub fall-both : (ss ts : List Store) → Fall ss → Fall ts → Fall (ss ++ ts)
+  fall-both : (ss ts : List Store) → Fall ss → Fall ts → Fall (ss ++ ts)
   fall-both [] ts f g = g
   fall-both (s ∷ ss) ts f g = (f .0, fall-both ss ts (f .1) g)
 
@@ -83,7 +83,7 @@ module _ (P : ℕ → Type 0) where
   fall-below m b (s ∷ ss) f = (b _ (f .0), fall-below m b ss (f .1))
 
   -- the links of the members of a list have it
-  abbrev Links : List ℕ → Type 0
+  abbrev pub Links : List ℕ → Type 0
   Links cs = (c : ℕ) → Mem c cs → P (c / 4 + nextInBin) × P (c / 4 + previousInBin)
 
   meet-falls : (xs ys : List ℕ) → Links xs → Links ys → Fall (meet xs ys)
@@ -172,7 +172,8 @@ module _ (P : ℕ → Type 0) where
         let c : ℕ = e .place in
         let one : Links (c ∷ []) = λ x m. single x m in
         relist-spared i (xs ++ c ∷ ys) (putStores i xs c ys) d s (λ x m. either x (List·Memᴰ·append-cases xs m))
-        (fall-both (meet xs (c ∷ []) ++ meet (c ∷ []) ys) _ (fall-both (meet xs (c ∷ [])) (meet (c ∷ []) ys) (meet-falls xs (c ∷ []) f one) (meet-falls (c ∷ []) ys one g)) (own .2, tt))
+        (fall-both (meet xs (c ∷ []) ++ meet (c ∷ []) ys) _
+        (fall-both (meet xs (c ∷ [])) (meet (c ∷ []) ys) (meet-falls xs (c ∷ []) f one) (meet-falls (c ∷ []) ys one g)) (own .2, tt))
       where
         single : (x : ℕ) → Mem x (e .place ∷ []) → P (x / 4 + nextInBin) × P (x / 4 + previousInBin)
         single x (List·Memᴰ·head q) = rw q (own .0, own .1)
