@@ -70,8 +70,8 @@ split-at-member {c} (List·Memᴰ·tail {x = x} {xs = xs} m) = go (split-at-memb
     go r (no ne) = rw (ne-eqb c x ne) (ap (λ (l : List ℕ). x ∷ l) r)
 
 -- what stands before and after it is of the list
-module _ {A : Type 0} (p : A → Bool) where
-  pub before-from : (cs : List A) {d : A} → Mem d (upTo p cs) → Mem d cs
+module _ (p : ℕ → Bool) where
+  pub before-from : (cs : List ℕ) {d : ℕ} → Mem d (upTo p cs) → Mem d cs
   before-from [] m = absurd (List·Memᴰ·not-nil m)
   before-from (x ∷ xs) {d} m = go (p x) m (λ k. before-from xs k)
     where
@@ -80,7 +80,7 @@ module _ {A : Type 0} (p : A → Bool) where
       go false (List·Memᴰ·head e) f = List·Memᴰ·head e
       go false (List·Memᴰ·tail k) f = List·Memᴰ·tail (f k)
 
-  pub after-from : (cs : List A) {d : A} → Mem d (past p cs) → Mem d cs
+  pub after-from : (cs : List ℕ) {d : ℕ} → Mem d (past p cs) → Mem d cs
   after-from [] m = absurd (List·Memᴰ·not-nil m)
   after-from (x ∷ xs) {d} m = go (p x) m (λ k. after-from xs k)
     where

@@ -2,14 +2,16 @@
 use mathlib.Core.Path.{_≡_, refl, sym, ap, ap₂, _∙_}
 use mathlib.Core.Logic.{_⊎_, inl, inr}
 use mathlib.Core.Bool.{Bool, true, false, not, cond, _&&_, _||_, false≢true}
-use mathlib.Core.List.{List, [], _∷_, map}
+use mathlib.Core.List.{List, [], _∷_, map, List·Memᴰ·head}
 use Prim.Native.Nat.{ℕ, zero, suc, _+_, _*_, _-_, _/_, _≤_, _<_}
 use native.Mathlib.Omega.{arith}
 use lib.Dec.{eqb, ltb}
 use lib.ListN.{length, getD, take, drop}
 use lib.Seq.{getD-take, length-take-le, take-at, drop-at}
-use Rattle.lists.specs.Lists.{numbersFrom}
+use Rattle.grant.proofs.NeedLaws.{need-large, need-eight}
+use Rattle.lists.specs.Lists.{headOr, keep, numbersFrom}
 use Rattle.lists.proofs.ListsLaws.{Decides, less, or-else}
+use Rattle.lists.proofs.MembersLaws.{kept-from}
 use Rattle.opening.proofs.LayoutLaws.{first-below}
 use Rattle.record.specs.declared.answers.Answer.{Answer}
 use Rattle.record.specs.declared.answers.Answer.the-variants.{Done, Returned, Told, Counted, Refused}
@@ -20,8 +22,9 @@ use Rattle.record.specs.Table.{validTable}
 use Rattle.region.specs.Words.{Store, put, word, written}
 use Rattle.region.proofs.WordsLaws.{length-written}
 use Rattle.region.proofs.PrefixLaws.{Below, written-prefix}
-use Rattle.rules.specs.Shape.{Entry, heapBytes}
-use Rattle.rules.specs.Kinds.{overhead, blockOf, blockWords}
+use Rattle.release.proofs.ReleaseSpares.{free-inside}
+use Rattle.rules.specs.Shape.{Entry, shape, heapBytes}
+use Rattle.rules.specs.Kinds.{overhead, blockOf, blockEnd, blockWords, outside, holdsBlock}
 use Rattle.rules.specs.Check.{Fits, Passes, passes, countsOf}
 use Rattle.rules.specs.Draft.{Draft, asRead, alsoWrites}
 use Rattle.rules.specs.Serve.{need, permitted, nowhere}
@@ -35,10 +38,11 @@ use Rattle.rules.specs.Ask.{askChunk, askBin, chunkAnswers, askedSpot, isAsked,
 use Rattle.rules.specs.Calls.{Call, Setup, Allocate, AllocateCleared, Free, Reallocate, SetMerge, Check, AskChunk, AskBin, step}
 use Rattle.rules.proofs.CheckLaws.{passes-iff}
 use Rattle.rules.proofs.EvenLaws.{Agree, same-passes, same-read}
+use Rattle.rules.proofs.SpotLaws.{inside}
 use Rattle.promises.specs.Ways.{ours}
 use Rattle.promises.specs.Odd.{evenWords, oddWord, AlikeButOdd, OddApart}
 use Rattle.promises.proofs.RefusedLaws.{Fitting, fitting-iff, allocating}
-use Rattle.promises.proofs.InsideLaws.{free-below, found-below, cleared-below, resized-below, here-ends}
+use Rattle.promises.proofs.InsideLaws.{found-below, cleared-below, resized-below}
 
 -- the tests before an acceptance have failed
 abbrev Failed : Refusals → Type 0
@@ -78,11 +82,11 @@ module _ (ws : List ℕ) (h : Heap) where
 
   allocate-below : (z : ℕ) → Below even (allocate ws h z .stores)
   unfolding allocate
-  allocate-below z = with-below asFound z (λ p some. found-below ws h p (need overhead z) some)
+  allocate-below z = with-below asFound z (λ p some. found-below ws h p (need overhead z) (need-large z) (need-eight z) some)
 
   cleared-all-below : (count size : ℕ) → Below even (allocateCleared ws h count size .stores)
   unfolding allocateCleared
-  cleared-all-below count size = with-below cleared (count * size) (λ p some. cleared-below ws h p (need overhead (count * size)) some)
+  cleared-all-below count size = with-below cleared (count * size) (λ p some. cleared-below ws h p (need overhead (count * size)) (need-large (count * size)) (need-eight (count * size)) some)
 
   free-all-below : (b : ℕ) → Below even (free ws h b .stores)
   unfolding free asRead
@@ -92,11 +96,12 @@ module _ (ws : List ℕ) (h : Heap) where
       let after = cond none before (freeBlock b before) in
       judged-below even h (made (Returned (changeOf (cond none 0 (blockSpot before b .here .size)) 0)) after)
       (heapFails ws h ∷ (not none && not (isLive before b), NotLive) ∷ (after .homeless, NoBinTakes) ∷ [])
-      (λ (f, _). go (passing f) none)
+      (λ (f, (l, _)). go (passing f) none l)
     where
-      go : Passes ws h → (t : Bool) → Below even (cond t (asRead ws h) (freeBlock b (asRead ws h)) .stores)
-      go p true = tt
-      go p false = rw (← heap-even p) (free-below ws h p b)
+      go : Passes ws h → (t : Bool) → (not t && not (isLive (asRead ws h) b)) ≡ false
+          → Below even (cond t (asRead ws h) (freeBlock b (asRead ws h)) .stores)
+      go p true l = tt
+      go p false l = rw (← heap-even p) (free-inside ws h p b (not-false (isLive (asRead ws h) b) l))
 
   resize-below : (b z : ℕ) → Below even (resize ws h b z .stores)
   unfolding resize
@@ -112,7 +117,9 @@ module _ (ws : List ℕ) (h : Heap) where
       ∷ (ltb (s .here .size) n && nowhere (sourceOf n before), NoRoom)
       ∷ (g .draft .homeless, NoBinTakes)
       ∷ [])
-      (λ (f, (_, (_, (room, _)))). let p = passing f in rw (← heap-even p) (resized-below ws h p b n room))
+      (λ (f, (_, (l, (room, _)))).
+      let p = passing f in
+      rw (← heap-even p) (resized-below ws h p n (need-large z) (need-eight z) b (not-false (isLive before b) l) room))
 
   reallocate-below : (b z : ℕ) → Below even (reallocate ws h b z .stores)
   unfolding reallocate
@@ -186,6 +193,15 @@ copied-same : (c : ℕ) (f g : ℕ → ℕ) (n i : ℕ) → ((k : ℕ) → i ≤
 copied-same c f g zero i e = refl
 copied-same c f g (suc n) i e =
     ap₂ (λ (v : ℕ) (ss : List Store). put c i v ∷ ss) (e i (omega arith) (omega arith)) (copied-same c f g n (suc i) (λ k lo hi. e k (omega arith) (omega arith)))
+
+-- the chunk of a block ends inside the heap; where there is none, what stands for it has no words
+here-ends : (ws : List ℕ) (h : Heap) → Passes ws h → (b : ℕ) → blockEnd (blockSpot (asRead ws h) b .here) ≤ h .bytes
+unfolding asRead
+here-ends ws h p b = go (keep (holdsBlock h b) (shape ws (h .bytes))) refl
+  where
+    go : (ks : List Entry) → keep (holdsBlock h b) (shape ws (h .bytes)) ≡ ks → blockEnd (headOr outside ks) ≤ h .bytes
+    go [] q = omega arith
+    go (k ∷ ks) q = inside ws h p k (kept-from (holdsBlock h b) (shape ws (h .bytes)) (rw q (List·Memᴰ·head refl)) .0) .ends
 
 -- two regions that are alike but for an odd last word
 alike-back : (us vs : List ℕ) → AlikeButOdd us vs → AlikeButOdd vs us
@@ -262,7 +278,7 @@ module _ (us vs : List ℕ) (h : Heap) (a : AlikeButOdd us vs) where
   resized-same p b n =
       let d = asRead us h in
       let old = blockSpot d b .here in
-      let e = here-ends us h p b n in
+      let e = here-ends us h p b in
       let same : (new : Entry) → copied us old new ≡ copied vs old new =
       λ new. copied-same (blockOf new) _ _ (blockWords old) 0 (λ k lo hi. word-same p (blockOf old) k (omega arith)) in
       rw (same (grant n d .granted))

@@ -279,7 +279,7 @@ module _ (ws : List ℕ) (h : Heap) where
       stands r (clearedBin w) = fourth
 
   -- the chunk of a live block is found on the chain
-  live-iff : (b : ℕ) → Decides (isLive (asRead ws h) b) ((e : Entry) × HoldsBlock ws h b e)
+  pub live-iff : (b : ℕ) → Decides (isLive (asRead ws h) b) ((e : Entry) × HoldsBlock ws h b e)
   unfolding asRead
   live-iff b =
       meaning (for-some (holds-iff h b) (shape ws (h .bytes)))

@@ -14,7 +14,7 @@ use Rattle.rules.specs.Check.{Passes, usedBytes, freeBytes}
 use Rattle.rules.specs.Calls.{Check, AskBin}
 use Rattle.promises.specs.Ways.{Way}
 
--- the four figures of a heap whose chain is es
+-- the four figures of a heap that passes and whose chain is es ("The check")
 pub record Right (ws : List ℕ) (h : Heap) (es : List Entry) (c : Counts) : Type 0 where
   -- chunks, start and end among them
   pub chunks : c .chunks ≡ length es
@@ -29,6 +29,7 @@ pub record Right (ws : List ℕ) (h : Heap) (es : List Entry) (c : Counts) : Typ
   -- all but the two ends
   pub sum : c .used + c .free + 2 * endSize ≡ h .bytes
 
+-- the promise: the check answers with these figures, and the questions about a bin with what its list has
 pub record Counting (way : Way) : Type 0 where
   pub check : (ws : List ℕ) (h : Heap) → Passes ws h
       → (c : Counts) × (way Check ws h .answer ≡ Counted c) × Right ws h (shape ws (h .bytes)) c

@@ -19,6 +19,7 @@ pub record AlikeButOdd (us vs : List ℕ) : Type 0 where
   pub length : length us ≡ length vs
   pub words : evenWords us ≡ evenWords vs
 
+-- the promise
 pub record OddApart (way : Way) : Type 0 where
   -- two such regions get the same answer and the same record, and are two such regions afterwards
   pub answer : (call : Call) (h : Heap) (us vs : List ℕ) → AlikeButOdd us vs

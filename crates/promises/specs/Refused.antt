@@ -124,6 +124,7 @@ recordOf Check h = h
 recordOf (AskChunk q p) h = h
 recordOf (AskBin q i) h = h
 
+-- the promise: a refusal is given exactly for the first reason that holds, and nothing is changed by it
 pub record Refusing (way : Way) : Type 0 where
   pub exactly : (call : Call) (ws : List ℕ) (h : Heap) (r : Refusal)
       → (way call ws h .answer ≡ Refused r) ↔ First ws h call r

@@ -37,6 +37,7 @@ abbrev pub OnlyForRoom : Way → Call → List ℕ → Heap → ℕ → Type 0
 OnlyForRoom way call ws h z =
     (way call ws h .answer ≡ Refused NoRoom) ↔ NoneServes ws h (need overhead z)
 
+-- the promise, for each call that asks for room with a permitted size ("The calls": Allocate, Cleared allocate, Reallocate)
 pub record Room (way : Way) : Type 0 where
   pub allocate : (ws : List ℕ) (h : Heap) → Passes ws h → (z : ℕ) → permitted z ≡ true
       → OnlyForRoom way (Allocate z) ws h z
