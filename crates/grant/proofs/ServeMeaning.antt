@@ -99,3 +99,7 @@ module _ (ws : List ℕ) (h : Heap) (p : Passes ws h) (n : ℕ) (large : 24 ≤ 
 
     pub grant-housed : grant n (asRead ws h) .draft .homeless ≡ false
     grant-housed = taken .housed
+
+    -- a grant leaves the table
+    pub grant-table : tableOf (grant n (asRead ws h) .draft .heap) ≡ tableOf h
+    grant-table = ap tableOf (taken .heap)

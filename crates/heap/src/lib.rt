@@ -1,9 +1,10 @@
 // The public calls: each takes the region and the record, and hands the record back beside its answer.
 // Each asks the check first; setup needs none. How chunks are found, joined and written is in the layers below.
-ghost use Rattle.rules.specs.Statements.{Allocates, AllocatesCleared, AsksBin, AsksChunk, Checks, Frees, SetsMerge, SetsUp};
+ghost use Rattle.rules.specs.Statements.{Allocates, AllocatesCleared, AsksBin, AsksChunk, Checks, Frees, Reallocates, SetsMerge, SetsUp};
 use crate::grants::grant_block;
 use crate::replies::change;
 use crate::replies::refused;
+use crate::resize::resize;
 use audit::passes;
 use audit::verdict;
 use grant::need::is_permitted;
@@ -20,6 +21,7 @@ use seek::find_block;
 
 mod grants;
 mod replies;
+mod resize;
 
 pub fn setup(region: &mut [u32], table: &[u32], donor: u32, merge: bool) -> Reply
     ensures { λ r. ⌜ SetsUp (now (region .entry)) (now (table .entry)) donor merge r (now (region .exit)) ⌝ }
@@ -155,4 +157,26 @@ pub fn free(region: &mut [u32], heap: Heap, block: Block) -> Reply
         answer: Answer::Returned(change(size, 0)),
         heap: after,
     }
+}
+
+pub fn reallocate(region: &mut [u32], heap: Heap, block: Block, z: u32) -> Reply
+    ensures { λ r. ⌜ Reallocates (now (region .entry)) heap (block .0) z r (now (region .exit)) ⌝ }
+{
+    if block.0 == 0 {
+        return allocate(region, heap, z);
+    }
+    if !passes(region, heap) {
+        return refused(heap, Refusal::HeapFails);
+    }
+    if !is_permitted(z as u64) {
+        return refused(heap, Refusal::BlockSize);
+    }
+    let sought = find_block(region, heap.bytes, block);
+    let Sought::Found(place) = sought else {
+        return refused(heap, Refusal::NotLive);
+    };
+    let bins = heap.bins as usize;
+    let sizes = heap.sizes;
+    let need = need_of(z);
+    resize(region, &sizes[..bins], heap, place, need)
 }
