@@ -17,7 +17,7 @@ use Rattle.record.specs.declared.heap.Heap.{Heap}
 use Rattle.rules.specs.Check.{Chained}
 use Rattle.rules.specs.Shape.{Entry, shape}
 use Rattle.rules.specs.Kinds.{ordinary}
-use Rattle.rules.proofs.ChainLaws.{Rising, shape-chain}
+use Rattle.rules.proofs.ChainLaws.{Rising, places-once, shape-chain}
 use Rattle.audit.specs.Survey.{marking, markAll}
 use Rattle.audit.proofs.SurveyMeaning.{ChainFacts}
 
@@ -28,30 +28,8 @@ placesOf es = map (λ e. e .place) es
 abbrev pub ordinaries : Heap → List Entry → List ℕ
 ordinaries h es = placesOf (keep (ordinary h) es)
 
-module _ (p : Entry → Bool) where
-  -- places of rising chunks are from the first on, and so all differ
-  kept-from : (c x : ℕ) (es : List Entry) → Rising c es → Mem x (placesOf (keep p es)) → c ≤ x
-  kept-from c x (e ∷ es) r m = go (p e) m (kept-from (suc (e .place)) x es (r .1))
-    where
-      go : (t : Bool) → Mem x (placesOf (cond t (e ∷ keep p es) (keep p es)))
-          → (Mem x (placesOf (keep p es)) → e .place < x) → c ≤ x
-      go true (List·Memᴰ·head q) f = omega (arith, r .0)
-      go true (List·Memᴰ·tail n) f = omega (arith, r .0, f n)
-      go false n f = omega (arith, r .0, f n)
-
-  kept-once : (c : ℕ) (es : List Entry) → Rising c es → Distinct (placesOf (keep p es))
-  kept-once c [] r = tt
-  kept-once c (e ∷ es) r =
-      go (p e) (kept-once (suc (e .place)) es (r .1)) (λ m. omega (arith, kept-from (suc (e .place)) (e .place) es (r .1) m))
-    where
-      go : (t : Bool) → Distinct (placesOf (keep p es))
-          → (Mem (e .place) (placesOf (keep p es)) → ⊥)
-          → Distinct (placesOf (cond t (e ∷ keep p es) (keep p es)))
-      go true d n = (n, d)
-      go false d n = d
-
 pub ordinaries-once : (ws : List ℕ) (h : Heap) → Distinct (ordinaries h (shape ws (h .bytes)))
-ordinaries-once ws h = kept-once (ordinary h) 0 (shape ws (h .bytes)) (shape-chain ws (h .bytes) .rising)
+ordinaries-once ws h = places-once (ordinary h) 0 (shape ws (h .bytes)) (shape-chain ws (h .bytes) .rising)
 
 -- the chunk is at a multiple of 8 that the bitmap has
 abbrev Fit : Entry → Type 0

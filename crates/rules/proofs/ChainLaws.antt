@@ -1,12 +1,14 @@
 -- What holds of the chain of any region, before anything is tested: places go up, so that each has one chunk. Assumes nothing.
 use mathlib.Core.Path.{_≡_, refl, sym, ap, _∙_}
+use mathlib.Core.Bool.{Bool, true, false, cond}
 use mathlib.Core.List.{List, [], _∷_, List·Memᴰ·head, List·Memᴰ·tail, List·Memᴰ·not-nil}
 use Prim.Native.Nat.{ℕ, suc, _≤_, _<_}
 use native.Mathlib.Omega.{arith}
-use Rattle.lists.specs.Lists.{Mem, headOr, lastOr}
+use Rattle.lists.specs.Lists.{Mem, headOr, lastOr, keep, Distinct}
 use Rattle.region.specs.Words.{word, forward}
 use Rattle.rules.specs.Shape.{Entry, flagsAt, shape}
 use Rattle.rules.specs.Kinds.{outside}
+use Rattle.rules.specs.Ask.{placesOf}
 use Rattle.rules.proofs.ShapeLaws.{Up, lastEntry, upEntry, shape-is, chain-by}
 
 -- what holds of the first and of all others holds of each
@@ -36,6 +38,28 @@ same-place c (x ∷ es) r (List·Memᴰ·head p) (List·Memᴰ·tail m) s =
 same-place c (x ∷ es) r (List·Memᴰ·tail n) (List·Memᴰ·head q) s =
     let l = at-least (suc (x .place)) es (r .1) n in let b = ap (λ (y : Entry). y .place) q in absurd (omega arith)
 same-place c (x ∷ es) r (List·Memᴰ·tail n) (List·Memᴰ·tail m) s = same-place (suc (x .place)) es (r .1) n m s
+
+-- and the places of those that a test keeps all differ
+module _ (p : Entry → Bool) where
+  places-from : (c x : ℕ) (es : List Entry) → Rising c es → Mem x (placesOf (keep p es)) → c ≤ x
+  places-from c x (e ∷ es) r m = go (p e) m (places-from (suc (e .place)) x es (r .1))
+    where
+      go : (t : Bool) → Mem x (placesOf (cond t (e ∷ keep p es) (keep p es)))
+          → (Mem x (placesOf (keep p es)) → e .place < x) → c ≤ x
+      go true (List·Memᴰ·head q) f = omega (arith, r .0)
+      go true (List·Memᴰ·tail n) f = omega (arith, r .0, f n)
+      go false n f = omega (arith, r .0, f n)
+
+  pub places-once : (c : ℕ) (es : List Entry) → Rising c es → Distinct (placesOf (keep p es))
+  places-once c [] r = tt
+  places-once c (e ∷ es) r =
+      go (p e) (places-once (suc (e .place)) es (r .1)) (λ m. omega (arith, places-from (suc (e .place)) (e .place) es (r .1) m))
+    where
+      go : (t : Bool) → Distinct (placesOf (keep p es))
+          → (Mem (e .place) (placesOf (keep p es)) → ⊥)
+          → Distinct (placesOf (cond t (e ∷ keep p es) (keep p es)))
+      go true d n = (n, d)
+      go false d n = d
 
 -- what is known of the chain from c on before anything is tested
 pub record Chain (ws : List ℕ) (bytes c : ℕ) (es : List Entry) : Type 0 where

@@ -1,0 +1,158 @@
+-- The check's figures and the answers about a bin are right (`counting`): the ordinary chunks are as many as stand in all lists,
+-- and used + free + 16 = heap bytes. Assumes nothing.
+use mathlib.Core.Path.{_≡_, refl, sym, ap, _∙_}
+use mathlib.Core.Bool.{true, cond}
+use mathlib.Core.List.{List, [], _∷_, List·Memᴰ·head, List·Memᴰ·tail, Memᴰ·map, Memᴰ·cast}
+use Prim.Native.Nat.{ℕ, _+_, _≤_, _<_}
+use native.Mathlib.Omega.{arith}
+use lib.ListN.{length, length-map, drop}
+use borrow.Author.Tests.{lt-ltb}
+use Rattle.bins.proofs.HeapBooks.{member-entry, lists-apart, ordinary-listed}
+use Rattle.lists.specs.Lists.{Mem, headOr, lastOr, keep, total, numbersFrom, gathered, Distinct}
+use Rattle.lists.proofs.MembersLaws.{kept-from, kept-has}
+use Rattle.lists.proofs.CountLaws.{distinct-fits, gathered-length, gathered-from, gathered-has, gathered-once}
+use Rattle.record.specs.declared.answers.Answer.the-variants.{Counted, Told}
+use Rattle.record.specs.declared.heap.Heap.{Heap}
+use Rattle.record.specs.declared.kinds.Kind.{Kind}
+use Rattle.record.specs.declared.kinds.Kind.the-variants.{Start, InUse, Ordinary, Donor, Top, End}
+use Rattle.rules.specs.Shape.{Entry, shape, binList}
+use Rattle.rules.specs.Kinds.{kindOf, liveKind, freeKind, ordinary, isFree, live, blockEnd, outside}
+use Rattle.rules.specs.Check.{Passes, passes, usedBytes, freeBytes, countsOf}
+use Rattle.rules.specs.Draft.{asRead}
+use Rattle.rules.specs.Merge.{check, checked}
+use Rattle.rules.specs.Ask.{placesOf, askBin, shown, firstOf, lastOf}
+use Rattle.rules.specs.Calls.{Check, AskBin, step}
+use Rattle.rules.proofs.ChainLaws.{places-once, shape-chain}
+use Rattle.rules.proofs.CheckLaws.{passes-iff}
+use Rattle.rules.proofs.KindsLaws.{Being, being, kind-start}
+use Rattle.rules.proofs.SpotLaws.{Inside, Between, Tiled, tiled, tiled-up, inside, between, bounds, ends}
+use Rattle.promises.specs.Ways.{ours}
+use Rattle.promises.specs.Counts.{Right, Counting}
+
+-- none is shown as 0
+first-shown : (cs : List ℕ) → shown (firstOf cs) ≡ headOr 0 cs
+first-shown [] = refl
+first-shown (c ∷ cs) = refl
+
+last-shown : (cs : List ℕ) → shown (lastOf cs) ≡ lastOr 0 cs
+last-shown [] = refl
+last-shown (c ∷ cs) = refl
+
+-- nothing lies between a place and one that is not above it
+tiled-none : (a b : ℕ) (ds : List Entry) → Tiled a ds b → b ≤ a → ds ≡ []
+tiled-none a b [] t l = refl
+tiled-none a b (d ∷ ds) t l = let u = tiled-up (blockEnd d) b ds (t .2) in absurd (omega (arith, t .0, t .1))
+
+-- the start is neither used nor free
+start-share : (h : Heap) (s : Entry) (ds : List Entry) → s .place ≡ 0
+    → (usedBytes h (s ∷ ds) ≡ usedBytes h ds) × (freeBytes h (s ∷ ds) ≡ freeBytes h ds)
+start-share h s ds z = rw (← kind-start (h .bytes) (h .donor .0) (h .top .0) s z) (refl, refl)
+
+module _ (ws : List ℕ) (h : Heap) (p : Passes ws h) where
+  abbrev es : List Entry
+  es = shape ws (h .bytes)
+
+  -- the lists of all bins, one after the other, have the places of the ordinary chunks, each once
+  abbrev listed : List ℕ
+  listed = gathered (binList ws h) (numbersFrom 0 (h .bins))
+
+  listed-once : Distinct listed
+  listed-once =
+      gathered-once (binList ws h) (h .bins) 0 (λ i lo hi. p .bins i (omega arith) .once)
+      (λ i j lo l hi c m k. lists-apart ws h p i j (omega arith) (omega arith) (λ q. omega arith) c m k)
+
+  listed-ordinary : (c : ℕ) → Mem c listed → Mem c (placesOf (keep (ordinary h) es))
+  listed-ordinary c m =
+      let g = gathered-from (binList ws h) (h .bins) 0 m in
+      let k = member-entry ws h p (g .0) c (omega (arith, g .1)) (g .2) in
+      Memᴰ·cast (sym (k .1 .place)) (Memᴰ·map (λ (e : Entry). e .place) (kept-has (ordinary h) (k .1 .member) (k .1 .kind)))
+
+  ordinary-in : (c : ℕ) → Mem c (placesOf (keep (ordinary h) es)) → Mem c listed
+  ordinary-in c m = each (keep (ordinary h) es) (λ e k. kept-from (ordinary h) es k) m
+    where
+      each : (ds : List Entry) → ((e : Entry) → Mem e ds → Mem e es × (ordinary h e ≡ true)) → Mem c (placesOf ds) → Mem c listed
+      each (d ∷ ds) f (List·Memᴰ·head q) =
+          let k = f d (List·Memᴰ·head refl) in
+          let b = ordinary-listed ws h p d (k .0) (k .1) in
+          Memᴰ·cast q (gathered-has (binList ws h) (h .bins) 0 (b .0) (omega arith) (omega (arith, b .1)) (b .3))
+      each (d ∷ ds) f (List·Memᴰ·tail n) = each ds (λ e k. f e (List·Memᴰ·tail k)) n
+
+  -- so there are as many
+  ordinary-count : length (keep (ordinary h) es) ≡ total (λ i. length (binList ws h i)) (numbersFrom 0 (h .bins))
+  ordinary-count =
+      let a = distinct-fits listed (placesOf (keep (ordinary h) es)) listed-once listed-ordinary in
+      let b = distinct-fits (placesOf (keep (ordinary h) es)) listed (places-once (ordinary h) 0 es (shape-chain ws (h .bytes) .rising)) ordinary-in in
+      omega (arith, length-map (keep (ordinary h) es) (λ (e : Entry). e .place), gathered-length (binList ws h) (numbersFrom 0 (h .bins)))
+
+  -- from a place above the start on: used and free bytes, and the end's 8
+  shares : (a : ℕ) (ds : List Entry) → 0 < a → a < h .bytes → Tiled a ds (h .bytes) → ((e : Entry) → Mem e ds → Mem e es)
+      → usedBytes h ds + freeBytes h ds + 8 + a ≡ h .bytes
+  shares a [] lo hi t f = absurd (omega arith)
+  shares a (x ∷ ds) lo hi t f =
+      go (kindOf h x) (being (h .bytes) (h .donor .0) (h .top .0) x) (inside ws h p x (f x (List·Memᴰ·head refl)))
+      (λ l r. shares (blockEnd x) ds l r (t .2) (λ e m. f e (List·Memᴰ·tail m)))
+    where
+      middle : 0 < x .place → (x .place + 8 ≡ h .bytes → ⊥) → Inside ws h x → Between h x
+      middle l n i = between ws h p x (f x (List·Memᴰ·head refl)) l (omega arith)
+
+      go : (k : Kind) → Being (h .bytes) (h .donor .0) (h .top .0) x k → Inside ws h x
+          → (0 < blockEnd x → blockEnd x < h .bytes → usedBytes h ds + freeBytes h ds + 8 + blockEnd x ≡ h .bytes)
+          → total (λ e. e .size) (cond (liveKind k) (x ∷ keep (live h) ds) (keep (live h) ds))
+          + total (λ e. e .size) (cond (freeKind k) (x ∷ keep (isFree h) ds) (keep (isFree h) ds)) + 8 + a ≡ h .bytes
+      go Start b i r = absurd (omega (arith, b, t .0))
+      go InUse b i r = let k = middle (b .0) (b .1) i in let s = r (omega arith) (omega arith) in omega (arith, t .0)
+      go Ordinary b i r = let k = middle (b .0) (b .1) i in let s = r (omega arith) (omega arith) in omega (arith, t .0)
+      go Donor b i r = let k = middle (b .0) (b .1) i in let s = r (omega arith) (omega arith) in omega (arith, t .0)
+      go Top b i r = let k = middle (b .0) (b .1) i in let s = r (omega arith) (omega arith) in omega (arith, t .0)
+      go End b i r = rw (tiled-none (blockEnd x) (h .bytes) ds (t .2) (omega (arith, b .1))) (omega (arith, b .1, t .0))
+
+  -- all but the two ends
+  sum : usedBytes h es + freeBytes h es + 16 ≡ h .bytes
+  sum =
+      let n = ends ws h p in
+      let b = bounds ws h p in
+      let t : Tiled 0 (headOr outside es ∷ drop 1 es) (h .bytes) = rw (n .begins) at (tiled ws h p) in
+      let r = shares (blockEnd (headOr outside es)) (drop 1 es) (omega arith) (omega arith) (t .2) (λ e m. rw (n .begins) (List·Memᴰ·tail m)) in
+      let k = start-share h (headOr outside es) (drop 1 es) (n .startPlace) in
+      omega (arith, ap (usedBytes h) (n .begins) ∙ k .0, ap (freeBytes h) (n .begins) ∙ k .1, r, n .startPlace, n .startSize)
+
+  right : Right ws h es (countsOf h es)
+  right =
+      record {
+        chunks = refl;
+        ordinary = refl;
+        listed = ordinary-count;
+        used = refl;
+        recorded = sym (p .used);
+        free = refl;
+        sum = sum;
+      }
+
+  well : passes ws h ≡ true
+  well = passes-iff ws h .1 p
+
+  checks : ours Check ws h .answer ≡ Counted (countsOf h es)
+  unfolding ours step check checked
+  checks = rw well
+
+  module _ (i : ℕ) (l : i < h .bins) where
+    counts : ours (AskBin 1 i) ws h .answer ≡ Told (length (binList ws h i))
+    unfolding ours step askBin asRead
+    counts = rw (well, lt-ltb i (h .bins) l)
+
+    firsts : ours (AskBin 2 i) ws h .answer ≡ Told (headOr 0 (binList ws h i))
+    unfolding ours step askBin asRead
+    firsts = rw (well, lt-ltb i (h .bins) l) (ap Told (first-shown (binList ws h i)))
+
+    lasts : ours (AskBin 3 i) ws h .answer ≡ Told (lastOr 0 (binList ws h i))
+    unfolding ours step askBin asRead
+    lasts = rw (well, lt-ltb i (h .bins) l) (ap Told (last-shown (binList ws h i)))
+
+pub counting : Counting ours
+counting =
+    record {
+      check = λ ws h p. (countsOf h (shape ws (h .bytes)), checks ws h p, right ws h p);
+      count = counts;
+      first = firsts;
+      last = lasts;
+    }

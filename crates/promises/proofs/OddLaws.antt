@@ -1,0 +1,393 @@
+-- An odd last word of the region decides nothing and is not written, whatever the call (`odd-apart`). Assumes nothing.
+use mathlib.Core.Path.{_≡_, refl, sym, ap, ap₂, _∙_}
+use mathlib.Core.Logic.{_⊎_, inl, inr}
+use mathlib.Core.Bool.{Bool, true, false, not, cond, _&&_, _||_, false≢true}
+use mathlib.Core.List.{List, [], _∷_, map, List·Memᴰ·head}
+use Prim.Native.Nat.{ℕ, zero, suc, _+_, _*_, _-_, _/_, _≤_, _<_}
+use native.Mathlib.Omega.{arith}
+use lib.Dec.{eqb, ltb}
+use lib.ListN.{length, getD, take, drop}
+use lib.Seq.{getD-take, length-take-le, take-at, drop-at}
+use Rattle.grant.proofs.NeedLaws.{need-large, need-eight}
+use Rattle.lists.specs.Lists.{headOr, keep, numbersFrom}
+use Rattle.lists.proofs.ListsLaws.{Decides, less, or-else}
+use Rattle.lists.proofs.MembersLaws.{kept-from}
+use Rattle.opening.proofs.LayoutLaws.{first-below}
+use Rattle.record.specs.declared.answers.Answer.{Answer}
+use Rattle.record.specs.declared.answers.Answer.the-variants.{Done, Returned, Told, Counted, Refused}
+use Rattle.record.specs.declared.answers.Refusal.the-variants.{RegionLength, BadTable, DonorSize, HeapFails, BlockSize, NotLive, NoRoom, NotThere, NoBinTakes}
+use Rattle.record.specs.declared.heap.Heap.{Heap}
+use Rattle.record.specs.Heap.{empty, withMerge}
+use Rattle.record.specs.Table.{validTable}
+use Rattle.region.specs.Words.{Store, put, word, written}
+use Rattle.region.proofs.WordsLaws.{length-written}
+use Rattle.region.proofs.PrefixLaws.{Below, written-prefix}
+use Rattle.release.proofs.ReleaseSpares.{free-inside}
+use Rattle.rules.specs.Shape.{Entry, shape, heapBytes}
+use Rattle.rules.specs.Kinds.{overhead, blockOf, blockEnd, blockWords, outside, holdsBlock}
+use Rattle.rules.specs.Check.{Fits, Passes, passes, countsOf}
+use Rattle.rules.specs.Draft.{Draft, asRead, alsoWrites}
+use Rattle.rules.specs.Serve.{need, permitted, nowhere}
+use Rattle.rules.specs.Outcome.{Outcome, Refusals, judged, heapFails, unchanged, made, grants, changeOf}
+use Rattle.rules.specs.Setup.{setup, donorFits, fresh, firstHeaders}
+use Rattle.rules.specs.Allocate.{sourceOf, grant, asFound, cleared, allocateWith, allocate, allocateCleared}
+use Rattle.rules.specs.Free.{isLive, blockSpot, freeBlock, free}
+use Rattle.rules.specs.Reallocate.{copied, resized, resize, reallocate}
+use Rattle.rules.specs.Merge.{setMerge, checked, check}
+use Rattle.rules.specs.Ask.{askChunk, askBin, chunkAnswers, askedSpot, isAsked, isThere, answerTo, binAnswers}
+use Rattle.rules.specs.Calls.{Call, Setup, Allocate, AllocateCleared, Free, Reallocate, SetMerge, Check, AskChunk, AskBin, step}
+use Rattle.rules.proofs.CheckLaws.{passes-iff}
+use Rattle.rules.proofs.EvenLaws.{Agree, same-passes, same-read}
+use Rattle.rules.proofs.SpotLaws.{inside}
+use Rattle.promises.specs.Ways.{ours}
+use Rattle.promises.specs.Odd.{evenWords, oddWord, AlikeButOdd, OddApart}
+use Rattle.promises.proofs.RefusedLaws.{Fitting, fitting-iff, allocating}
+use Rattle.promises.proofs.InsideLaws.{found-below, cleared-below, resized-below}
+
+-- the tests before an acceptance have failed
+abbrev Failed : Refusals → Type 0
+Failed [] = Unit {0}
+Failed (t ∷ ts) = (t .0 ≡ false) × Failed ts
+
+-- a refusal writes nothing
+judged-below : (m : ℕ) (h : Heap) (o : Outcome) (ts : Refusals) → (Failed ts → Below m (o .stores)) → Below m (judged h ts o .stores)
+judged-below m h o [] f = f tt
+judged-below m h o ((true, r) ∷ ts) f = tt
+judged-below m h o ((false, r) ∷ ts) f = judged-below m h o ts (λ k. f (refl, k))
+
+not-false : (t : Bool) → not t ≡ false → t ≡ true
+not-false true q = refl
+not-false false q = sym q
+
+-- each store falls below an odd last word
+module _ (ws : List ℕ) (h : Heap) where
+  abbrev even : ℕ
+  even = length ws / 2 * 2
+
+  passing : not (passes ws h) ≡ false → Passes ws h
+  passing q = passes-iff ws h .0 (not-false (passes ws h) q)
+
+  heap-even : Passes ws h → h .bytes / 4 ≡ even
+  heap-even p = omega (arith, p .fits .bytes)
+
+  -- a block that is granted, whatever is written into it
+  with-below : (fill : Entry → List Store) (z : ℕ)
+      → ((p : Passes ws h) → nowhere (sourceOf (need overhead z) (asRead ws h)) ≡ false
+      → let g = grant (need overhead z) (asRead ws h) in Below (h .bytes / 4) (alsoWrites (fill (g .granted)) (g .draft) .stores))
+      → Below even (allocateWith fill ws h z .stores)
+  with-below fill z b =
+      let g = grant (need overhead z) (asRead ws h) in
+      judged-below even h (made (grants 0 (g .granted)) (alsoWrites (fill (g .granted)) (g .draft))) (allocating ws h z)
+      (λ (f, (_, (some, _))). let p = passing f in rw (← heap-even p) (b p some))
+
+  allocate-below : (z : ℕ) → Below even (allocate ws h z .stores)
+  unfolding allocate
+  allocate-below z = with-below asFound z (λ p some. found-below ws h p (need overhead z) (need-large z) (need-eight z) some)
+
+  cleared-all-below : (count size : ℕ) → Below even (allocateCleared ws h count size .stores)
+  unfolding allocateCleared
+  cleared-all-below count size = with-below cleared (count * size) (λ p some. cleared-below ws h p (need overhead (count * size)) (need-large (count * size)) (need-eight (count * size)) some)
+
+  free-all-below : (b : ℕ) → Below even (free ws h b .stores)
+  unfolding free asRead
+  free-all-below b =
+      let before = asRead ws h in
+      let none = eqb b 0 in
+      let after = cond none before (freeBlock b before) in
+      judged-below even h (made (Returned (changeOf (cond none 0 (blockSpot before b .here .size)) 0)) after)
+      (heapFails ws h ∷ (not none && not (isLive before b), NotLive) ∷ (after .homeless, NoBinTakes) ∷ [])
+      (λ (f, (l, _)). go (passing f) none l)
+    where
+      go : Passes ws h → (t : Bool) → (not t && not (isLive (asRead ws h) b)) ≡ false
+          → Below even (cond t (asRead ws h) (freeBlock b (asRead ws h)) .stores)
+      go p true l = tt
+      go p false l = rw (← heap-even p) (free-inside ws h p b (not-false (isLive (asRead ws h) b) l))
+
+  resize-below : (b z : ℕ) → Below even (resize ws h b z .stores)
+  unfolding resize
+  resize-below b z =
+      let n = need overhead z in
+      let before = asRead ws h in
+      let s = blockSpot before b in
+      let g = resized ws s n before in
+      judged-below even h (made (grants (s .here .size) (g .granted)) (g .draft))
+      (heapFails ws h
+      ∷ (not (permitted z), BlockSize)
+      ∷ (not (isLive before b), NotLive)
+      ∷ (ltb (s .here .size) n && nowhere (sourceOf n before), NoRoom)
+      ∷ (g .draft .homeless, NoBinTakes)
+      ∷ [])
+      (λ (f, (_, (l, (room, _)))).
+      let p = passing f in
+      rw (← heap-even p) (resized-below ws h p n (need-large z) (need-eight z) b (not-false (isLive before b) l) room))
+
+  reallocate-below : (b z : ℕ) → Below even (reallocate ws h b z .stores)
+  unfolding reallocate
+  reallocate-below b z = go (eqb b 0)
+    where
+      go : (t : Bool) → Below even (cond t (allocate ws h z) (resize ws h b z) .stores)
+      go true = allocate-below z
+      go false = resize-below b z
+
+  setup-below : (table : List ℕ) (donor : ℕ) (merge : Bool) → Below even (setup ws table donor merge .stores)
+  unfolding setup
+  setup-below table donor merge =
+      let bytes = heapBytes (length ws) in
+      judged-below even empty (record { answer = Done; heap = fresh bytes table donor merge; stores = firstHeaders bytes donor })
+      ((ltb (length ws) 10 || ltb 16384 (length ws), RegionLength)
+      ∷ (not (validTable table), BadTable)
+      ∷ (not (donorFits bytes donor), DonorSize)
+      ∷ [])
+      (λ (size, (_, (fits, _))).
+      let some : length ws < 10 → ⊥ = λ l. false≢true (sym size ∙ length-iff .1 (inl l)) in
+      let few : 16384 < length ws → ⊥ = λ l. false≢true (sym size ∙ length-iff .1 (inr l)) in
+      rw (← whole) (first-below bytes donor (fitting (omega arith) (fitting-iff ws donor .0 (not-false (donorFits bytes donor) fits))) (omega arith)))
+    where
+      length-iff : Decides (ltb (length ws) 10 || ltb 16384 (length ws)) ((length ws < 10) ⊎ (16384 < length ws))
+      length-iff = or-else (less (length ws) 10) (less 16384 (length ws))
+
+      whole : heapBytes (length ws) / 4 ≡ even
+      whole = omega arith
+
+      fitting : 10 ≤ length ws → Fitting ws donor → donor + 40 ≤ heapBytes (length ws)
+      fitting some (inl z) = omega arith
+      fitting some (inr (k, l)) = omega arith
+
+  merge-below : (on : Bool) → Below even (setMerge ws h on .stores)
+  unfolding setMerge
+  merge-below on = judged-below even h (unchanged (withMerge h on) Done) (heapFails ws h ∷ []) (λ _. tt)
+
+  question-below : (a : Answer) (t : Bool) → Below even (judged h (heapFails ws h ∷ (t, NotThere) ∷ []) (unchanged h a) .stores)
+  question-below a t = judged-below even h (unchanged h a) (heapFails ws h ∷ (t, NotThere) ∷ []) (λ _. tt)
+
+  stores-below : (call : Call) → Below even (step call ws h .stores)
+  unfolding step check askChunk askBin
+  stores-below (Setup table donor merge) = setup-below table donor merge
+  stores-below (Allocate z) = allocate-below z
+  stores-below (AllocateCleared count size) = cleared-all-below count size
+  stores-below (Free b) = free-all-below b
+  stores-below (Reallocate b z) = reallocate-below b z
+  stores-below (SetMerge on) = merge-below on
+  stores-below Check = tt
+  stores-below (AskChunk q p) =
+      let d = asRead ws h in
+      let answers = chunkAnswers d (askedSpot d q p) in
+      question-below (Told (answerTo q answers)) (not (isAsked q answers) || not (isThere d q p))
+  stores-below (AskBin q i) =
+      let answers = binAnswers (asRead ws h .lists i) in
+      question-below (Told (answerTo q answers)) (not (isAsked q answers) || not (ltb i (h .bins)))
+
+-- two tests that decide facts which follow from each other are the same
+same-test : {t u : Bool} {P Q : Type 0} → Decides t P → Decides u Q → (P → Q) → (Q → P) → t ≡ u
+same-test {t} {u} {P} {Q} = go t u
+  where
+    go : (t u : Bool) → Decides t P → Decides u Q → (P → Q) → (Q → P) → t ≡ u
+    go true true d e f g = refl
+    go true false d e f g = sym (e .1 (f (d .0 refl)))
+    go false true d e f g = d .1 (g (e .0 refl))
+    go false false d e f g = refl
+
+-- words copied from two regions that agree there
+copied-same : (c : ℕ) (f g : ℕ → ℕ) (n i : ℕ) → ((k : ℕ) → i ≤ k → k < i + n → f k ≡ g k)
+    → map (λ k. put c k (f k)) (numbersFrom i n) ≡ map (λ k. put c k (g k)) (numbersFrom i n)
+copied-same c f g zero i e = refl
+copied-same c f g (suc n) i e =
+    ap₂ (λ (v : ℕ) (ss : List Store). put c i v ∷ ss) (e i (omega arith) (omega arith)) (copied-same c f g n (suc i) (λ k lo hi. e k (omega arith) (omega arith)))
+
+-- the chunk of a block ends inside the heap; where there is none, what stands for it has no words
+here-ends : (ws : List ℕ) (h : Heap) → Passes ws h → (b : ℕ) → blockEnd (blockSpot (asRead ws h) b .here) ≤ h .bytes
+unfolding asRead
+here-ends ws h p b = go (keep (holdsBlock h b) (shape ws (h .bytes))) refl
+  where
+    go : (ks : List Entry) → keep (holdsBlock h b) (shape ws (h .bytes)) ≡ ks → blockEnd (headOr outside ks) ≤ h .bytes
+    go [] q = omega arith
+    go (k ∷ ks) q = inside ws h p k (kept-from (holdsBlock h b) (shape ws (h .bytes)) (rw q (List·Memᴰ·head refl)) .0) .ends
+
+-- two regions that are alike but for an odd last word
+alike-back : (us vs : List ℕ) → AlikeButOdd us vs → AlikeButOdd vs us
+alike-back us vs a = record { length = sym (a .length); words = sym (a .words) }
+
+fits-alike : (us vs : List ℕ) (h : Heap) → AlikeButOdd us vs → Fits us h → Fits vs h
+fits-alike us vs h a f =
+    let l = a .length in
+    record { enough = omega arith; notTooMany = omega arith; bytes = f .bytes ∙ omega arith }
+
+agrees : (us vs : List ℕ) (h : Heap) → AlikeButOdd us vs → Fits us h → Agree (h .bytes / 4) us vs
+agrees us vs h a f i l =
+    let e = a .length in
+    sym (getD-take (length us / 2 * 2) us i 0 (omega (arith, f .bytes)))
+    ∙ ap (λ (w : List ℕ). getD w i 0) (a .words)
+    ∙ getD-take (length vs / 2 * 2) vs i 0 (omega (arith, f .bytes))
+
+passes-alike : (us vs : List ℕ) (h : Heap) → AlikeButOdd us vs → Passes us h → Passes vs h
+passes-alike us vs h a p = same-passes us vs h (agrees us vs h a (p .fits)) p (fits-alike us vs h a (p .fits))
+
+module _ (us vs : List ℕ) (h : Heap) (a : AlikeButOdd us vs) where
+  test-same : passes us h ≡ passes vs h
+  test-same = same-test (passes-iff us h) (passes-iff vs h) (passes-alike us vs h a) (passes-alike vs us h (alike-back us vs a))
+
+  -- what is read of both is the same if they pass
+  read-same : passes us h ≡ true → asRead us h ≡ asRead vs h
+  read-same q = let p = passes-iff us h .0 q in sym (same-read us vs h (agrees us vs h a (p .fits)) p)
+
+  word-same : Passes us h → (c k : ℕ) → c / 4 + k < h .bytes / 4 → word us c k ≡ word vs c k
+  unfolding word
+  word-same p c k l = agrees us vs h a (p .fits) (c / 4 + k) l
+
+  -- by what the check says: refused alike, or read alike
+  module _ (F : Bool → Draft → Outcome) (fails : (d e : Draft) → F false d ≡ F false e) where
+    by-reading : F (passes us h) (asRead us h) ≡ F (passes vs h) (asRead vs h)
+    by-reading = go (passes us h) refl
+      where
+        go : (t : Bool) → passes us h ≡ t → F (passes us h) (asRead us h) ≡ F (passes vs h) (asRead vs h)
+        go true q = rw (read-same q, test-same) refl
+        go false q = rw (← test-same, q) (fails (asRead us h) (asRead vs h))
+
+  with-same : (fill : Entry → List Store) (z : ℕ) → allocateWith fill us h z ≡ allocateWith fill vs h z
+  with-same fill z =
+      let n = need overhead z in
+      by-reading
+      (λ t d.
+      judged h
+      ((not t, HeapFails) ∷ (not (permitted z), BlockSize) ∷ (nowhere (sourceOf n d), NoRoom) ∷ (grant n d .draft .homeless, NoBinTakes) ∷ [])
+      (made (grants 0 (grant n d .granted)) (alsoWrites (fill (grant n d .granted)) (grant n d .draft))))
+      (λ d e. refl)
+
+  allocate-same : (z : ℕ) → allocate us h z ≡ allocate vs h z
+  unfolding allocate
+  allocate-same z = with-same asFound z
+
+  cleared-same : (count size : ℕ) → allocateCleared us h count size ≡ allocateCleared vs h count size
+  unfolding allocateCleared
+  cleared-same count size = with-same cleared (count * size)
+
+  free-same : (b : ℕ) → free us h b ≡ free vs h b
+  unfolding free
+  free-same b =
+      let none = eqb b 0 in
+      by-reading
+      (λ t d.
+      judged h
+      ((not t, HeapFails) ∷ (not none && not (isLive d b), NotLive) ∷ (cond none d (freeBlock b d) .homeless, NoBinTakes) ∷ [])
+      (made (Returned (changeOf (cond none 0 (blockSpot d b .here .size)) 0)) (cond none d (freeBlock b d))))
+      (λ d e. refl)
+
+  -- a block that is moved is copied from the same words
+  resized-same : Passes us h → (b n : ℕ) → let d = asRead us h in resized us (blockSpot d b) n d ≡ resized vs (blockSpot d b) n d
+  unfolding resized
+  resized-same p b n =
+      let d = asRead us h in
+      let old = blockSpot d b .here in
+      let e = here-ends us h p b in
+      let same : (new : Entry) → copied us old new ≡ copied vs old new =
+      λ new. copied-same (blockOf new) _ _ (blockWords old) 0 (λ k lo hi. word-same p (blockOf old) k (omega arith)) in
+      rw (same (grant n d .granted))
+
+  resize-same : (b z : ℕ) → resize us h b z ≡ resize vs h b z
+  unfolding resize
+  resize-same b z = go (passes us h) refl ∙ by-reading (by vs) (λ d e. refl)
+    where
+      by : List ℕ → Bool → Draft → Outcome
+      by ws t d =
+          let n = need overhead z in
+          let s = blockSpot d b in
+          let g = resized ws s n d in
+          judged h
+          ((not t, HeapFails)
+          ∷ (not (permitted z), BlockSize)
+          ∷ (not (isLive d b), NotLive)
+          ∷ (ltb (s .here .size) n && nowhere (sourceOf n d), NoRoom)
+          ∷ (g .draft .homeless, NoBinTakes)
+          ∷ [])
+          (made (grants (s .here .size) (g .granted)) (g .draft))
+
+      go : (t : Bool) → passes us h ≡ t → by us (passes us h) (asRead us h) ≡ by vs (passes us h) (asRead us h)
+      go true q = rw (resized-same (passes-iff us h .0 q) b (need overhead z))
+      go false q = rw q
+
+  reallocate-same : (b z : ℕ) → reallocate us h b z ≡ reallocate vs h b z
+  unfolding reallocate
+  reallocate-same b z = ap₂ (cond (eqb b 0)) (allocate-same z) (resize-same b z)
+
+  merge-same : (on : Bool) → setMerge us h on ≡ setMerge vs h on
+  unfolding setMerge
+  merge-same on = by-reading (λ t d. judged h ((not t, HeapFails) ∷ []) (unchanged (withMerge h on) Done)) (λ d e. refl)
+
+  check-same : check us h ≡ check vs h
+  unfolding check checked asRead
+  check-same = by-reading (λ t d. unchanged h (cond t (Counted (countsOf h (d .chain))) (Refused HeapFails))) (λ d e. refl)
+
+  chunk-same : (q p : ℕ) → askChunk us h q p ≡ askChunk vs h q p
+  unfolding askChunk
+  chunk-same q p =
+      by-reading
+      (λ t d.
+      let answers = chunkAnswers d (askedSpot d q p) in
+      judged h ((not t, HeapFails) ∷ (not (isAsked q answers) || not (isThere d q p), NotThere) ∷ []) (unchanged h (Told (answerTo q answers))))
+      (λ d e. refl)
+
+  bin-same : (q i : ℕ) → askBin us h q i ≡ askBin vs h q i
+  unfolding askBin
+  bin-same q i =
+      by-reading
+      (λ t d.
+      let answers = binAnswers (d .lists i) in
+      judged h ((not t, HeapFails) ∷ (not (isAsked q answers) || not (ltb i (h .bins)), NotThere) ∷ []) (unchanged h (Told (answerTo q answers))))
+      (λ d e. refl)
+
+  setup-same : (table : List ℕ) (donor : ℕ) (merge : Bool) → setup us table donor merge ≡ setup vs table donor merge
+  unfolding setup
+  setup-same table donor merge = rw (a .length)
+
+  step-same : (call : Call) → step call us h ≡ step call vs h
+  unfolding step
+  step-same (Setup table donor merge) = setup-same table donor merge
+  step-same (Allocate z) = allocate-same z
+  step-same (AllocateCleared count size) = cleared-same count size
+  step-same (Free b) = free-same b
+  step-same (Reallocate b z) = reallocate-same b z
+  step-same (SetMerge on) = merge-same on
+  step-same Check = check-same
+  step-same (AskChunk q p) = chunk-same q p
+  step-same (AskBin q i) = bin-same q i
+
+-- a region after stores below its odd word
+module _ (ws : List ℕ) (ss : List Store) (b : Below (length ws / 2 * 2) ss) where
+  abbrev even-words : ℕ
+  even-words = length ws / 2 * 2
+
+  prefix-length : length (written (take even-words ws) ss) ≡ even-words
+  prefix-length = length-written ss (take even-words ws) ∙ length-take-le even-words ws (omega arith)
+
+  even-written : evenWords (written ws ss) ≡ written (evenWords ws) ss
+  even-written =
+      rw (length-written ss ws, ← written-prefix even-words ss ws b)
+      (take-at (written (take even-words ws) ss) (drop even-words ws) even-words prefix-length)
+
+  odd-written : oddWord (written ws ss) ≡ oddWord ws
+  odd-written =
+      rw (length-written ss ws, ← written-prefix even-words ss ws b)
+      (drop-at (written (take even-words ws) ss) (drop even-words ws) even-words prefix-length)
+
+words-alike : (call : Call) (h : Heap) (us vs : List ℕ) → AlikeButOdd us vs → AlikeButOdd (ours call us h .words) (ours call vs h .words)
+unfolding ours
+words-alike call h us vs a =
+    let s = step call us h .stores in
+    let t = step call vs h .stores in
+    record {
+      length = length-written s us ∙ a .length ∙ sym (length-written t vs);
+      words =
+          even-written us s (stores-below us h call)
+          ∙ ap₂ written (a .words) (ap (λ (o : Outcome). o .stores) (step-same us vs h a call))
+          ∙ sym (even-written vs t (stores-below vs h call));
+    }
+
+pub odd-apart : OddApart ours
+unfolding ours
+odd-apart =
+    record {
+      answer = λ call h us vs a. ap (λ (o : Outcome). o .answer) (step-same us vs h a call);
+      heap = λ call h us vs a. ap (λ (o : Outcome). o .heap) (step-same us vs h a call);
+      words = words-alike;
+      kept = λ call h ws. odd-written ws (step call ws h .stores) (stores-below ws h call);
+    }

@@ -1,0 +1,6 @@
+pub mod Ways
+pub mod Room
+pub mod Counts
+pub mod Determined
+pub mod Refused
+pub mod Odd

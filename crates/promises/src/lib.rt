@@ -1,0 +1,1 @@
+// No code: what the rules promise of every call (specs/), proved of the rules (proofs/).
