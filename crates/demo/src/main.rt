@@ -1,0 +1,119 @@
+// The demonstration: a heap of 64 words, nine calls, and then the heap as it stands, chunk by chunk.
+// What is printed is asked of the heap by its public calls alone.
+use io::print_decimal;
+use io::write_all;
+use record::answers::Answer;
+use record::heap::Heap;
+use region::Block;
+
+const NEXT: u32 = 4;
+
+const BIN: u32 = 1;
+
+const SIZE: u32 = 8;
+
+const TYPE: u32 = 9;
+
+fn told(answer: Answer) -> u32 {
+    match answer {
+        Answer::Done => 0,
+        Answer::Granted(_, _) => 0,
+        Answer::Returned(_) => 0,
+        Answer::Told(value) => value,
+        Answer::Counted(_) => 0,
+        Answer::Refused(_) => 0,
+    }
+}
+
+fn ask(region: &mut [u32], heap: Heap, question: u32, chunk: u32) -> u32 {
+    let reply = heap::ask_chunk(region, heap, question, chunk);
+    let answer = reply.answer;
+    told(answer)
+}
+
+fn print_number(n: u32) {
+    print_decimal(1, n as u64);
+    write_all(1, b" ");
+}
+
+// Free chunks by what the record says of them; an ordinary one with its bin.
+fn print_free(region: &mut [u32], heap: Heap, chunk: u32) {
+    if chunk == heap.donor.0 {
+        write_all(1, b"donor\n");
+        return;
+    }
+    if chunk == heap.top.0 {
+        write_all(1, b"top\n");
+        return;
+    }
+    write_all(1, b"free ");
+    print_decimal(1, ask(region, heap, BIN, chunk) as u64);
+    write_all(1, b"\n");
+}
+
+fn print_kind(region: &mut [u32], heap: Heap, chunk: u32) {
+    if chunk == 0 {
+        write_all(1, b"start\n");
+        return;
+    }
+    if ask(region, heap, NEXT, chunk) == 0 {
+        write_all(1, b"end\n");
+        return;
+    }
+    if ask(region, heap, TYPE, chunk) == 1 {
+        write_all(1, b"inuse\n");
+        return;
+    }
+    print_free(region, heap, chunk);
+}
+
+fn print_chunk(region: &mut [u32], heap: Heap, chunk: u32) {
+    print_number(chunk);
+    print_number(ask(region, heap, SIZE, chunk));
+    print_kind(region, heap, chunk);
+}
+
+// A heap of 64 words has no more than 32 chunks.
+fn print_chunks(region: &mut [u32], heap: Heap) {
+    let mut chunk = 0;
+    let mut left = 32u32;
+    while left != 0 {
+        print_chunk(region, heap, chunk);
+        chunk = ask(region, heap, NEXT, chunk);
+        if chunk == 0 {
+            return;
+        }
+        left -= 1;
+    }
+}
+
+// Calls 1 to 4: the first from the donor, which has too little to spare from then on, the others from the top.
+fn fill(region: &mut [u32], fresh: Heap) -> Heap {
+    let first = heap::allocate(region, fresh, 16).heap;
+    let second = heap::allocate(region, first, 17).heap;
+    let third = heap::allocate(region, second, 40).heap;
+    heap::allocate(region, third, 64).heap
+}
+
+// Calls 6 to 9: two neighbours given back, one of them twice, and a block from what they joined to.
+fn churn(region: &mut [u32], full: Heap) -> Heap {
+    let sixth = heap::free(region, full, Block(80)).heap;
+    let seventh = heap::free(region, sixth, Block(112)).heap;
+    let eighth = heap::free(region, seventh, Block(112)).heap;
+    heap::allocate(region, eighth, 16).heap
+}
+
+fn main() {
+    let mut region = [0u32; 64];
+    let table = [24u32, 32, 40, 128];
+    let fresh = heap::setup(&mut region, &table, 64, true).heap;
+    let full = fill(&mut region, fresh);
+    // Call 5: nothing can serve it.
+    let refused = heap::allocate(&mut region, full, 16).heap;
+    let heap = churn(&mut region, refused);
+    print_number(heap.bytes);
+    print_number(heap.bins);
+    print_decimal(1, heap.used as u64);
+    write_all(1, b"\n");
+    print_chunks(&mut region, heap);
+}
