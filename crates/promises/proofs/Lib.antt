@@ -5,3 +5,5 @@ pub mod CountsLaws
 pub mod DeterminedLaws
 pub mod InsideLaws
 pub mod OddLaws
+pub mod FreshLaws
+pub mod KeptLaws
