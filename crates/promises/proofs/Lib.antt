@@ -7,3 +7,4 @@ pub mod InsideLaws
 pub mod OddLaws
 pub mod FreshLaws
 pub mod KeptLaws
+pub mod RunsLaws
