@@ -50,16 +50,16 @@ module _ (ws : List ℕ) (h : Heap) (p : Passes ws h) (n : ℕ) (large : 24 ≤ 
     abbrev pub given : Grant
     given = grant n (asRead ws h)
 
-    abbrev then : List ℕ
+    abbrev pub then : List ℕ
     then = written ws (given .draft .stores)
 
-    pictured : Pictured ws (given .draft)
+    pub pictured : Pictured ws (given .draft)
     pictured = grant-kept ws h p n large eight some
 
     same-bytes : given .draft .heap .bytes ≡ h .bytes
     same-bytes = omega (arith, pictured .passes .fits .bytes, p .fits .bytes, length-written (given .draft .stores) ws)
 
-    granted-in : Mem (given .granted) (shape then (given .draft .heap .bytes))
+    pub granted-in : Mem (given .granted) (shape then (given .draft .heap .bytes))
     granted-in = rw (pictured .chain) (granted-there ws h p n large eight some)
 
     granted-ends : blockEnd (given .granted) ≤ h .bytes
@@ -88,36 +88,47 @@ module _ (ws : List ℕ) (h : Heap) (p : Passes ws h) (n : ℕ) (large : 24 ≤ 
 
     -- is moved: it is live still when the old words have been copied
     module _ (some : nowhere (sourceOf n (asRead ws h)) ≡ false) (less : at .here .size < n) where
-      abbrev copies : List Store
+      abbrev pub copies : List Store
       copies = copied ws (at .here) (given some .granted)
 
-      abbrev half : Draft
+      abbrev pub half : Draft
       half = alsoWrites copies (given some .draft)
+
+      abbrev pub halfWords : List ℕ
+      halfWords = written (then some) copies
+
+      abbrev pub old : ℕ
+      old = blockOf (at .here)
 
       fits : blockWords (at .here) ≤ blockWords (given some .granted)
       fits = let g = granted-large ws h p n large eight some in omega arith
 
-      filled : let W = written (then some) copies in
-          (shape W (half .heap .bytes) ≡ shape (then some) (half .heap .bytes)) × ((i : ℕ) → binList W (half .heap) i ≡ binList (then some) (half .heap) i) × Passes W (half .heap)
+      pub filled : (shape halfWords (half .heap .bytes) ≡ shape (then some) (half .heap .bytes))
+          × ((i : ℕ) → binList halfWords (half .heap) i ≡ binList (then some) (half .heap) i) × Passes halfWords (half .heap)
       filled =
           fills (then some) (half .heap) (pictured some .passes) (given some .granted) (granted-in some) (granted-live ws h p n large eight some) copies
-          (filled-within (given some .granted) (λ i. word ws (blockOf (at .here)) i) (blockWords (at .here)) fits)
+          (filled-within (given some .granted) (λ i. word ws old i) (blockWords (at .here)) fits)
 
-      old-held : HoldsBlock (written (then some) copies) (half .heap) (blockOf (at .here)) (at .here)
+      old-held : HoldsBlock halfWords (half .heap) old (at .here)
       old-held =
           let k = splits ws h p b l in
           let s = live-stays ws h p n large eight some (at .here) (in-split (at .low) (at .here) (at .high) (k .0)) (k .1) in
           record { member = rw (filled .0 ∙ pictured some .chain) (s .0); live = s .1; block = refl }
 
+      pub old-live : isLive (asRead halfWords (half .heap)) old ≡ true
+      old-live = live-iff halfWords (half .heap) old .1 (at .here, old-held)
+
+      -- giving it back is what it is on the heap as it is then read
+      pub given-back : let afresh = freeBlock old (asRead halfWords (half .heap)) in
+          (freeBlock old half .heap ≡ afresh .heap) × (freeBlock old half .stores ≡ half .stores ++ afresh .stores) × (freeBlock old half .homeless ≡ afresh .homeless)
+      given-back = again halfWords half old (filled .0 ∙ pictured some .chain) (λ i. filled .1 i ∙ pictured some .lists i) (pictured some .housed)
+
       moved-below : Inner (moved ws at n (asRead ws h) .draft)
       moved-below =
-          let W = written (then some) copies in
-          let b′ = blockOf (at .here) in
-          let r = again W half b′ (filled .0 ∙ pictured some .chain) (λ i. filled .1 i ∙ pictured some .lists i) (pictured some .housed) in
-          rw (r .1)
-          (below-both (h .bytes / 4) (half .stores) (freeBlock b′ (asRead W (half .heap)) .stores)
-          (filled-below some (λ i. word ws (blockOf (at .here)) i) (blockWords (at .here)) fits)
-          (rw (same-bytes some) at (free-inside W (half .heap) (filled .2) b′ (live-iff W (half .heap) b′ .1 (at .here, old-held)))))
+          rw (given-back .1)
+          (below-both (h .bytes / 4) (half .stores) (freeBlock old (asRead halfWords (half .heap)) .stores)
+          (filled-below some (λ i. word ws old i) (blockWords (at .here)) fits)
+          (rw (same-bytes some) at (free-inside halfWords (half .heap) (filled .2) old old-live)))
 
     pub resized-below : (ltb (at .here .size) n && nowhere (sourceOf n (asRead ws h)) ≡ false) → Inner (resized ws at n (asRead ws h) .draft)
     unfolding resized asRead

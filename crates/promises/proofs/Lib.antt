@@ -5,3 +5,6 @@ pub mod CountsLaws
 pub mod DeterminedLaws
 pub mod InsideLaws
 pub mod OddLaws
+pub mod FreshLaws
+pub mod KeptLaws
+pub mod RunsLaws

@@ -45,7 +45,7 @@ use Rattle.promises.proofs.RefusedLaws.{Fitting, fitting-iff, allocatin
 use Rattle.promises.proofs.InsideLaws.{found-below, cleared-below, resized-below}
 
 -- the tests before an acceptance have failed
-abbrev Failed : Refusals → Type 0
+abbrev pub Failed : Refusals → Type 0
 Failed [] = Unit {0}
 Failed (t ∷ ts) = (t .0 ≡ false) × Failed ts
 
@@ -55,7 +55,7 @@ judged-below m h o [] f = f tt
 judged-below m h o ((true, r) ∷ ts) f = tt
 judged-below m h o ((false, r) ∷ ts) f = judged-below m h o ts (λ k. f (refl, k))
 
-not-false : (t : Bool) → not t ≡ false → t ≡ true
+pub not-false : (t : Bool) → not t ≡ false → t ≡ true
 not-false true q = refl
 not-false false q = sym q
 

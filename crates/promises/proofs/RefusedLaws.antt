@@ -11,7 +11,6 @@ use lib.ListN.{length}
 use borrow.Author.Tests.{eq-eqb, ne-eqb}
 use Rattle.lists.specs.Lists.{Mem}
 use Rattle.lists.proofs.ListsLaws.{Decides, number-is, at-most, less, meaning, both, or-else, denied, for-some}
-use Rattle.record.specs.declared.answers.Answer.{Answer}
 use Rattle.record.specs.declared.answers.Answer.the-variants.{Done, Returned, Told, Counted, Refused}
 use Rattle.record.specs.declared.answers.Refusal.{Refusal}
 use Rattle.record.specs.declared.answers.Refusal.the-variants.{RegionLength, BadTable, DonorSize, HeapFails, BlockSize, NotLive, NoRoom, NotThere, NoBinTakes}
@@ -38,6 +37,7 @@ use Rattle.rules.proofs.CheckLaws.{passes-iff}
 use Rattle.rules.proofs.SpotLaws.{one-chunk, spot-splits, spot-member}
 use Rattle.promises.specs.Ways.{ours}
 use Rattle.promises.specs.Room.{HoldsBlock, NoneServes}
+use Rattle.promises.specs.Kept.{Accepted}
 use Rattle.promises.specs.Refused.{WrongLength, WrongDonor, WrongSize, NoPlace, NoQuestion, AskedOf, Because, setupLength, setupTable, setupDonor, fails, allocateSize, clearedSize, reallocateSize, freeNotLive, reallocateNotLive, allocateRoom, clearedRoom, reallocateRoom, askNoChunk, askNoBin, allocateBin, clearedBin, freeBin, reallocateNewBin, reallocateBin, isSetup, First, recordOf, Refusing}
 use Rattle.promises.proofs.ServeLaws.{room-iff}
 
@@ -62,10 +62,6 @@ IsFirst B r = B r × ((q : Refusal) → numberOf q < numberOf r → B q → ⊥)
 higher : (n : ℕ) (ts : Refusals) → Rising n ts → {r : Refusal} → Mem r (map (λ (t : Bool × Refusal). t .1) ts) → n < numberOf r
 higher n (t ∷ ts) u (List·Memᴰ·head e) = rw e (u .0)
 higher n (t ∷ ts) u (List·Memᴰ·tail m) = let a = higher (numberOf (t .1)) ts (u .1) m in omega (arith, u .0)
-
--- the answer is an acceptance
-abbrev Accepted : Answer → Type 0
-Accepted a = (r : Refusal) → a ≡ Refused r → ⊥
 
 module _ (B : Refusal → Type 0) (h : Heap) (o : Outcome) (accepted : Accepted (o .answer)) where
   -- a list of tests that decide the reasons gives the first reason that holds

@@ -4,3 +4,5 @@ pub mod Counts
 pub mod Determined
 pub mod Refused
 pub mod Odd
+pub mod Kept
+pub mod Runs

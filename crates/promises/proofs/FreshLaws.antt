@@ -1,0 +1,336 @@
+-- The words that an accepted setup writes make, with its record, a heap that passes, whatever the region held (`fresh-passes`). Assumes nothing.
+use mathlib.Core.Path.{_≡_, refl, sym, ap, _∙_}
+use mathlib.Core.Logic.{_≢_, inl, inr}
+use mathlib.Core.Bool.{Bool, true, false, false≢true}
+use mathlib.Core.List.{List, [], _∷_, _++_, List·Memᴰ·head, List·Memᴰ·tail, List·Memᴰ·not-nil}
+use Prim.Native.Nat.{ℕ, _+_, _-_, _%_, _≤_, _<_}
+use native.Mathlib.Decide.{decLt}
+use native.Mathlib.Omega.{arith}
+use lib.ListN.{length, length-append, getD, replicate, length-replicate, getD-replicate, List·getD-eq-default}
+use lib.Seq.{take-append-seam, getD-append-add}
+use borrow.Author.Tests.{ne-eqb}
+use Rattle.lists.specs.Lists.{Mem}
+use Rattle.record.specs.declared.heap.Heap.{Heap}
+use Rattle.record.specs.Table.{ValidTable}
+use Rattle.region.specs.Words.{Store, put, written, forward, backward}
+use Rattle.region.proofs.WordsLaws.{got, length-written}
+use Rattle.rules.specs.Shape.{Entry, entry, members, binList, heapBytes}
+use Rattle.rules.specs.Kinds.{ordinary, live, outside}
+use Rattle.rules.specs.Check.{Fits, Tabled, Unbinned, TopIs, DonorIs, Listed, usedBytes, Passes, PassesAs}
+use Rattle.rules.specs.Draft.{headers, noBinWords}
+use Rattle.rules.specs.Setup.{fresh, firstHeaders}
+use Rattle.rules.proofs.KindsLaws.{kind-start, kind-end, kind-top, kind-donor}
+use Rattle.rules.proofs.ShapeLaws.{read-none}
+use Rattle.rules.proofs.SpotLaws.{tiled-empty}
+use Rattle.settling.proofs.LayoutLaws.{Laid, Layout}
+use Rattle.settling.proofs.HeaderLaws.{Header, Headed, headed-backed, headed-sized, headed-last, reads-as}
+use Rattle.promises.proofs.RefusedLaws.{Fitting}
+
+-- every place of an array of zeros, and every place past the sizes of a table
+zero-at : (n i : ℕ) → getD (replicate {A = ℕ} n 0) i 0 ≡ 0
+zero-at n i = go (decLt i n)
+  where
+    go : Dec (i < n) → getD (replicate {A = ℕ} n 0) i 0 ≡ 0
+    go (yes l) = getD-replicate n i 0 0 l
+    go (no m) = List·getD-eq-default (replicate n 0) 0 (rw length-replicate (omega arith))
+
+zero-past : (t : List ℕ) (n i : ℕ) → length t ≤ i → getD (t ++ replicate n 0) i 0 ≡ 0
+zero-past t n i l =
+    ap (λ (k : ℕ). getD (t ++ replicate n 0) k 0) (omega arith)
+    ∙ getD-append-add t (replicate n 0) (i - length t) 0
+    ∙ zero-at n (i - length t)
+
+-- where no chunk is live none is used
+none-used : (h : Heap) (es : List Entry) → ((e : Entry) → Mem e es → live h e ≡ false) → usedBytes h es ≡ 0
+none-used h [] f = refl
+none-used h (e ∷ es) f = rw (f e (List·Memᴰ·head refl)) (none-used h es (λ d m. f d (List·Memᴰ·tail m)))
+
+module _ (ws table : List ℕ) (merge : Bool) (valid : ValidTable table) (enough : 10 ≤ length ws) (few : length ws ≤ 16384) where
+  abbrev bytes : ℕ
+  bytes = heapBytes (length ws)
+
+  abbrev opened : ℕ → Heap
+  opened donor = fresh bytes table donor merge
+
+  abbrev words : ℕ → List ℕ
+  words donor = written ws (firstHeaders bytes donor)
+
+  fits : (donor : ℕ) → Fits (words donor) (opened donor)
+  fits donor =
+      let n = length-written (firstHeaders bytes donor) ws in
+      record { enough = omega arith; notTooMany = omega arith; bytes = rw n refl }
+
+  tabled : (donor : ℕ) → Tabled (opened donor)
+  tabled donor =
+      let few = valid .few in
+      record {
+        sizePlaces = rw (length-append, length-replicate) (omega arith);
+        headPlaces = refl;
+        tailPlaces = refl;
+        bins = few;
+        valid = rw (take-append-seam table (replicate (32 - length table) 0)) valid;
+        sizesEnd = λ i l. zero-past table (32 - length table) i l;
+        headsEnd = λ i l. zero-at 32 i;
+        tailsEnd = λ i l. zero-at 32 i;
+      }
+
+  -- neither ordinary nor live
+  abbrev Neither : ℕ → Entry → Type 0
+  Neither donor e = (ordinary (opened donor) e ≡ false) × (live (opened donor) e ≡ false)
+
+  -- a chain with its headers, in which no chunk is ordinary or live, and top and donor are where they have to be
+  module _ (donor : ℕ) (es : List Entry) (y : Layout bytes es) (k : Headed (words donor) outside es outside)
+      (top : (e : Entry) × Mem e es × TopIs (words donor) (opened donor) e)
+      (given : 0 < opened donor .donor .0 → (e : Entry) × Mem e es × DonorIs (words donor) (opened donor) e)
+      (none : (e : Entry) → Mem e es → Neither donor e) where
+    list-read : (i : ℕ) → binList (words donor) (opened donor) i ≡ []
+    unfolding members
+    list-read i = rw (zero-at 32 i) (read-none (words donor) bytes)
+
+    listed : (i : ℕ) → Listed (words donor) (opened donor) es i (binList (words donor) (opened donor) i)
+    listed i =
+        rw (list-read i)
+        (record {
+          tail = zero-at 32 i;
+          links = tt;
+          once = tt;
+          chunks = λ c m. absurd (List·Memᴰ·not-nil m);
+          words = λ c m. absurd (List·Memᴰ·not-nil m);
+        })
+
+    some-chunk : es ≡ [] → ⊥
+    some-chunk z = omega (arith, tiled-empty 0 bytes es (y .tiled) z)
+
+    passes-so : PassesAs (words donor) (opened donor) es
+    passes-so =
+        record {
+          fits = fits donor;
+          table = tabled donor;
+          chain =
+              record {
+                reachesEnd = y .reaches;
+                endsThere = headed-last (words donor) outside es outside some-chunk k;
+                eights = λ e m. y .chunks e m .eight;
+              };
+          ends = y .ended;
+          backward = headed-backed (words donor) outside es outside k;
+          chunks = λ e m.
+              record { flags = y .chunks e m .flags; room = y .chunks e m .room; sized = headed-sized (words donor) outside es outside k m };
+          top = top;
+          donor = given;
+          bins = λ i l. listed i;
+          binned = λ e m o. absurd (false≢true (sym (none e m .0) ∙ o));
+          used = sym (none-used (opened donor) es (λ e m. none e m .1));
+        }
+
+    passes : Passes (words donor) (opened donor)
+    passes = rw (reads-as (words donor) bytes es (omega arith) y k) passes-so
+
+  -- the chunks of a fresh heap
+  abbrev start : Entry
+  start = entry 0 8 1
+
+  abbrev donorOf : ℕ → Entry
+  donorOf donor = entry 8 donor 0
+
+  abbrev topOf : ℕ → Entry
+  topOf donor = entry (8 + donor) (bytes - 8 - (8 + donor)) 0
+
+  abbrev end : Entry
+  end = entry (bytes - 8) 8 1
+
+  start-laid : Laid bytes start
+  start-laid =
+      record { eight = refl; some = omega arith; ends = omega arith; flags = omega arith; room = λ l r. absurd (omega arith); free = λ f. absurd (omega arith) }
+
+  end-laid : Laid bytes end
+  end-laid =
+      record { eight = omega arith; some = omega arith; ends = omega arith; flags = omega arith; room = λ l r. absurd (omega arith); free = λ f. absurd (omega arith) }
+
+  free-laid : (c s : ℕ) → c % 8 ≡ 0 → 8 ≤ c → 24 ≤ s → c + s + 8 ≤ bytes → Laid bytes (entry c s 0)
+  free-laid c s eight above large below =
+      record { eight = eight; some = omega arith; ends = omega arith; flags = omega arith; room = λ l r. large; free = λ f. (above, large, below) }
+
+  module _ (donor : ℕ) (eight : donor % 8 ≡ 0) (room : donor + 40 ≤ bytes) where
+    top-laid : Laid bytes (topOf donor)
+    top-laid = free-laid (8 + donor) (bytes - 8 - (8 + donor)) (omega arith) (omega arith) (omega arith) (omega arith)
+
+    start-neither : Neither donor start
+    start-neither = rw (← kind-start bytes (opened donor .donor .0) (8 + donor) start refl) (refl, refl)
+
+    end-neither : Neither donor end
+    end-neither = rw (← kind-end bytes (opened donor .donor .0) (8 + donor) end (λ q. omega arith) (omega arith)) (refl, refl)
+
+    top-neither : Neither donor (topOf donor)
+    top-neither =
+        rw (← kind-top bytes (opened donor .donor .0) (8 + donor) (topOf donor) (λ q. omega arith) (λ q. omega arith) (λ q. omega arith) refl) (refl, refl)
+
+  -- without a donor: start, top and end
+  abbrev plain : List Entry
+  plain = start ∷ topOf 0 ∷ end ∷ []
+
+  plain-laid : Layout bytes plain
+  plain-laid =
+      record {
+        tiled = omega arith;
+        chunks = each;
+        ended = record { startSize = refl; startUsed = refl; endUsed = refl };
+        reaches = omega arith;
+      }
+    where
+      each : (e : Entry) → Mem e plain → Laid bytes e
+      each e (List·Memᴰ·head q) = rw q start-laid
+      each e (List·Memᴰ·tail (List·Memᴰ·head q)) = rw q (top-laid 0 (omega arith) (omega arith))
+      each e (List·Memᴰ·tail (List·Memᴰ·tail (List·Memᴰ·head q))) = rw q end-laid
+
+  plain-headed : Headed (words 0) outside plain outside
+  plain-headed =
+      let ss : List Store = firstHeaders bytes 0 in
+      let start-header : Header (words 0) outside start (topOf 0) =
+      record {
+        back = got 1 ss ws (omega arith) (omega arith);
+        forth = got 0 ss ws (omega arith) (omega arith);
+        sized = λ z. absurd (omega arith);
+      } in
+      let top-header : Header (words 0) start (topOf 0) end =
+      record {
+        back = got 3 ss ws (omega arith) (omega arith);
+        forth = got 2 ss ws (omega arith) (omega arith) ∙ omega arith;
+        sized = λ z. got 4 ss ws (omega arith) (omega arith);
+      } in
+      let end-header : Header (words 0) (topOf 0) end outside =
+      record {
+        back = got 9 ss ws (omega arith) tt;
+        forth = got 8 ss ws (omega arith) (omega arith);
+        sized = λ z. absurd (omega arith);
+      } in
+      (start-header, (top-header, (end-header, tt)))
+
+  plain-top : Unbinned (words 0) 8
+  plain-top =
+      let ss : List Store = firstHeaders bytes 0 in
+      record {
+        next = got 5 ss ws (omega arith) (omega arith);
+        previous = got 6 ss ws (omega arith) (omega arith);
+        bin = got 7 ss ws (omega arith) (omega arith);
+      }
+
+  plain-passes : Passes (words 0) (opened 0)
+  plain-passes =
+      passes 0 plain plain-laid plain-headed
+      (topOf 0, List·Memᴰ·tail (List·Memᴰ·head refl), (record { here = refl; free = refl; out = plain-top }, omega arith))
+      (λ some. absurd (omega arith)) none
+    where
+      none : (e : Entry) → Mem e plain → Neither 0 e
+      none e (List·Memᴰ·head q) = rw q (start-neither 0 (omega arith) (omega arith))
+      none e (List·Memᴰ·tail (List·Memᴰ·head q)) = rw q (top-neither 0 (omega arith) (omega arith))
+      none e (List·Memᴰ·tail (List·Memᴰ·tail (List·Memᴰ·head q))) = rw q (end-neither 0 (omega arith) (omega arith))
+
+  -- with a donor
+  module _ (donor : ℕ) (large : 24 ≤ donor) (eight : donor % 8 ≡ 0) (room : donor + 40 ≤ bytes) where
+    abbrev donated : List Entry
+    donated = start ∷ donorOf donor ∷ topOf donor ∷ end ∷ []
+
+    some : donor ≢ 0
+    some q = omega arith
+
+    donated-laid : Layout bytes donated
+    donated-laid =
+        record {
+          tiled = omega arith;
+          chunks = each;
+          ended = record { startSize = refl; startUsed = refl; endUsed = refl };
+          reaches = omega arith;
+        }
+      where
+        each : (e : Entry) → Mem e donated → Laid bytes e
+        each e (List·Memᴰ·head q) = rw q start-laid
+        each e (List·Memᴰ·tail (List·Memᴰ·head q)) = rw q (free-laid 8 donor refl (omega arith) large (omega arith))
+        each e (List·Memᴰ·tail (List·Memᴰ·tail (List·Memᴰ·head q))) = rw q (top-laid donor eight room)
+        each e (List·Memᴰ·tail (List·Memᴰ·tail (List·Memᴰ·tail (List·Memᴰ·head q)))) = rw q end-laid
+
+    -- the stores, written out
+    abbrev stores : List Store
+    stores =
+        headers 0 (start ∷ donorOf donor ∷ topOf donor ∷ []) ++ noBinWords 8 ++ noBinWords (8 + donor)
+        ++ put (bytes - 8) forward 0 ∷ put (bytes - 8) backward (8 + donor + 1) ∷ []
+
+    stores-are : firstHeaders bytes donor ≡ stores
+    stores-are = rw (ne-eqb donor 0 some)
+
+    start-header : Header (written ws stores) outside start (donorOf donor)
+    start-header =
+        record {
+          back = got 1 stores ws (omega arith) (omega arith);
+          forth = got 0 stores ws (omega arith) (omega arith);
+          sized = λ z. absurd (omega arith);
+        }
+
+    donor-header : Header (written ws stores) start (donorOf donor) (topOf donor)
+    donor-header =
+        record {
+          back = got 3 stores ws (omega arith) (omega arith);
+          forth = got 2 stores ws (omega arith) (omega arith);
+          sized = λ z. got 4 stores ws (omega arith) (omega arith);
+        }
+
+    top-header : Header (written ws stores) (donorOf donor) (topOf donor) end
+    top-header =
+        record {
+          back = got 6 stores ws (omega arith) (omega arith);
+          forth = got 5 stores ws (omega arith) (omega arith) ∙ omega arith;
+          sized = λ z. got 7 stores ws (omega arith) (omega arith);
+        }
+
+    end-header : Header (written ws stores) (topOf donor) end outside
+    end-header =
+        record {
+          back = got 15 stores ws (omega arith) tt;
+          forth = got 14 stores ws (omega arith) (omega arith);
+          sized = λ z. absurd (omega arith);
+        }
+
+    donated-headed : Headed (words donor) outside donated outside
+    donated-headed = rw stores-are (start-header, (donor-header, (top-header, (end-header, tt))))
+
+    donor-out : Unbinned (words donor) 8
+    donor-out =
+        rw stores-are
+        (record {
+          next = got 8 stores ws (omega arith) (omega arith);
+          previous = got 9 stores ws (omega arith) (omega arith);
+          bin = got 10 stores ws (omega arith) (omega arith);
+        })
+
+    top-out : Unbinned (words donor) (8 + donor)
+    top-out =
+        rw stores-are
+        (record {
+          next = got 11 stores ws (omega arith) (omega arith);
+          previous = got 12 stores ws (omega arith) (omega arith);
+          bin = got 13 stores ws (omega arith) (omega arith);
+        })
+
+    donor-named : opened donor .donor .0 ≡ 8
+    donor-named = rw (ne-eqb donor 0 some)
+
+    donor-neither : Neither donor (donorOf donor)
+    donor-neither =
+        rw (← kind-donor bytes (opened donor .donor .0) (8 + donor) (donorOf donor) (λ q. omega arith) (λ q. omega arith) (λ q. omega arith) (λ q. omega arith) (sym donor-named)) (refl, refl)
+
+    donated-passes : Passes (words donor) (opened donor)
+    donated-passes =
+        passes donor donated donated-laid donated-headed
+        (topOf donor, List·Memᴰ·tail (List·Memᴰ·tail (List·Memᴰ·head refl)), (record { here = refl; free = refl; out = top-out }, omega arith))
+        (λ there. (donorOf donor, List·Memᴰ·tail (List·Memᴰ·head refl), rw donor-named (record { here = refl; free = refl; out = donor-out }, omega arith)))
+        none
+      where
+        none : (e : Entry) → Mem e donated → Neither donor e
+        none e (List·Memᴰ·head q) = rw q (start-neither donor eight room)
+        none e (List·Memᴰ·tail (List·Memᴰ·head q)) = rw q donor-neither
+        none e (List·Memᴰ·tail (List·Memᴰ·tail (List·Memᴰ·head q))) = rw q (top-neither donor eight room)
+        none e (List·Memᴰ·tail (List·Memᴰ·tail (List·Memᴰ·tail (List·Memᴰ·head q)))) = rw q (end-neither donor eight room)
+
+  pub fresh-passes : (donor : ℕ) → Fitting ws donor → Passes (words donor) (opened donor)
+  fresh-passes donor (inl z) = rw z plain-passes
+  fresh-passes donor (inr ((large, eight), room)) = donated-passes donor large eight (omega arith)

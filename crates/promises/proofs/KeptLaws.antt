@@ -1,0 +1,280 @@
+-- An accepted setup makes a heap that passes, and every call on such a heap and every write inside its live blocks leaves one (`keeping`).
+-- Assumes nothing.
+use mathlib.Core.Path.{_≡_, refl, sym, _∙_}
+use mathlib.Core.Logic.{inl, inr}
+use mathlib.Core.Bool.{Bool, true, false, not, cond, _&&_, _||_, false≢true}
+use mathlib.Core.List.{List, [], _∷_, _++_}
+use Prim.Native.Nat.{ℕ, _+_, _*_, _%_, _≤_, _<_}
+use native.Mathlib.Omega.{arith}
+use lib.Dec.{eqb, leb, ltb}
+use lib.ListN.{length}
+use borrow.Author.Tests.{leb-true, ltb-true}
+use Rattle.grant.proofs.NeedLaws.{need-large, need-eight}
+use Rattle.grant.proofs.GrantKept.{granted-live}
+use Rattle.lists.proofs.ListsLaws.{less, or-else}
+use Rattle.record.specs.declared.answers.Answer.{Answer}
+use Rattle.record.specs.declared.answers.Answer.the-variants.{Done, Granted, Returned, Told, Counted, Refused}
+use Rattle.record.specs.declared.answers.Refusal.the-variants.{RegionLength, BadTable, DonorSize, BlockSize, NotLive, NoRoom, NotThere, NoBinTakes}
+use Rattle.record.specs.declared.heap.Heap.{Heap}
+use Rattle.record.specs.Heap.{empty, withMerge}
+use Rattle.record.specs.Table.{validTable}
+use Rattle.record.proofs.TableLaws.{valid-iff}
+use Rattle.region.specs.Words.{Store, written}
+use Rattle.region.proofs.WordsLaws.{written-append}
+use Rattle.release.proofs.ReleaseKept.{free-kept}
+use Rattle.release.proofs.ShrinkKept.{shrink-kept}
+use Rattle.rules.specs.Shape.{Entry, shape, heapBytes}
+use Rattle.rules.specs.Kinds.{overhead, blockWords}
+use Rattle.rules.specs.Check.{Passes}
+use Rattle.rules.specs.Draft.{Draft, asRead, alsoWrites}
+use Rattle.rules.specs.Serve.{need, permitted, nowhere}
+use Rattle.rules.specs.Outcome.{Outcome, Refusals, judged, heapFails, unchanged, made, grants, changeOf}
+use Rattle.rules.specs.Setup.{setup, donorFits, fresh, firstHeaders}
+use Rattle.rules.specs.Allocate.{sourceOf, grant, asFound, cleared, allocateWith, allocate, allocateCleared}
+use Rattle.rules.specs.Free.{isLive, blockSpot, freeBlock, free}
+use Rattle.rules.specs.Reallocate.{shrunk, moved, resized, resize, reallocate}
+use Rattle.rules.specs.Merge.{setMerge, checked, check}
+use Rattle.rules.specs.Ask.{askChunk, askBin, chunkAnswers, askedSpot, isAsked, isThere, answerTo, binAnswers}
+use Rattle.rules.specs.Calls.{Call, Setup, Allocate, AllocateCleared, Free, Reallocate, SetMerge, Check, AskChunk, AskBin, State, recordAfter, step}
+use Rattle.settling.proofs.FillLaws.{Within, filled-within, fills}
+use Rattle.promises.specs.Ways.{ours}
+use Rattle.promises.specs.Kept.{Passing, Accepted, OnLiveBlocks, afterStores, Keeping}
+use Rattle.promises.proofs.FreshLaws.{fresh-passes}
+use Rattle.promises.proofs.InsideLaws.{given, then, pictured, granted-in, copies, half, halfWords, old, filled, old-live, given-back}
+use Rattle.promises.proofs.OddLaws.{Failed, not-false}
+use Rattle.promises.proofs.RefusedLaws.{allocating, fitting-iff}
+
+-- what an outcome leaves for the next call
+abbrev left : List ℕ → Heap → Outcome → State
+left ws h o = record { words = written ws (o .stores); heap = recordAfter h (o .heap) (o .answer) }
+
+-- an answer with the record that came
+same-record : (h : Heap) (a : Answer) → recordAfter h h a ≡ h
+same-record h Done = refl
+same-record h (Granted b c) = refl
+same-record h (Returned c) = refl
+same-record h (Told v) = refl
+same-record h (Counted c) = refl
+same-record h (Refused r) = refl
+
+-- the tests of setup, which fail where it is accepted
+abbrev setupTests : List ℕ → List ℕ → ℕ → Refusals
+setupTests ws table donor =
+    (ltb (length ws) 10 || ltb 16384 (length ws), RegionLength)
+    ∷ (not (validTable table), BadTable)
+    ∷ (not (donorFits (heapBytes (length ws)) donor), DonorSize)
+    ∷ []
+
+setup-passes : (ws table : List ℕ) (donor : ℕ) (merge : Bool) → Failed (setupTests ws table donor)
+    → Passes (written ws (firstHeaders (heapBytes (length ws)) donor)) (fresh (heapBytes (length ws)) table donor merge)
+setup-passes ws table donor merge (size, (t, (d, _))) =
+    let wrong = or-else (less (length ws) 10) (less 16384 (length ws)) .1 in
+    let some : length ws < 10 → ⊥ = λ l. false≢true (sym size ∙ wrong (inl l)) in
+    let few : 16384 < length ws → ⊥ = λ l. false≢true (sym size ∙ wrong (inr l)) in
+    fresh-passes ws table merge (valid-iff table .0 (not-false (validTable table) t)) (omega arith) (omega arith) donor
+    (fitting-iff ws donor .0 (not-false (donorFits (heapBytes (length ws)) donor) d))
+
+-- an accepted call has passed its tests
+accepted-made : (h : Heap) (o : Outcome) (ts : Refusals) → Accepted (judged h ts o .answer) → Failed ts × (judged h ts o ≡ o)
+accepted-made h o [] a = (tt, refl)
+accepted-made h o ((true, r) ∷ ts) a = absurd (a r refl)
+accepted-made h o ((false, r) ∷ ts) a = let k = accepted-made h o ts a in ((refl, k .0), k .1)
+
+setup-kept : (table : List ℕ) (donor : ℕ) (merge : Bool) (ws : List ℕ) (h : Heap) → Accepted (ours (Setup table donor merge) ws h .answer)
+    → Passes (ours (Setup table donor merge) ws h .words) (ours (Setup table donor merge) ws h .heap)
+unfolding ours step setup
+setup-kept table donor merge ws h a =
+    let bytes = heapBytes (length ws) in
+    let o : Outcome = record { answer = Done; heap = fresh bytes table donor merge; stores = firstHeaders bytes donor } in
+    let k = accepted-made empty o (setupTests ws table donor) a in
+    rw (k .1) (setup-passes ws table donor merge (k .0))
+
+module _ (ws : List ℕ) (h : Heap) (p : Passes ws h) where
+  -- a refusal leaves the heap as it was
+  judged-passes : (came : Heap) (o : Outcome) (ts : Refusals) → (Failed ts → Passing (left ws h o)) → Passing (left ws h (judged came ts o))
+  judged-passes came o [] f = f tt
+  judged-passes came o ((true, r) ∷ ts) f = p
+  judged-passes came o ((false, r) ∷ ts) f = judged-passes came o ts (λ k. f (refl, k))
+
+  -- a block of n bytes that was granted, whatever is written into it
+  module _ (n : ℕ) (large : 24 ≤ n) (eight : n % 8 ≡ 0) where
+    granted-passes : (some : nowhere (sourceOf n (asRead ws h)) ≡ false) (ss : List Store) → Within (given ws h p n large eight some .granted) ss
+        → Passes (written ws (given ws h p n large eight some .draft .stores ++ ss)) (given ws h p n large eight some .draft .heap)
+    granted-passes some ss w =
+        let g = given ws h p n large eight some in
+        rw (written-append (g .draft .stores) ss ws)
+        (fills (then ws h p n large eight some) (g .draft .heap) (pictured ws h p n large eight some .passes) (g .granted)
+        (granted-in ws h p n large eight some) (granted-live ws h p n large eight some) ss w .2)
+
+    -- the live block at b is moved, or loses its tail, or stays
+    module _ (b : ℕ) (l : isLive (asRead ws h) b ≡ true) where
+      abbrev PassesAfter : Draft → Type 0
+      PassesAfter d = Passes (written ws (d .stores)) (d .heap)
+
+      moved-passes : nowhere (sourceOf n (asRead ws h)) ≡ false → blockSpot (asRead ws h) b .here .size < n
+          → PassesAfter (moved ws (blockSpot (asRead ws h) b) n (asRead ws h) .draft)
+      moved-passes some less =
+          let g = given ws h p n large eight some in
+          let c = copies ws h p n large eight b l some less in
+          let d = half ws h p n large eight b l some less in
+          let W = halfWords ws h p n large eight b l some less in
+          let o = old ws h p n large eight b l some less in
+          let r = given-back ws h p n large eight b l some less in
+          rw (r .0, r .1, written-append (d .stores) (freeBlock o (asRead W (d .heap)) .stores) ws, written-append (g .draft .stores) c ws)
+          (free-kept W (d .heap) (filled ws h p n large eight b l some less .2) o (old-live ws h p n large eight b l some less) .passes)
+
+      resized-passes : (ltb (blockSpot (asRead ws h) b .here .size) n && nowhere (sourceOf n (asRead ws h))) ≡ false
+          → PassesAfter (resized ws (blockSpot (asRead ws h) b) n (asRead ws h) .draft)
+      unfolding resized asRead
+      resized-passes q = let s = blockSpot (asRead ws h) b in go (ltb (s .here .size) n) refl q (leb (n + 24) (s .here .size)) refl
+        where
+          go : (t : Bool) → ltb (blockSpot (asRead ws h) b .here .size) n ≡ t → (t && nowhere (sourceOf n (asRead ws h))) ≡ false
+              → (u : Bool) → leb (n + 24) (blockSpot (asRead ws h) b .here .size) ≡ u
+              → let s = blockSpot (asRead ws h) b in
+              PassesAfter (cond t (moved ws s n (asRead ws h)) (cond u (shrunk s n (asRead ws h)) (record { granted = s .here; draft = asRead ws h })) .draft)
+          go true e q u f = moved-passes q (ltb-true (blockSpot (asRead ws h) b .here .size) n e)
+          go false e q true f = shrink-kept ws h p b l n large eight (leb-true (n + 24) (blockSpot (asRead ws h) b .here .size) f) .passes
+          go false e q false f = p
+
+  with-passes : (fill : Entry → List Store) (z : ℕ)
+      → ((some : nowhere (sourceOf (need overhead z) (asRead ws h)) ≡ false)
+      → let g = grant (need overhead z) (asRead ws h) in Within (g .granted) (fill (g .granted)))
+      → Passing (left ws h (allocateWith fill ws h z))
+  with-passes fill z w =
+      let g = grant (need overhead z) (asRead ws h) in
+      judged-passes h (made (grants 0 (g .granted)) (alsoWrites (fill (g .granted)) (g .draft))) (allocating ws h z)
+      (λ (_, (_, (some, _))). granted-passes (need overhead z) (need-large z) (need-eight z) some (fill (g .granted)) (w some))
+
+  allocate-passes : (z : ℕ) → Passing (left ws h (allocate ws h z))
+  unfolding allocate
+  allocate-passes z = with-passes asFound z (λ some. tt)
+
+  cleared-passes : (count size : ℕ) → Passing (left ws h (allocateCleared ws h count size))
+  unfolding allocateCleared
+  cleared-passes count size =
+      with-passes cleared (count * size)
+      (λ some.
+      let e = grant (need overhead (count * size)) (asRead ws h) .granted in
+      filled-within e (λ k. 0) (blockWords e) (omega arith))
+
+  free-passes : (b : ℕ) → Passing (left ws h (free ws h b))
+  unfolding free asRead
+  free-passes b =
+      let before = asRead ws h in
+      let none = eqb b 0 in
+      let after = cond none before (freeBlock b before) in
+      judged-passes h (made (Returned (changeOf (cond none 0 (blockSpot before b .here .size)) 0)) after)
+      (heapFails ws h ∷ (not none && not (isLive before b), NotLive) ∷ (after .homeless, NoBinTakes) ∷ [])
+      (λ (_, (l, _)). go none l)
+    where
+      go : (t : Bool) → (not t && not (isLive (asRead ws h) b)) ≡ false
+          → let d = cond t (asRead ws h) (freeBlock b (asRead ws h)) in Passes (written ws (d .stores)) (d .heap)
+      go true l = p
+      go false l = free-kept ws h p b (not-false (isLive (asRead ws h) b) l) .passes
+
+  resize-passes : (b z : ℕ) → Passing (left ws h (resize ws h b z))
+  unfolding resize
+  resize-passes b z =
+      let n = need overhead z in
+      let before = asRead ws h in
+      let s = blockSpot before b in
+      let g = resized ws s n before in
+      judged-passes h (made (grants (s .here .size) (g .granted)) (g .draft))
+      (heapFails ws h
+      ∷ (not (permitted z), BlockSize)
+      ∷ (not (isLive before b), NotLive)
+      ∷ (ltb (s .here .size) n && nowhere (sourceOf n before), NoRoom)
+      ∷ (g .draft .homeless, NoBinTakes)
+      ∷ [])
+      (λ (_, (_, (l, (room, _)))). resized-passes n (need-large z) (need-eight z) b (not-false (isLive before b) l) room)
+
+  reallocate-passes : (b z : ℕ) → Passing (left ws h (reallocate ws h b z))
+  unfolding reallocate
+  reallocate-passes b z = go (eqb b 0)
+    where
+      go : (t : Bool) → Passing (left ws h (cond t (allocate ws h z) (resize ws h b z)))
+      go true = allocate-passes z
+      go false = resize-passes b z
+
+  -- the check does not read the merge setting
+  merged : (on : Bool) → Passes ws (withMerge h on)
+  merged on =
+      let t = p .table in
+      let c = p .chain in
+      record {
+        fits = record { enough = p .fits .enough; notTooMany = p .fits .notTooMany; bytes = p .fits .bytes };
+        table =
+            record {
+              sizePlaces = t .sizePlaces;
+              headPlaces = t .headPlaces;
+              tailPlaces = t .tailPlaces;
+              bins = t .bins;
+              valid = t .valid;
+              sizesEnd = t .sizesEnd;
+              headsEnd = t .headsEnd;
+              tailsEnd = t .tailsEnd;
+            };
+        chain = record { reachesEnd = c .reachesEnd; endsThere = c .endsThere; eights = c .eights };
+        ends = p .ends;
+        backward = p .backward;
+        chunks = λ e m. let s = p .chunks e m in record { flags = s .flags; room = s .room; sized = s .sized };
+        top = p .top;
+        donor = p .donor;
+        bins = λ i l.
+            let b = p .bins i l in
+            record { tail = b .tail; links = b .links; once = b .once; chunks = b .chunks; words = b .words };
+        binned = p .binned;
+        used = p .used;
+      }
+
+  merge-passes : (on : Bool) → Passing (left ws h (setMerge ws h on))
+  unfolding setMerge
+  merge-passes on = judged-passes h (unchanged (withMerge h on) Done) (heapFails ws h ∷ []) (λ _. merged on)
+
+  -- an answer alone
+  told-passes : (a : Answer) → Passing (left ws h (unchanged h a))
+  told-passes a = rw (same-record h a) p
+
+  step-passes : (call : Call) → Passing (left ws h (step call ws h))
+  unfolding step setup check askChunk askBin
+  step-passes (Setup table donor merge) =
+      let bytes = heapBytes (length ws) in
+      judged-passes empty (record { answer = Done; heap = fresh bytes table donor merge; stores = firstHeaders bytes donor })
+      (setupTests ws table donor) (setup-passes ws table donor merge)
+  step-passes (Allocate z) = allocate-passes z
+  step-passes (AllocateCleared count size) = cleared-passes count size
+  step-passes (Free b) = free-passes b
+  step-passes (Reallocate b z) = reallocate-passes b z
+  step-passes (SetMerge on) = merge-passes on
+  step-passes Check = told-passes (checked ws h)
+  step-passes (AskChunk q c) =
+      let d = asRead ws h in
+      let answers = chunkAnswers d (askedSpot d q c) in
+      judged-passes h (unchanged h (Told (answerTo q answers)))
+      (heapFails ws h ∷ (not (isAsked q answers) || not (isThere d q c), NotThere) ∷ []) (λ _. p)
+  step-passes (AskBin q i) =
+      let answers = binAnswers (asRead ws h .lists i) in
+      judged-passes h (unchanged h (Told (answerTo q answers)))
+      (heapFails ws h ∷ (not (isAsked q answers) || not (ltb i (h .bins)), NotThere) ∷ []) (λ _. p)
+
+-- a store into a live block leaves the heap as it is read, so the next store falls into a live block too
+stores-pass : (ss : List Store) (s : State) → Passing s → OnLiveBlocks s ss → Passing (afterStores ss s)
+stores-pass [] s p o = p
+stores-pass (x ∷ ss) s p ((e, m, l, (lo, hi)), o) =
+    let f = fills (s .words) (s .heap) p e m l (x ∷ []) (lo, hi, tt) in
+    stores-pass ss (afterStores (x ∷ []) s) (f .2) (still ss o (f .0))
+  where
+    still : (ys : List Store) → OnLiveBlocks s ys
+        → shape (afterStores (x ∷ []) s .words) (s .heap .bytes) ≡ shape (s .words) (s .heap .bytes)
+        → OnLiveBlocks (afterStores (x ∷ []) s) ys
+    still [] o q = tt
+    still (y ∷ ys) ((d, k, l, on), o) q = ((d, rw q k, l, on), still ys o q)
+
+pub keeping : Keeping ours
+unfolding ours
+keeping =
+    record {
+      setup = setup-kept;
+      calls = λ call s p. step-passes (s .words) (s .heap) p call;
+      writes = stores-pass;
+    }

@@ -1,0 +1,46 @@
+-- Through any run from an accepted setup on every state passes, so what holds of every heap that passes holds at each step (`through`),
+-- for every way of answering that keeps heaps passing; and so for the rules' own (`running`). Assumes nothing.
+use mathlib.Core.List.{List, [], _∷_}
+use Rattle.rules.specs.Calls.{State}
+use Rattle.promises.specs.Ways.{Way, ours}
+use Rattle.promises.specs.Room.{Room}
+use Rattle.promises.specs.Refused.{Refusing}
+use Rattle.promises.specs.Kept.{Passing, Keeping}
+use Rattle.promises.specs.Runs.{Step, Calls, Writes, afterStep, MayStep, IsRun, Along, Begins, ThroughRuns, Running}
+use Rattle.promises.proofs.KeptLaws.{keeping}
+use Rattle.promises.proofs.RefusedLaws.{refusing}
+use Rattle.promises.proofs.RoomLaws.{room}
+
+module _ (way : Way) (keeps : Keeping way) where
+  step-keeps : (x : Step) (s : State) → MayStep x s → Passing s → Passing (afterStep way x s)
+  step-keeps (Calls call) s m p = keeps .calls call s p
+  step-keeps (Writes ss) s m p = keeps .writes ss s p m
+
+  -- a run begins with a heap that passes
+  begins-passing : (s : State) → Begins way s → Passing s
+  begins-passing s b = rw (b .words, b .heap) (keeps .setup (b .table) (b .donor) (b .merge) (b .before .words) (b .before .heap) (b .accepted))
+
+  -- what holds of every heap that passes holds at each step of a run
+  module _ (P : State → Type 0) (holds : (s : State) → Passing s → P s) where
+    along : (xs : List Step) (s : State) → IsRun way xs s → Passing s → Along way P xs s
+    along [] s r p = holds s p
+    along (x ∷ xs) s r p = (holds s p, along xs (afterStep way x s) (r .1) (step-keeps x s (r .0) p))
+
+    pub through : ThroughRuns way P
+    through s b xs r = along xs s r (begins-passing s b)
+
+-- the promises of single calls are instances
+pub keeping-running : (way : Way) → Keeping way → Refusing way → Room way → Running way
+keeping-running way keeps refuses rooms =
+    record {
+      passes = through way keeps _ (λ s p. p);
+      refused = through way keeps _ (λ s p call r. refuses .exactly call (s .words) (s .heap) r);
+      allocate = through way keeps _ (λ s p. rooms .allocate (s .words) (s .heap) p);
+      cleared = through way keeps _ (λ s p. rooms .cleared (s .words) (s .heap) p);
+      noBlock = through way keeps _ (λ s p. rooms .noBlock (s .words) (s .heap) p);
+      outgrown = through way keeps _ (λ s p. rooms .outgrown (s .words) (s .heap) p);
+      fitting = through way keeps _ (λ s p. rooms .fitting (s .words) (s .heap) p);
+    }
+
+pub running : Running ours
+running = keeping-running ours keeping refusing room

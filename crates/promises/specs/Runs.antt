@@ -1,0 +1,76 @@
+-- Runs (demand 3 is asked of every run that begins with an accepted setup, not of single calls alone): each state of such a run passes,
+-- and so what is promised of calls on heaps that pass holds there, as long as blocks are written by their owners and nothing else is.
+use mathlib.Core.Path.{_≡_}
+use mathlib.Core.Logic.{_↔_}
+use mathlib.Core.Bool.{Bool, true}
+use mathlib.Core.List.{List, [], _∷_}
+use Prim.Native.Nat.{ℕ, _*_, _≤_, _<_}
+use Rattle.record.specs.declared.answers.Answer.the-variants.{Refused}
+use Rattle.record.specs.declared.answers.Refusal.{Refusal}
+use Rattle.record.specs.declared.answers.Refusal.the-variants.{NoRoom}
+use Rattle.region.specs.Words.{Store}
+use Rattle.rules.specs.Shape.{Entry}
+use Rattle.rules.specs.Kinds.{overhead}
+use Rattle.rules.specs.Serve.{need, permitted}
+use Rattle.rules.specs.Calls.{Call, Setup, Allocate, AllocateCleared, Reallocate, State}
+use Rattle.promises.specs.Ways.{Way}
+use Rattle.promises.specs.Room.{HoldsBlock, OnlyForRoom}
+use Rattle.promises.specs.Refused.{First}
+use Rattle.promises.specs.Kept.{Passing, Accepted, after, OnLiveBlocks, afterStores}
+
+-- a step of a run: a call, or what the owners of blocks write between two calls
+pub data Step : Type 0 where
+  Calls : Call → Step
+  Writes : List Store → Step
+
+abbrev pub afterStep : Way → Step → State → State
+afterStep way (Calls call) s = after way call s
+afterStep way (Writes ss) s = afterStores ss s
+
+-- any call may be made, another setup too; what is written is inside live blocks, as the heap then has them
+abbrev pub MayStep : Step → State → Type 0
+MayStep (Calls call) s = Unit {0}
+MayStep (Writes ss) s = OnLiveBlocks s ss
+
+-- a run from s on whose steps may all be made
+abbrev pub IsRun : Way → List Step → State → Type 0
+IsRun way [] s = Unit {0}
+IsRun way (x ∷ xs) s = MayStep x s × IsRun way xs (afterStep way x s)
+
+-- P holds in each state of a run, the first and the last too
+abbrev pub Along : Way → (State → Type 0) → List Step → State → Type 0
+Along way P [] s = P s
+Along way P (x ∷ xs) s = P s × Along way P xs (afterStep way x s)
+
+-- a run begins with what an accepted setup left, on any region and whatever record came
+pub record Begins (way : Way) (s : State) : Type 0 where
+  pub table : List ℕ
+  pub donor : ℕ
+  pub merge : Bool
+  pub before : State
+  pub accepted : Accepted (way (Setup table donor merge) (before .words) (before .heap) .answer)
+  pub words : s .words ≡ way (Setup table donor merge) (before .words) (before .heap) .words
+  pub heap : s .heap ≡ way (Setup table donor merge) (before .words) (before .heap) .heap
+
+-- P holds in each state of every run
+abbrev pub ThroughRuns : Way → (State → Type 0) → Type 0
+ThroughRuns way P = (s : State) → Begins way s → (xs : List Step) → IsRun way xs s → Along way P xs s
+
+-- the promise
+pub record Running (way : Way) : Type 0 where
+  -- each state passes
+  pub passes : ThroughRuns way Passing
+  -- whichever call is made there, a refusal is given exactly for the first reason that holds (`Refusing`)
+  pub refused : ThroughRuns way (λ s.
+      (call : Call) (r : Refusal) → (way call (s .words) (s .heap) .answer ≡ Refused r) ↔ First (s .words) (s .heap) call r)
+  -- and for want of room exactly when no chunk of the whole chain can serve (`Room`)
+  pub allocate : ThroughRuns way (λ s. (z : ℕ) → permitted z ≡ true → OnlyForRoom way (Allocate z) (s .words) (s .heap) z)
+  pub cleared : ThroughRuns way (λ s.
+      (count size : ℕ) → permitted (count * size) ≡ true → OnlyForRoom way (AllocateCleared count size) (s .words) (s .heap) (count * size))
+  pub noBlock : ThroughRuns way (λ s. (z : ℕ) → permitted z ≡ true → OnlyForRoom way (Reallocate 0 z) (s .words) (s .heap) z)
+  pub outgrown : ThroughRuns way (λ s.
+      (b z : ℕ) → permitted z ≡ true → (e : Entry) → HoldsBlock (s .words) (s .heap) b e → e .size < need overhead z
+      → OnlyForRoom way (Reallocate b z) (s .words) (s .heap) z)
+  pub fitting : ThroughRuns way (λ s.
+      (b z : ℕ) (e : Entry) → HoldsBlock (s .words) (s .heap) b e → need overhead z ≤ e .size
+      → way (Reallocate b z) (s .words) (s .heap) .answer ≡ Refused NoRoom → ⊥)
