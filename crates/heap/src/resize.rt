@@ -53,6 +53,7 @@ fn move_block(region: &mut [u32], table: &[u32], heap: Heap, place: Place, need:
         return refused(heap, Refusal::NoRoom);
     }
     let grant = serve(region, table, heap, source, need);
+    let given = grant.size;
     let chunk = place.chunk;
     let size = distance(chunk.0, place.end);
     copy_block(region, chunk, grant.chunk, size / 4);
@@ -66,7 +67,7 @@ fn move_block(region: &mut [u32], table: &[u32], heap: Heap, place: Place, need:
     let granted = grant.heap;
     let after = give_up(region, table, granted, old);
     Reply {
-        answer: Answer::Granted(block_of(grant.chunk), change(size, grant.size)),
+        answer: Answer::Granted(block_of(grant.chunk), change(size, given)),
         heap: after,
     }
 }
