@@ -5,3 +5,4 @@ pub mod CountsLaws
 pub mod DeterminedLaws
 pub mod InsideLaws
 pub mod OddLaws
+pub mod ApartLaws

@@ -45,7 +45,7 @@ use Rattle.promises.proofs.RefusedLaws.{Fitting, fitting-iff, allocatin
 use Rattle.promises.proofs.InsideLaws.{found-below, cleared-below, resized-below}
 
 -- the tests before an acceptance have failed
-abbrev Failed : Refusals → Type 0
+abbrev pub Failed : Refusals → Type 0
 Failed [] = Unit {0}
 Failed (t ∷ ts) = (t .0 ≡ false) × Failed ts
 

@@ -4,3 +4,4 @@ pub mod Counts
 pub mod Determined
 pub mod Refused
 pub mod Odd
+pub mod Apart
