@@ -6,3 +6,4 @@ pub mod DeterminedLaws
 pub mod InsideLaws
 pub mod OddLaws
 pub mod ApartLaws
+pub mod WrongLaws

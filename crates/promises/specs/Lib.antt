@@ -5,3 +5,4 @@ pub mod Determined
 pub mod Refused
 pub mod Odd
 pub mod Apart
+pub mod Wrong
