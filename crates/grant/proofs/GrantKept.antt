@@ -501,7 +501,7 @@ module _ (ws : List ℕ) (h : Heap) (p : Passes ws h) (n : ℕ) (large : 24 ≤ 
       go (inr w) =
           part-kept ws h p low chosen high (can .split) (can .free) n large parts w eight (kindIn source) (can .kind) (free-source source some)
 
-  cutting : Cutting chosen n parts
+  pub cutting : Cutting chosen n parts
   cutting = go (cut-either chosen n large (can .enough))
     where
       go : Whole chosen n parts ⊎ Left chosen n parts → Cutting chosen n parts

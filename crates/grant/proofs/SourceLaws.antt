@@ -50,6 +50,7 @@ pub record CanGrant (ws : List ℕ) (h : Heap) (n : ℕ) (source : Source) (e : 
   pub free : Free ws h e
   pub enough : n ≤ e .size
   pub spare : ordinaryKind (kindIn source) ≡ false → n + 24 ≤ e .size
+  pub little : source ≡ FromDonor → small (tableOf h) n ≡ true
   pub here : spot (isAt (e .place)) (shape ws (h .bytes)) .here ≡ e
   pub split : shape ws (h .bytes) ≡ spot (isAt (e .place)) (shape ws (h .bytes)) .low ++ e ∷ spot (isAt (e .place)) (shape ws (h .bytes)) .high
   pub is : grantFrom source n (asRead ws h) ≡ grantAt (kindIn source) (spot (isAt (e .place)) (shape ws (h .bytes))) n (asRead ws h)
@@ -116,6 +117,7 @@ module _ (ws : List ℕ) (h : Heap) (p : Passes ws h) (n : ℕ) where
           free = r .is .free;
           enough = large (k .0) (r .member) (r .place) (r .takes);
           spare = λ q. absurd (true≢false q);
+          little = λ q. cc;
           here = s .1;
           split = s .2;
           is = rw (r .place);
@@ -161,6 +163,7 @@ module _ (ws : List ℕ) (h : Heap) (p : Passes ws h) (n : ℕ) where
           free = d .free;
           enough = omega (arith, f .1);
           spare = λ q. f .1;
+          little = λ q. f .0 .0;
           here = s .1;
           split = s .2;
           is = rw (d .place);
@@ -184,6 +187,7 @@ module _ (ws : List ℕ) (h : Heap) (p : Passes ws h) (n : ℕ) where
           free = d .free;
           enough = omega arith;
           spare = λ q. f;
+          little = λ q. cc;
           here = s .1;
           split = s .2;
           is = rw (d .place);

@@ -8,3 +8,5 @@ pub mod OddLaws
 pub mod FreshLaws
 pub mod KeptLaws
 pub mod RunsLaws
+pub mod ApartLaws
+pub mod WrongLaws

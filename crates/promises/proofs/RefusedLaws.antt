@@ -375,10 +375,10 @@ module _ (ws : List ℕ) (h : Heap) where
 
   -- the chunk of a live block, which is where the chain is taken apart
   module _ (p : Passes ws h) (b : ℕ) (some : (e : Entry) × HoldsBlock ws h b e) where
-    abbrev here : Entry
+    abbrev pub here : Entry
     here = blockSpot (asRead ws h) b .here
 
-    here-holds : HoldsBlock ws h b here
+    pub here-holds : HoldsBlock ws h b here
     unfolding asRead
     here-holds =
         let a = live-iff b .1 some in

@@ -73,16 +73,16 @@ module _ (ws : List ℕ) (h : Heap) (p : Passes ws h) (n : ℕ) where
 
   -- what it takes for a free chunk to serve
   module _ (e : Entry) (f : Free ws h e) where
-    top-can : e .place ≡ h .top .0 → n + 24 ≤ e .size → can e ≡ true
+    pub top-can : e .place ≡ h .top .0 → n + 24 ≤ e .size → can e ≡ true
     unfolding serves
     top-can q l = rw (not-used e f, eq-eqb (e .place) (h .top .0) q) (le-leb (n + 24) (e .size) l)
 
-    donor-can : (e .place ≡ h .top .0 → ⊥) → e .place ≡ h .donor .0 → n + 24 ≤ e .size → small (tableOf h) n ≡ true → can e ≡ true
+    pub donor-can : (e .place ≡ h .top .0 → ⊥) → e .place ≡ h .donor .0 → n + 24 ≤ e .size → small (tableOf h) n ≡ true → can e ≡ true
     unfolding serves
     donor-can t q l s =
         rw (not-used e f, ne-eqb (e .place) (h .top .0) t, eq-eqb (e .place) (h .donor .0) q, le-leb (n + 24) (e .size) l) s
 
-  ordinary-can : (e : Entry) → IsOrdinary ws h e → n ≤ e .size → can e ≡ true
+  pub ordinary-can : (e : Entry) → IsOrdinary ws h e → n ≤ e .size → can e ≡ true
   unfolding serves
   ordinary-can e o l =
       rw (not-used e (o .free), ne-eqb (e .place) (h .top .0) (o .notTop), ne-eqb (e .place) (h .donor .0) (o .notDonor))

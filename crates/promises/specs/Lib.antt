@@ -5,4 +5,6 @@ pub mod Determined
 pub mod Refused
 pub mod Odd
 pub mod Kept
+pub mod Apart
 pub mod Runs
+pub mod Wrong

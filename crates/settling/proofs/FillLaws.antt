@@ -30,11 +30,11 @@ filled-within e value n l = go n 0 (omega arith)
     go (suc n) i r = (omega arith, omega arith, go n (suc i) (omega arith))
 
 -- the stores are to no word below the block and to none above it
-below-block : (e : Entry) (ss : List Store) → Within e ss → (i : ℕ) → i < blockOf e / 4 → Off i ss
+pub below-block : (e : Entry) (ss : List Store) → Within e ss → (i : ℕ) → i < blockOf e / 4 → Off i ss
 below-block e [] w i l = tt
 below-block e (s ∷ ss) w i l = (λ q. omega (arith, w .0), below-block e ss (w .2) i l)
 
-above-block : (e : Entry) (ss : List Store) → Within e ss → (i : ℕ) → blockEnd e / 4 ≤ i → Off i ss
+pub above-block : (e : Entry) (ss : List Store) → Within e ss → (i : ℕ) → blockEnd e / 4 ≤ i → Off i ss
 above-block e [] w i l = tt
 above-block e (s ∷ ss) w i l = (λ q. omega (arith, w .1), above-block e ss (w .2) i l)
 

@@ -1,0 +1,80 @@
+-- Wrong programs (document 01, "How far each statement reaches"): five ways of answering that a promise has to rule out.
+-- Each answers by the rules but for one call.
+use mathlib.Core.Bool.{cond}
+use mathlib.Core.List.{List}
+use Prim.Native.Nat.{ℕ}
+use lib.Dec.{eqb}
+use lib.IntN.{pos}
+use Rattle.record.specs.declared.answers.Answer.{Answer}
+use Rattle.record.specs.declared.answers.Answer.the-variants.{Granted, Told, Counted, Refused}
+use Rattle.record.specs.declared.answers.Refusal.the-variants.{NoRoom}
+use Rattle.record.specs.declared.heap.Heap.{Heap}
+use Rattle.region.specs.declared.Block.{Block}
+use Rattle.rules.specs.Shape.{shape}
+use Rattle.rules.specs.Kinds.{overhead}
+use Rattle.rules.specs.Check.{countsOf}
+use Rattle.rules.specs.Serve.{need}
+use Rattle.rules.specs.Statements.{Left}
+use Rattle.rules.specs.Calls.{Setup, Allocate, AllocateCleared, Free, Reallocate, SetMerge, Check, AskChunk, AskBin}
+use Rattle.promises.specs.Ways.{Way, ours}
+
+-- what is done for a call, on each region and each record
+abbrev pub Doing : Type 0
+Doing = List ℕ → Heap → Left
+
+-- four of the calls are done so, in this order: allocate, free, the check, a question about a bin; the others by the rules
+abbrev pub done : (ℕ → Doing) → (ℕ → Doing) → Doing → (ℕ → ℕ → Doing) → Way
+done allocate free check askBin (Setup table donor merge) = ours (Setup table donor merge)
+done allocate free check askBin (Allocate z) = allocate z
+done allocate free check askBin (AllocateCleared count size) = ours (AllocateCleared count size)
+done allocate free check askBin (Free b) = free b
+done allocate free check askBin (Reallocate b z) = ours (Reallocate b z)
+done allocate free check askBin (SetMerge on) = ours (SetMerge on)
+done allocate free check askBin Check = check
+done allocate free check askBin (AskChunk q p) = ours (AskChunk q p)
+done allocate free check askBin (AskBin q i) = askBin q i
+
+-- by the rules but for allocate; but for free; but for the check; but for questions about a bin
+abbrev pub butAllocate : (ℕ → Doing) → Way
+butAllocate allocate = done allocate (λ b. ours (Free b)) (ours Check) (λ q i. ours (AskBin q i))
+
+abbrev pub butFree : (ℕ → Doing) → Way
+butFree free = done (λ z. ours (Allocate z)) free (ours Check) (λ q i. ours (AskBin q i))
+
+abbrev pub butCheck : Doing → Way
+butCheck check = done (λ z. ours (Allocate z)) (λ b. ours (Free b)) check (λ q i. ours (AskBin q i))
+
+abbrev pub butAskBin : (ℕ → ℕ → Doing) → Way
+butAskBin askBin = done (λ z. ours (Allocate z)) (λ b. ours (Free b)) (ours Check) askBin
+
+-- an answer, and nothing is changed
+abbrev pub merely : Answer → Doing
+merely a ws h = record { answer = a; heap = h; words = ws }
+
+-- 1: no allocation finds room
+abbrev pub refusesAlways : Way
+refusesAlways = butAllocate (λ z. merely (Refused NoRoom))
+
+-- 2: the books are kept, and each allocation is answered with the same block
+abbrev pub sameBlock : Block → Way
+sameBlock block =
+    butAllocate
+    (λ z ws h.
+    let left = ours (Allocate z) ws h in
+    record { answer = Granted block (pos (need overhead z)); heap = left .heap; words = left .words })
+
+-- 3: a free is answered as it should be, and nothing is done
+abbrev pub idleFree : Way
+idleFree = butFree (λ b ws h. merely (ours (Free b) ws h .answer) ws h)
+
+-- 4: every bin has n chunks. The other questions about a bin are answered by the rules
+abbrev pub inventedCount : ℕ → Way
+inventedCount n = butAskBin (λ q i ws h. cond (eqb q 1) (merely (Told n) ws h) (ours (AskBin q i) ws h))
+
+-- 5: the check says that n bytes are used. Its other figures are right
+abbrev pub inventedUsed : ℕ → Way
+inventedUsed n =
+    butCheck
+    (λ ws h.
+    let c = countsOf h (shape ws (h .bytes)) in
+    merely (Counted (record { chunks = c .chunks; ordinary = c .ordinary; used = n; free = c .free })) ws h)
