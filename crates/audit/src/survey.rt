@@ -2,7 +2,7 @@
 // Where the links lead is read here alone; the lists of the bins come afterwards.
 ghost use Prim.Native.Nat.{ℕ};
 ghost use mathlib.Core.Path.{_≡_};
-ghost use Rattle.audit.specs.Survey.{shareOf, marking, added, SurveyIs};
+ghost use Rattle.audit.specs.Survey.{shares, shareOf, marking, added, SurveyIs};
 use crate::chunks::Seen;
 use crate::chunks::examine;
 use chain::end_of;
@@ -38,52 +38,28 @@ pub enum Survey {
     Broken,
 }
 
+fn shares(ordinary: u32, donors: u32, tops: u32, used: u32, free: u32) -> Share
+    ensures { λ r. ⌜ r ≡ shares ordinary donors tops used free ⌝ }
+{
+    Share {
+        ordinary: ordinary,
+        donors: donors,
+        tops: tops,
+        used: used,
+        free: free,
+    }
+}
+
 pub fn share_of(kind: Kind, size: u32) -> Share
     ensures { λ r. ⌜ r ≡ shareOf kind size ⌝ }
 {
     match kind {
-        Kind::Start => Share {
-            ordinary: 0,
-            donors: 0,
-            tops: 0,
-            used: 0,
-            free: 0,
-        },
-        Kind::InUse => Share {
-            ordinary: 0,
-            donors: 0,
-            tops: 0,
-            used: size,
-            free: 0,
-        },
-        Kind::Ordinary => Share {
-            ordinary: 1,
-            donors: 0,
-            tops: 0,
-            used: 0,
-            free: size,
-        },
-        Kind::Donor => Share {
-            ordinary: 0,
-            donors: 1,
-            tops: 0,
-            used: 0,
-            free: size,
-        },
-        Kind::Top => Share {
-            ordinary: 0,
-            donors: 0,
-            tops: 1,
-            used: 0,
-            free: size,
-        },
-        Kind::End => Share {
-            ordinary: 0,
-            donors: 0,
-            tops: 0,
-            used: 0,
-            free: 0,
-        },
+        Kind::Start => shares(0, 0, 0, 0, 0),
+        Kind::InUse => shares(0, 0, 0, size, 0),
+        Kind::Ordinary => shares(1, 0, 0, 0, size),
+        Kind::Donor => shares(0, 1, 0, 0, size),
+        Kind::Top => shares(0, 0, 1, 0, size),
+        Kind::End => shares(0, 0, 0, 0, 0),
     }
 }
 

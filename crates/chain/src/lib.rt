@@ -55,19 +55,6 @@ pub fn is_free(kind: Kind) -> bool
     }
 }
 
-pub fn is_live(kind: Kind) -> bool
-    ensures { λ r. ⌜ r ≡ liveKind kind ⌝ }
-{
-    match kind {
-        Kind::Start => false,
-        Kind::InUse => true,
-        Kind::Ordinary => false,
-        Kind::Donor => false,
-        Kind::Top => false,
-        Kind::End => false,
-    }
-}
-
 // Where a chunk ends: at the next one, or, if its forward link does not go up inside the heap, with the heap.
 pub fn end_of(bytes: u32, chunk: Chunk, next: u32) -> u32
     ensures { λ r. ⌜ r ≡ endOf bytes (chunk .0) next ⌝ }
