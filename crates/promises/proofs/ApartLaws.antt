@@ -13,11 +13,11 @@ use lib.ListN.{length}
 use borrow.Author.Tests.{ne-eqb, lt-ltb, le-ltb, leb-true}
 use Rattle.grant.proofs.NeedLaws.{need-large, need-eight}
 use Rattle.grant.proofs.SourceLaws.{CanGrant}
-use Rattle.grant.proofs.GrantKept.{chosen, can, source, cutting, grant-is, grant-kept, granted-there, granted-live, granted-large, granted-new, live-stays}
+use Rattle.grant.proofs.GrantKept.{chosen, can, source, cutting, grant-is, grant-kept, granted-there, granted-live, granted-large, granted-new, live-stays, granted-only}
 use Rattle.grant.proofs.GrantSpares.{grant-spares}
 use Rattle.lists.specs.Lists.{numbersFrom}
 use Rattle.record.specs.declared.answers.Answer.{Answer}
-use Rattle.record.specs.declared.answers.Answer.the-variants.{Granted, Returned}
+use Rattle.record.specs.declared.answers.Answer.the-variants.{Done, Granted, Returned}
 use Rattle.record.specs.declared.answers.Refusal.the-variants.{BlockSize, NotLive, NoRoom, NoBinTakes}
 use Rattle.record.specs.declared.heap.Heap.{Heap}
 use Rattle.record.specs.declared.sources.Source.{Source}
@@ -30,7 +30,7 @@ use Rattle.region.proofs.WordsLaws.{Off, off, word-same, length-store, written-
 use Rattle.release.proofs.AgainLaws.{again}
 use Rattle.release.proofs.ReleaseKept.{free-kept, others-stay, none-new}
 use Rattle.release.proofs.ReleaseSpares.{free-spares, shrink-spares, shrink-spares-own}
-use Rattle.release.proofs.ShrinkKept.{shrink-kept, shrink-there, shrink-others-stay}
+use Rattle.release.proofs.ShrinkKept.{shrink-kept, shrink-there, shrink-others-stay, shrink-none-new}
 use Rattle.rules.specs.Shape.{Entry, shape, binList}
 use Rattle.rules.specs.Kinds.{ordinaryKind, live, overhead, blockOf, blockEnd, blockWords}
 use Rattle.rules.specs.Check.{Passes}
@@ -52,7 +52,7 @@ use Rattle.settling.proofs.PictureLaws.{Pictured}
 use Rattle.promises.specs.Ways.{ours}
 use Rattle.promises.specs.Room.{OnChain, HoldsBlock}
 use Rattle.promises.specs.Refused.{isSetup, recordOf}
-use Rattle.promises.specs.Apart.{SameWords, Keeps, KeepsAll, KeepsOthers, Gone, CutFrom, New, Clear, Stays, onlyLooks, Apart}
+use Rattle.promises.specs.Apart.{SameWords, Keeps, KeepsAll, KeepsOthers, Gone, NoneNew, NoneNewBut, CutFrom, New, Clear, Stays, onlyLooks, Apart}
 use Rattle.promises.proofs.ServeLaws.{top-can, donor-can, ordinary-can}
 use Rattle.promises.proofs.RefusedLaws.{allocating, live-iff, one-block, here-holds, refusing}
 use Rattle.promises.proofs.OddLaws.{Failed}
@@ -179,9 +179,18 @@ module _ (ws : List ℕ) (h : Heap) (p : Passes ws h) (n : ℕ) (large : 24 ≤ 
               ∙ off (given .draft .stores) ws (blockOf e) k (grant-spares ws h p n large eight some e m l _ (omega arith) (omega arith)));
         }
 
+    -- no other chunk becomes live
+    only-new : (e : Entry) → OnChain W₁ H e → live H e ≡ true → (blockOf e ≡ blockOf new) ⊎ (OnChain ws h e × (live h e ≡ true))
+    only-new e m l = go (granted-only ws h p n large eight some e (rw (filled .0 ∙ kept .chain) at m) l)
+      where
+        go : (e ≡ new) ⊎ (OnChain ws h e × (live h e ≡ true)) → (blockOf e ≡ blockOf new) ⊎ (OnChain ws h e × (live h e ≡ true))
+        go (inl q) = inl (ap blockOf q)
+        go (inr k) = inr k
+
     -- it meets the promise of a new block
-    new-apart : (a : Answer) → New ws h n (blockOf new) (leftBy ws (made a (alsoWrites ss (given .draft)))) × KeepsAll ws h (leftBy ws (made a (alsoWrites ss (given .draft))))
-    new-apart a = ((new, from, (new-held, cut-from)), keeps-all)
+    new-apart : (a : Answer) → let left = leftBy ws (made a (alsoWrites ss (given .draft))) in
+        New ws h n (blockOf new) left × KeepsAll ws h left × NoneNewBut ws h (blockOf new) left
+    new-apart a = ((new, from, (new-held, cut-from)), keeps-all, only-new)
 
     -- words written into it one after the other are read back
     new-long : blockEnd new ≤ 4 * length W
@@ -287,12 +296,18 @@ module _ (ws : List ℕ) (h : Heap) (p : Passes ws h) (n : ℕ) (large : 24 ≤ 
       rw (appended ws h p n large eight some copies copies-within)
       (fill-reads (λ j. word ws (blockOf e) j) (blockOf to) (blockWords e) 0 (W ws h p n large eight some) (omega arith) k (omega arith) (omega arith))
 
+  moved-only : (d : Entry) → OnChain M (freeBlock (blockOf e) over .heap) d → live (freeBlock (blockOf e) over .heap) d ≡ true
+      → OnChain C G d × (live G d ≡ true) × (blockOf d ≢ blockOf e)
+  moved-only d k j = none-others C G copied-passes (blockOf e) live-again d (rw (again-is .0, again-is .1) at k) (rw (again-is .0) at j)
+
   moved-apart : (a : Answer) → let left = leftBy ws (made a (freeBlock (blockOf e) over)) in
-      New ws h n (blockOf to) left × KeepsOthers ws h (blockOf e) left × Gone (blockOf e) left × SameWords ws (blockOf e) M (blockOf to) (blockWords e)
+      New ws h n (blockOf to) left × KeepsOthers ws h (blockOf e) left × Gone (blockOf e) left × NoneNewBut ws h (blockOf to) left
+      × SameWords ws (blockOf e) M (blockOf to) (blockWords e)
   moved-apart a = (
     (to, from ws h p n large eight some, (to-kept .held, cut-from ws h p n large eight some)),
     (λ d k j o. let r = copied-keeps d k j in keeps-on ws C M G (freeBlock (blockOf e) over .heap) d r (moved-keeps d (r .held .member) (r .held .live) o)),
-    (λ d k. none-others C G copied-passes (blockOf e) live-again d (rw (again-is .0, again-is .1) at (k .member)) (rw (again-is .0) at (k .live)) .2 (k .block)),
+    (λ d k. moved-only d (k .member) (k .live) .2 (k .block)),
+    (λ d k j. let r = moved-only d k j in only-new ws h p n large eight some copies copies-within d (r .0) (r .1)),
     λ k r. to-kept .same k (let y = fits in omega arith) ∙ copied-reads k r,
   )
 
@@ -322,7 +337,7 @@ module _ (ws : List ℕ) (h : Heap) (p : Passes ws h) (block : Block) (change : 
     block-is : blockOf (grant n (asRead ws h) .granted) ≡ block .0
     block-is = block-of 0 (grant n (asRead ws h) .granted) block change (sym (ap (λ (o : Outcome). o .answer) (taken .1)) ∙ q)
 
-    with-apart : New ws h n (block .0) (leftBy ws (allocateWith fill ws h z)) × KeepsAll ws h (leftBy ws (allocateWith fill ws h z))
+    with-apart : let left = leftBy ws (allocateWith fill ws h z) in New ws h n (block .0) left × KeepsAll ws h left × NoneNewBut ws h (block .0) left
     with-apart =
         rw (taken .1, ← block-is)
         (new-apart ws h p n (need-large z) (need-eight z) (taken .0 .1 .1 .0) (fill (grant n (asRead ws h) .granted)) (within _) (made-of .answer))
@@ -410,7 +425,7 @@ module _ (ws : List ℕ) (h : Heap) (p : Passes ws h) (b : ℕ) (e : Entry) (k :
       moved-left = sym (resized-left ∙ ap (λ (x : Grant). leftBy ws (made (grants (old .size) (x .granted)) (x .draft))) moved-is)
 
       abbrev Moved : ℕ → ℕ → Entry → Left → Type 0
-      Moved d c x y = New ws h large d y × KeepsOthers ws h c y × Gone c y × SameWords ws c (y .words) d (blockWords x)
+      Moved d c x y = New ws h large d y × KeepsOthers ws h c y × Gone c y × NoneNewBut ws h d y × SameWords ws c (y .words) d (blockWords x)
 
       moved-well : Moved (block .0) b e left
       moved-well =
@@ -425,38 +440,52 @@ module _ (ws : List ℕ) (h : Heap) (p : Passes ws h) (b : ℕ) (e : Entry) (k :
     -- one that its chunk has room for
     module _ (fits : large ≤ e .size) where
       abbrev Stay : Grant → Type 0
-      Stay x = (blockOf (x .granted) ≡ b) × ((y : Entry) × Stays ws large b e (written ws (x .draft .stores)) (x .draft .heap) y)
-          × KeepsOthers ws h b (leftBy ws (made (grants (old .size) (x .granted)) (x .draft)))
+      Stay x =
+          let left = leftBy ws (made (grants (old .size) (x .granted)) (x .draft)) in
+          (blockOf (x .granted) ≡ b) × ((y : Entry) × Stays ws large b e (left .words) (left .heap) y) × KeepsOthers ws h b left × NoneNewBut ws h b left
 
-      shrink-well : large + 24 ≤ old .size → Stay (shrunk (blockSpot (asRead ws h) b) large (asRead ws h))
-      shrink-well l =
-          let live : isLive (asRead ws h) b ≡ true = is-live in
-          let x : Grant = shrunk (blockSpot (asRead ws h) b) large (asRead ws h) in
-          let t = shrink-there ws h p b live large (need-large z) (need-eight z) l in
-          let c = shrink-kept ws h p b live large (need-large z) (need-eight z) l .chain in (
-            old-holds .block,
-            (
-              x .granted,
-              record {
-                held = record { member = rw c (t .0); live = t .1; block = old-holds .block };
-                enough = omega arith;
-                noMore = fits;
-                same = λ j r.
-                    let i = inside ws h p old (old-holds .member) .place in
-                    off (x .draft .stores) ws b j
-                    (shrink-spares-own ws h p b live large (need-large z) (need-eight z) l _ (omega (arith, old-holds .block)) (omega (arith, old-holds .block)));
-              },
-            ),
-            λ d m v o.
-                let s = shrink-others-stay ws h p b live large (need-large z) (need-eight z) l d m v o in
-                record {
-                  held = record { member = rw c (s .0); live = s .1; block = refl };
-                  same = λ j r.
-                      let i = inside ws h p d m in
-                      off (x .draft .stores) ws (blockOf d) j
-                      (shrink-spares ws h p b live large (need-large z) (need-eight z) l d m v o _ (omega arith) (omega arith));
-                },
-          )
+      -- a tail is split off
+      module _ (l : large + 24 ≤ old .size) where
+        abbrev shrinks : Grant
+        shrinks = shrunk (blockSpot (asRead ws h) b) large (asRead ws h)
+
+        abbrev S : List ℕ
+        S = written ws (shrinks .draft .stores)
+
+        shrunk-chain : shape S (shrinks .draft .heap .bytes) ≡ shrinks .draft .chain
+        shrunk-chain = shrink-kept ws h p b is-live large (need-large z) (need-eight z) l .chain
+
+        shrunk-stays : Stays ws large b e S (shrinks .draft .heap) (shrinks .granted)
+        shrunk-stays =
+            let t = shrink-there ws h p b is-live large (need-large z) (need-eight z) l in
+            record {
+              held = record { member = rw shrunk-chain (t .0); live = t .1; block = old-holds .block };
+              enough = omega arith;
+              noMore = fits;
+              same = λ j r.
+                  let i = inside ws h p old (old-holds .member) .place in
+                  off (shrinks .draft .stores) ws b j
+                  (shrink-spares-own ws h p b is-live large (need-large z) (need-eight z) l _ (omega (arith, old-holds .block)) (omega (arith, old-holds .block)));
+            }
+
+        shrunk-keeps : (d : Entry) → OnChain ws h d → live h d ≡ true → blockOf d ≢ b → Keeps ws S (shrinks .draft .heap) d
+        shrunk-keeps d m v o =
+            let s = shrink-others-stay ws h p b is-live large (need-large z) (need-eight z) l d m v o in
+            record {
+              held = record { member = rw shrunk-chain (s .0); live = s .1; block = refl };
+              same = λ j r.
+                  let i = inside ws h p d m in
+                  off (shrinks .draft .stores) ws (blockOf d) j
+                  (shrink-spares ws h p b is-live large (need-large z) (need-eight z) l d m v o _ (omega arith) (omega arith));
+            }
+
+        shrunk-only : (d : Entry) → OnChain S (shrinks .draft .heap) d → live (shrinks .draft .heap) d ≡ true
+            → (blockOf d ≡ b) ⊎ (OnChain ws h d × (live h d ≡ true))
+        shrunk-only d m v = go (ℕ-discrete (blockOf d) b)
+          where
+            go : Dec (blockOf d ≡ b) → (blockOf d ≡ b) ⊎ (OnChain ws h d × (live h d ≡ true))
+            go (yes q) = inl q
+            go (no o) = inr (shrink-none-new ws h p b is-live large (need-large z) (need-eight z) l d (rw shrunk-chain at m) v o)
 
       -- nothing changes
       same-well : Stay (record { granted = old; draft = asRead ws h })
@@ -464,7 +493,8 @@ module _ (ws : List ℕ) (h : Heap) (p : Passes ws h) (b : ℕ) (e : Entry) (k :
       same-well = (
         old-holds .block,
         (old, record { held = old-holds; enough = rw old-is fits; noMore = rw old-is (omega arith); same = λ j r. refl }),
-        λ d m v o. kept-still ws h d m v,
+        (λ d m v o. kept-still ws h d m v),
+        λ d m v. inr (m, v),
       )
 
       stay-well : Stay result
@@ -473,12 +503,14 @@ module _ (ws : List ℕ) (h : Heap) (p : Passes ws h) (b : ℕ) (e : Entry) (k :
         where
           go : (t : Bool) → leb (large + 24) (old .size) ≡ t
               → Stay (cond t (shrunk (blockSpot (asRead ws h) b) large (asRead ws h)) (record { granted = old; draft = asRead ws h }))
-          go true u = shrink-well (leb-true (large + 24) (old .size) u)
+          go true u =
+              let l = leb-true (large + 24) (old .size) u in
+              (old-holds .block, (shrinks l .granted, shrunk-stays l), shrunk-keeps l, shrunk-only l)
           go false u = same-well
 
-      stays-well : (block .0 ≡ b) × ((y : Entry) × Stays ws large b e (ours (Reallocate b z) ws h .words) (ours (Reallocate b z) ws h .heap) y)
-          × KeepsOthers ws h b (ours (Reallocate b z) ws h)
-      stays-well = let r = stay-well in rw resized-left (sym resized-block ∙ r .0, r .1, r .2)
+      stays-well : let left = ours (Reallocate b z) ws h in
+          (block .0 ≡ b) × ((y : Entry) × Stays ws large b e (left .words) (left .heap) y) × KeepsOthers ws h b left × NoneNewBut ws h b left
+      stays-well = let r = stay-well in rw resized-left (sym resized-block ∙ r .0, r .1, r .2, r .3)
 
 -- a question changes nothing, answered or refused
 unchanged-judged : (h : Heap) (a : Answer) (ts : Refusals) → judged h ts (unchanged h a) ≡ unchanged h (judged h ts (unchanged h a) .answer)
@@ -487,17 +519,22 @@ unchanged-judged h a ((true, r) ∷ ts) = refl
 unchanged-judged h a ((false, r) ∷ ts) = unchanged-judged h a ts
 
 module _ (ws : List ℕ) (h : Heap) (p : Passes ws h) where
-  look : (call : Call) → onlyLooks call ≡ true → KeepsAll ws h (ours call ws h)
+  still : KeepsAll ws h (leftBy ws (unchanged h Done)) × NoneNew ws h (leftBy ws (unchanged h Done))
+  still = (kept-still ws h, λ e m l. (m, l))
+
+  look : (call : Call) → onlyLooks call ≡ true → KeepsAll ws h (ours call ws h) × NoneNew ws h (ours call ws h)
   unfolding ours step setMerge check askChunk askBin free asRead
   look (Setup table donor merge) q = absurd (false≢true q)
   look (Allocate z) q = absurd (false≢true q)
   look (AllocateCleared count size) q = absurd (false≢true q)
-  look (Free b) q = rw (passes-iff ws h .1 p, q) (kept-still ws h)
+  look (Free b) q = rw (passes-iff ws h .1 p, q) still
   look (Reallocate b z) q = absurd (false≢true q)
-  look (SetMerge on) q = rw (passes-iff ws h .1 p) (λ e m l. let k = kept-still ws h e m l in record { held = record { member = m; live = l; block = refl }; same = k .same })
-  look Check q = kept-still ws h
-  look (AskChunk question place) q = rw (unchanged-judged h _ _) (kept-still ws h)
-  look (AskBin question i) q = rw (unchanged-judged h _ _) (kept-still ws h)
+  look (SetMerge on) q =
+      rw (passes-iff ws h .1 p)
+      (λ e m l. record { held = record { member = m; live = l; block = refl }; same = λ k r. refl }, λ e m l. (m, l))
+  look Check q = still
+  look (AskChunk question place) q = rw (unchanged-judged h _ _) still
+  look (AskBin question i) q = rw (unchanged-judged h _ _) still
 
 -- a refused call gives the record as it came
 came : (call : Call) (h : Heap) → isSetup call ≡ false → recordOf call h ≡ h
@@ -514,21 +551,23 @@ came (AskBin question i) h q = refl
 module _ (ws : List ℕ) (h : Heap) (p : Passes ws h) (block : Block) (change : ℤ) where
   allocated : (z : ℕ) → ours (Allocate z) ws h .answer ≡ Granted block change
       → New ws h (need overhead z) (block .0) (ours (Allocate z) ws h) × KeepsAll ws h (ours (Allocate z) ws h)
+      × NoneNewBut ws h (block .0) (ours (Allocate z) ws h)
   unfolding ours step allocate
   allocated z q = with-apart ws h p block change asFound (λ e. tt) z q
 
   reallocated : (z : ℕ) → ours (Reallocate 0 z) ws h .answer ≡ Granted block change
       → New ws h (need overhead z) (block .0) (ours (Reallocate 0 z) ws h) × KeepsAll ws h (ours (Reallocate 0 z) ws h)
+      × NoneNewBut ws h (block .0) (ours (Reallocate 0 z) ws h)
   unfolding ours step reallocate allocate
   reallocated z q = with-apart ws h p block change asFound (λ e. tt) z q
 
   cleared-apart : (count size : ℕ) → let left = ours (AllocateCleared count size) ws h in
       left .answer ≡ Granted block change
-      → New ws h (need overhead (count * size)) (block .0) left × KeepsAll ws h left × Clear (block .0) left
+      → New ws h (need overhead (count * size)) (block .0) left × KeepsAll ws h left × NoneNewBut ws h (block .0) left × Clear (block .0) left
   unfolding ours step allocateCleared
   cleared-apart count size q =
       let r = with-apart ws h p block change cleared cleared-within (count * size) q in
-      (r .0, r .1, cleared-clear ws h p block change (count * size) q)
+      (r .0, r .1, r .2, cleared-clear ws h p block change (count * size) q)
 
 pub kept-apart : Apart ours
 kept-apart =
@@ -543,5 +582,5 @@ kept-apart =
           (others-kept ws h p b (is-live ws h p b e k), none-others ws h p b (is-live ws h p b e k));
       looks = look;
       refused = λ ws h p call s r q.
-          rw (refusing .heap call ws h r q ∙ came call h s, refusing .words call ws h r q) (kept-still ws h);
+          rw (refusing .heap call ws h r q ∙ came call h s, refusing .words call ws h r q) (still ws h p);
     }
