@@ -3,313 +3,49 @@
 use mathlib.Core.Path.{_≡_, refl, sym, ap, subst, _∙_}
 use mathlib.Core.Logic.{_≢_, _⊎_, inl, inr}
 use mathlib.Core.Bool.{Bool, true, false, not, cond, _&&_, true≢false, false≢true}
-use mathlib.Core.List.{List, [], _∷_, _++_, map}
-use Prim.Native.Nat.{ℕ, zero, suc, _+_, _*_, _/_, _%_, _≤_, _<_}
+use mathlib.Core.List.{List, [], _∷_}
+use Prim.Native.Nat.{ℕ, _+_, _*_, _≤_, _<_}
 use native.Mathlib.Decide.{ℕ-discrete}
 use native.Mathlib.Omega.{arith}
 use lib.Dec.{leb, ltb}
 use lib.IntN.{ℤ}
-use lib.ListN.{length}
 use borrow.Author.Tests.{ne-eqb, lt-ltb, le-ltb, leb-true}
 use Rattle.grant.proofs.NeedLaws.{need-large, need-eight}
-use Rattle.grant.proofs.SourceLaws.{CanGrant}
-use Rattle.grant.proofs.GrantKept.{chosen, can, source, cutting, grant-is, grant-kept, granted-there, granted-live, granted-large, granted-new, live-stays, granted-only}
-use Rattle.grant.proofs.GrantSpares.{grant-spares}
-use Rattle.lists.specs.Lists.{numbersFrom}
 use Rattle.record.specs.declared.answers.Answer.{Answer}
 use Rattle.record.specs.declared.answers.Answer.the-variants.{Done, Granted, Returned}
 use Rattle.record.specs.declared.answers.Refusal.the-variants.{BlockSize, NotLive, NoRoom, NoBinTakes}
 use Rattle.record.specs.declared.heap.Heap.{Heap}
-use Rattle.record.specs.declared.sources.Source.{Source}
-use Rattle.record.specs.declared.sources.Source.the-variants.{FromBin, FromDonor, FromTop, Nowhere}
 use Rattle.record.specs.Answers.{figuresOf}
-use Rattle.record.specs.Heap.{tableOf}
 use Rattle.region.specs.declared.Block.{Block}
-use Rattle.region.specs.Words.{Store, put, word, store, written}
-use Rattle.region.proofs.WordsLaws.{Off, off, word-same, length-store, written-append}
-use Rattle.release.proofs.AgainLaws.{again}
-use Rattle.release.proofs.ReleaseKept.{free-kept, others-stay, none-new}
-use Rattle.release.proofs.ReleaseSpares.{free-spares, shrink-spares, shrink-spares-own}
+use Rattle.region.specs.Words.{Store, written}
+use Rattle.region.proofs.WordsLaws.{off}
+use Rattle.release.proofs.ReleaseKept.{free-kept}
+use Rattle.release.proofs.ReleaseSpares.{shrink-spares, shrink-spares-own}
 use Rattle.release.proofs.ShrinkKept.{shrink-kept, shrink-there, shrink-others-stay, shrink-none-new}
-use Rattle.rules.specs.Shape.{Entry, shape, binList}
-use Rattle.rules.specs.Kinds.{ordinaryKind, live, overhead, blockOf, blockEnd, blockWords}
+use Rattle.rules.specs.Shape.{Entry, shape}
+use Rattle.rules.specs.Kinds.{live, overhead, blockOf, blockWords}
 use Rattle.rules.specs.Check.{Passes}
-use Rattle.rules.specs.Draft.{Draft, asRead, alsoWrites}
-use Rattle.rules.specs.Serve.{serves, need, permitted, nowhere}
+use Rattle.rules.specs.Draft.{asRead, alsoWrites}
+use Rattle.rules.specs.Serve.{need, permitted, nowhere}
 use Rattle.rules.specs.Cut.{Grant}
 use Rattle.rules.specs.Outcome.{Outcome, Refusals, judged, heapFails, unchanged, made, grants, changeOf}
 use Rattle.rules.specs.Allocate.{sourceOf, grant, asFound, cleared, allocateWith, allocate, allocateCleared}
 use Rattle.rules.specs.Free.{isLive, blockSpot, freeBlock, free}
-use Rattle.rules.specs.Reallocate.{copied, shrunk, moved, resized, resize, reallocate}
+use Rattle.rules.specs.Reallocate.{shrunk, moved, resized, resize, reallocate}
 use Rattle.rules.specs.Merge.{setMerge, check}
 use Rattle.rules.specs.Ask.{askChunk, askBin}
 use Rattle.rules.specs.Statements.{Left, leftBy}
 use Rattle.rules.specs.Calls.{Call, Setup, Allocate, AllocateCleared, Free, Reallocate, SetMerge, Check, AskChunk, AskBin, step}
 use Rattle.rules.proofs.CheckLaws.{passes-iff}
-use Rattle.rules.proofs.SpotLaws.{bounds, inside, apart, is-ordinary, is-donor}
-use Rattle.settling.proofs.FillLaws.{Within, fills, filled-within, below-block, above-block}
-use Rattle.settling.proofs.PictureLaws.{Pictured}
+use Rattle.rules.proofs.SpotLaws.{inside}
+use Rattle.settling.proofs.FillLaws.{Within}
 use Rattle.promises.specs.Ways.{ours}
 use Rattle.promises.specs.Room.{OnChain, HoldsBlock}
 use Rattle.promises.specs.Refused.{isSetup, recordOf}
-use Rattle.promises.specs.Apart.{SameWords, Keeps, KeepsAll, KeepsOthers, Gone, NoneNew, NoneNewBut, CutFrom, New, Clear, Stays, onlyLooks, Apart}
-use Rattle.promises.proofs.ServeLaws.{top-can, donor-can, ordinary-can}
+use Rattle.promises.specs.Apart.{SameWords, Keeps, KeepsAll, KeepsOthers, Gone, NoneNew, NoneNewBut, New, Clear, Stays, onlyLooks, Apart}
 use Rattle.promises.proofs.RefusedLaws.{allocating, live-iff, one-block, here-holds, refusing}
+use Rattle.promises.proofs.GrantedLaws.{kept-still, new-apart, new-clear, cleared-within, others-kept, none-others, moved-apart}
 use Rattle.promises.proofs.OddLaws.{Failed}
-
--- words that were written one after the other from number i on are read back
-fill-reads : (value : ℕ → ℕ) (b n i : ℕ) (ws : List ℕ) → b / 4 + i + n ≤ length ws → (k : ℕ) → i ≤ k → k < i + n
-    → word (written ws (map (λ j. put b j (value j)) (numbersFrom i n))) b k ≡ value k
-fill-reads value b zero i ws r k lo hi = absurd (omega arith)
-fill-reads value b (suc n) i ws r k lo hi =
-    go (ℕ-discrete k i)
-    (λ l. fill-reads value b n (suc i) (store ws b i (value i)) (omega (arith, length-store ws b i (value i))) k l (omega arith))
-  where
-    later : (n j : ℕ) → i < j → Off (b / 4 + i) (map (λ j. put b j (value j)) (numbersFrom j n))
-    later zero j l = tt
-    later (suc n) j l = (λ q. omega arith, later n (suc j) (omega arith))
-
-    go : Dec (k ≡ i) → let after = written (store ws b i (value i)) (map (λ j. put b j (value j)) (numbersFrom (suc i) n)) in
-        (suc i ≤ k → word after b k ≡ value k) → word after b k ≡ value k
-    go (yes q) f =
-        rw q
-        (off (map (λ j. put b j (value j)) (numbersFrom (suc i) n)) (store ws b i (value i)) b i (later n (suc i) (omega arith))
-        ∙ word-same ws b i (value i) (omega arith))
-    go (no m) f = f (omega arith)
-
--- nothing is written, and no chunk changes its kind
-kept-still : (ws : List ℕ) (h : Heap) (e : Entry) → OnChain ws h e → live h e ≡ true → Keeps ws ws h e
-kept-still ws h e m l = record { held = record { member = m; live = l; block = refl }; same = λ k r. refl }
-
--- what is kept twice is kept
-keeps-on : (ws us vs : List ℕ) (g h : Heap) (e : Entry) → Keeps ws us g e → Keeps us vs h e → Keeps ws vs h e
-keeps-on ws us vs g h e a b = record { held = b .held; same = λ k l. b .same k l ∙ a .same k l }
-
--- n bytes are granted
-module _ (ws : List ℕ) (h : Heap) (p : Passes ws h) (n : ℕ) (large : 24 ≤ n) (eight : n % 8 ≡ 0)
-    (some : nowhere (sourceOf n (asRead ws h)) ≡ false) where
-  abbrev given : Grant
-  given = grant n (asRead ws h)
-
-  abbrev new : Entry
-  new = given .granted
-
-  -- the words and the record then
-  abbrev W : List ℕ
-  W = written ws (given .draft .stores)
-
-  abbrev H : Heap
-  H = given .draft .heap
-
-  abbrev from : Entry
-  from = chosen ws h p n large eight some
-
-  kept : Pictured ws (given .draft)
-  kept = grant-kept ws h p n large eight some
-
-  new-there : OnChain W H new
-  new-there = rw (kept .chain) (granted-there ws h p n large eight some)
-
-  new-live : live H new ≡ true
-  new-live = granted-live ws h p n large eight some
-
-  old-there : (e : Entry) → OnChain ws h e → live h e ≡ true → OnChain W H e
-  old-there e m l = rw (kept .chain) (live-stays ws h p n large eight some e m l .0)
-
-  beside : (e : Entry) → OnChain ws h e → live h e ≡ true → (blockEnd e ≤ new .place) ⊎ (blockEnd new ≤ e .place)
-  beside e m l =
-      apart W H (kept .passes) e new (old-there e m l) new-there (granted-new ws h p n large eight some e m l)
-
-  -- the chunk that was chosen can serve
-  source-serves : serves (tableOf h) (h .donor .0) (h .top .0) n from ≡ true
-  source-serves = go (source ws h p n large eight some) refl (can ws h p n large eight some)
-    where
-      go : (s : Source) → source ws h p n large eight some ≡ s → CanGrant ws h n s from → serves (tableOf h) (h .donor .0) (h .top .0) n from ≡ true
-      go (FromBin c) q k = ordinary-can ws h p n from (is-ordinary ws h p from (k .member) (ap ordinaryKind (k .kind))) (k .enough)
-      go FromDonor q k =
-          let b = k .free .between in
-          let d = is-donor ws h p from (k .member) (omega (arith, k .place)) (k .place) in
-          donor-can ws h p n from (k .free) (λ t. omega (arith, k .place, d .below)) (k .place) (k .spare refl) (k .little refl)
-      go FromTop q k = top-can ws h p n from (k .free) (k .place) (k .spare refl)
-      go Nowhere q k = absurd (true≢false (sym (ap nowhere q) ∙ some))
-
-  cut-from : CutFrom ws h n new from
-  cut-from =
-      let c = cutting ws h p n large eight some in
-      let i = ap (λ (x : Grant). x .granted) (grant-is ws h p n large eight some) in
-      record {
-        member = can ws h p n large eight some .member;
-        serves = source-serves;
-        starts = rw i (omega (arith, c .place));
-        ends = rw i (omega (arith, c .place, c .sum));
-        enough = granted-large ws h p n large eight some;
-        apart = beside;
-      }
-
-  -- and its block written into
-  module _ (ss : List Store) (w : Within new ss) where
-    abbrev W₁ : List ℕ
-    W₁ = written ws (given .draft .stores ++ ss)
-
-    appended : W₁ ≡ written W ss
-    appended = written-append (given .draft .stores) ss ws
-
-    filled : (shape W₁ (H .bytes) ≡ shape W (H .bytes)) × ((i : ℕ) → binList W₁ H i ≡ binList W H i) × Passes W₁ H
-    filled = rw appended (fills W H (kept .passes) new new-there new-live ss w)
-
-    new-held : HoldsBlock W₁ H (blockOf new) new
-    new-held = record { member = rw (filled .0) new-there; live = new-live; block = refl }
-
-    -- no word of a live block is written
-    old-off : (e : Entry) → OnChain ws h e → live h e ≡ true → (k : ℕ) → k < blockWords e → Off (blockOf e / 4 + k) ss
-    old-off e m l k r = go (beside e m l)
-      where
-        go : (blockEnd e ≤ new .place) ⊎ (blockEnd new ≤ e .place) → Off (blockOf e / 4 + k) ss
-        go (inl q) = let i = inside ws h p e m in below-block new ss w _ (omega arith)
-        go (inr q) = above-block new ss w _ (omega arith)
-
-    keeps-all : (e : Entry) → OnChain ws h e → live h e ≡ true → Keeps ws W₁ H e
-    keeps-all e m l =
-        record {
-          held = record { member = rw (filled .0) (old-there e m l); live = live-stays ws h p n large eight some e m l .1; block = refl };
-          same = λ k r.
-              let i = inside ws h p e m in
-              rw appended
-              (off ss W (blockOf e) k (old-off e m l k r)
-              ∙ off (given .draft .stores) ws (blockOf e) k (grant-spares ws h p n large eight some e m l _ (omega arith) (omega arith)));
-        }
-
-    -- no other chunk becomes live
-    only-new : (e : Entry) → OnChain W₁ H e → live H e ≡ true → (blockOf e ≡ blockOf new) ⊎ (OnChain ws h e × (live h e ≡ true))
-    only-new e m l = go (granted-only ws h p n large eight some e (rw (filled .0 ∙ kept .chain) at m) l)
-      where
-        go : (e ≡ new) ⊎ (OnChain ws h e × (live h e ≡ true)) → (blockOf e ≡ blockOf new) ⊎ (OnChain ws h e × (live h e ≡ true))
-        go (inl q) = inl (ap blockOf q)
-        go (inr k) = inr k
-
-    -- it meets the promise of a new block
-    new-apart : (a : Answer) → let left = leftBy ws (made a (alsoWrites ss (given .draft))) in
-        New ws h n (blockOf new) left × KeepsAll ws h left × NoneNewBut ws h (blockOf new) left
-    new-apart a = ((new, from, (new-held, cut-from)), keeps-all, only-new)
-
-    -- words written into it one after the other are read back
-    new-long : blockEnd new ≤ 4 * length W
-    new-long = let i = inside W H (kept .passes) new new-there in let b = bounds W H (kept .passes) in omega arith
-
-cleared-within : (e : Entry) → Within e (cleared e)
-cleared-within e = filled-within e (λ k. 0) (blockWords e) (omega arith)
-
--- a new block that is cleared reads 0
-new-clear : (ws : List ℕ) (h : Heap) (p : Passes ws h) (n : ℕ) (large : 24 ≤ n) (eight : n % 8 ≡ 0) (some : nowhere (sourceOf n (asRead ws h)) ≡ false)
-    → let g = grant n (asRead ws h) in let after = written ws (g .draft .stores ++ cleared (g .granted)) in
-    (e : Entry) → HoldsBlock after (g .draft .heap) (blockOf (g .granted)) e → (k : ℕ) → k < blockWords e → word after (blockOf (g .granted)) k ≡ 0
-new-clear ws h p n large eight some e k j r =
-    let x : Entry = new ws h p n large eight some in
-    let w = cleared-within x in
-    let f = filled ws h p n large eight some (cleared x) w in
-    let q = one-block _ (H ws h p n large eight some) (f .2) (blockOf x) e x k (new-held ws h p n large eight some (cleared x) w) in
-    let l = new-long ws h p n large eight some (cleared x) w in
-    let u = granted-large ws h p n large eight some in
-    rw (appended ws h p n large eight some (cleared x) w)
-    (fill-reads (λ i. 0) (blockOf x) (blockWords x) 0 (W ws h p n large eight some) (omega arith) j (omega arith)
-    (omega (arith, ap blockWords q)))
-
--- the live block at b is given back
-module _ (ws : List ℕ) (h : Heap) (p : Passes ws h) (b : ℕ) (l : isLive (asRead ws h) b ≡ true) where
-  abbrev freed : Draft
-  freed = freeBlock b (asRead ws h)
-
-  abbrev F : List ℕ
-  F = written ws (freed .stores)
-
-  others-kept : (e : Entry) → OnChain ws h e → live h e ≡ true → blockOf e ≢ b → Keeps ws F (freed .heap) e
-  others-kept e m k o =
-      let r = others-stay ws h p b l e m k o in
-      record {
-        held = record { member = rw (free-kept ws h p b l .chain) (r .0); live = r .1; block = refl };
-        same = λ j q.
-            let i = inside ws h p e m in
-            off (freed .stores) ws (blockOf e) j (free-spares ws h p b l e m k o _ (omega arith) (omega arith));
-      }
-
-  none-others : (e : Entry) → OnChain F (freed .heap) e → live (freed .heap) e ≡ true → OnChain ws h e × (live h e ≡ true) × (blockOf e ≢ b)
-  none-others e m k = none-new ws h p b l e (rw (free-kept ws h p b l .chain) at m) k
-
--- the chunk e of a live block, which has less than n bytes, and room for n elsewhere: the block moves
-module _ (ws : List ℕ) (h : Heap) (p : Passes ws h) (n : ℕ) (large : 24 ≤ n) (eight : n % 8 ≡ 0) (some : nowhere (sourceOf n (asRead ws h)) ≡ false)
-    (e : Entry) (m : OnChain ws h e) (l : live h e ≡ true) (less : e .size < n) where
-  abbrev to : Entry
-  to = new ws h p n large eight some
-
-  abbrev copies : List Store
-  copies = copied ws e to
-
-  fits : blockWords e ≤ blockWords to
-  fits = let u = granted-large ws h p n large eight some in omega arith
-
-  copies-within : Within to copies
-  copies-within = filled-within to (λ k. word ws (blockOf e) k) (blockWords e) fits
-
-  -- the words and the record once the old block was copied
-  abbrev C : List ℕ
-  C = W₁ ws h p n large eight some copies copies-within
-
-  abbrev G : Heap
-  G = H ws h p n large eight some
-
-  copied-passes : Passes C G
-  copied-passes = filled ws h p n large eight some copies copies-within .2
-
-  copied-keeps : (d : Entry) → OnChain ws h d → live h d ≡ true → Keeps ws C G d
-  copied-keeps = keeps-all ws h p n large eight some copies copies-within
-
-  live-again : isLive (asRead C G) (blockOf e) ≡ true
-  live-again = live-iff C G (blockOf e) .1 (e, copied-keeps e m l .held)
-
-  -- the old block is given back
-  abbrev over : Draft
-  over = alsoWrites copies (given ws h p n large eight some .draft)
-
-  abbrev M : List ℕ
-  M = written ws (freeBlock (blockOf e) over .stores)
-
-  again-is : (freeBlock (blockOf e) over .heap ≡ freeBlock (blockOf e) (asRead C G) .heap)
-      × (M ≡ written C (freeBlock (blockOf e) (asRead C G) .stores))
-  again-is =
-      let f = filled ws h p n large eight some copies copies-within in
-      let k = kept ws h p n large eight some in
-      let r = again C over (blockOf e) (f .0 ∙ k .chain) (λ i. f .1 i ∙ k .lists i) (k .housed) in
-      (r .0, ap (written ws) (r .1) ∙ written-append (over .stores) (freeBlock (blockOf e) (asRead C G) .stores) ws)
-
-  moved-keeps : (d : Entry) → OnChain C G d → live G d ≡ true → blockOf d ≢ blockOf e → Keeps C M (freeBlock (blockOf e) over .heap) d
-  moved-keeps d k j o = rw (again-is .0, again-is .1) (others-kept C G copied-passes (blockOf e) live-again d k j o)
-
-  to-kept : Keeps C M (freeBlock (blockOf e) over .heap) to
-  to-kept =
-      let r = new-held ws h p n large eight some copies copies-within in
-      moved-keeps to (r .member) (r .live) (λ q. granted-new ws h p n large eight some e m l (omega arith))
-
-  copied-reads : SameWords ws (blockOf e) C (blockOf to) (blockWords e)
-  copied-reads k r =
-      let x = new-long ws h p n large eight some copies copies-within in
-      let y = fits in
-      rw (appended ws h p n large eight some copies copies-within)
-      (fill-reads (λ j. word ws (blockOf e) j) (blockOf to) (blockWords e) 0 (W ws h p n large eight some) (omega arith) k (omega arith) (omega arith))
-
-  moved-only : (d : Entry) → OnChain M (freeBlock (blockOf e) over .heap) d → live (freeBlock (blockOf e) over .heap) d ≡ true
-      → OnChain C G d × (live G d ≡ true) × (blockOf d ≢ blockOf e)
-  moved-only d k j = none-others C G copied-passes (blockOf e) live-again d (rw (again-is .0, again-is .1) at k) (rw (again-is .0) at j)
-
-  moved-apart : (a : Answer) → let left = leftBy ws (made a (freeBlock (blockOf e) over)) in
-      New ws h n (blockOf to) left × KeepsOthers ws h (blockOf e) left × Gone (blockOf e) left × NoneNewBut ws h (blockOf to) left
-      × SameWords ws (blockOf e) M (blockOf to) (blockWords e)
-  moved-apart a = (
-    (to, from ws h p n large eight some, (to-kept .held, cut-from ws h p n large eight some)),
-    (λ d k j o. let r = copied-keeps d k j in keeps-on ws C M G (freeBlock (blockOf e) over .heap) d r (moved-keeps d (r .held .member) (r .held .live) o)),
-    (λ d k. moved-only d (k .member) (k .live) .2 (k .block)),
-    (λ d k j. let r = moved-only d k j in only-new ws h p n large eight some copies copies-within d (r .0) (r .1)),
-    λ k r. to-kept .same k (let y = fits in omega arith) ∙ copied-reads k r,
-  )
 
 -- a call that granted a block was not refused: its tests failed, and the outcome is what it made
 accepted : (h : Heap) (o : Outcome) (block : Block) (change : ℤ) (ts : Refusals) → judged h ts o .answer ≡ Granted block change
@@ -449,13 +185,13 @@ module _ (ws : List ℕ) (h : Heap) (p : Passes ws h) (b : ℕ) (e : Entry) (k :
         abbrev shrinks : Grant
         shrinks = shrunk (blockSpot (asRead ws h) b) large (asRead ws h)
 
-        abbrev S : List ℕ
-        S = written ws (shrinks .draft .stores)
+        abbrev shrunkWords : List ℕ
+        shrunkWords = written ws (shrinks .draft .stores)
 
-        shrunk-chain : shape S (shrinks .draft .heap .bytes) ≡ shrinks .draft .chain
+        shrunk-chain : shape shrunkWords (shrinks .draft .heap .bytes) ≡ shrinks .draft .chain
         shrunk-chain = shrink-kept ws h p b is-live large (need-large z) (need-eight z) l .chain
 
-        shrunk-stays : Stays ws large b e S (shrinks .draft .heap) (shrinks .granted)
+        shrunk-stays : Stays ws large b e shrunkWords (shrinks .draft .heap) (shrinks .granted)
         shrunk-stays =
             let t = shrink-there ws h p b is-live large (need-large z) (need-eight z) l in
             record {
@@ -468,7 +204,7 @@ module _ (ws : List ℕ) (h : Heap) (p : Passes ws h) (b : ℕ) (e : Entry) (k :
                   (shrink-spares-own ws h p b is-live large (need-large z) (need-eight z) l _ (omega (arith, old-holds .block)) (omega (arith, old-holds .block)));
             }
 
-        shrunk-keeps : (d : Entry) → OnChain ws h d → live h d ≡ true → blockOf d ≢ b → Keeps ws S (shrinks .draft .heap) d
+        shrunk-keeps : (d : Entry) → OnChain ws h d → live h d ≡ true → blockOf d ≢ b → Keeps ws shrunkWords (shrinks .draft .heap) d
         shrunk-keeps d m v o =
             let s = shrink-others-stay ws h p b is-live large (need-large z) (need-eight z) l d m v o in
             record {
@@ -479,7 +215,7 @@ module _ (ws : List ℕ) (h : Heap) (p : Passes ws h) (b : ℕ) (e : Entry) (k :
                   (shrink-spares ws h p b is-live large (need-large z) (need-eight z) l d m v o _ (omega arith) (omega arith));
             }
 
-        shrunk-only : (d : Entry) → OnChain S (shrinks .draft .heap) d → live (shrinks .draft .heap) d ≡ true
+        shrunk-only : (d : Entry) → OnChain shrunkWords (shrinks .draft .heap) d → live (shrinks .draft .heap) d ≡ true
             → (blockOf d ≡ b) ⊎ (OnChain ws h d × (live h d ≡ true))
         shrunk-only d m v = go (ℕ-discrete (blockOf d) b)
           where

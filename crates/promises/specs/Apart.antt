@@ -59,7 +59,7 @@ NoOthers ws h b left =
     (e : Entry) → OnChain (left .words) (left .heap) e → live (left .heap) e ≡ true
     → OnChain ws h e × (live h e ≡ true) × (blockOf e ≢ b)
 
--- the chunk e is cut from one chunk of the old chain, which can serve n, has n bytes, and meets no chunk of a live block
+-- the chunk e has n bytes at least, lies inside one chunk of the old chain, which can serve n, and meets no chunk of a live block
 pub record CutFrom (ws : List ℕ) (h : Heap) (n : ℕ) (e from : Entry) : Type 0 where
   pub member : OnChain ws h from
   pub serves : serves (tableOf h) (h .donor .0) (h .top .0) n from ≡ true
