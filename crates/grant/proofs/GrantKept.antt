@@ -536,3 +536,31 @@ module _ (ws : List ℕ) (h : Heap) (p : Passes ws h) (n : ℕ) (large : 24 ≤ 
   live-stays e m l =
       let k = outer ws h p low chosen high (can .split) (can .free) e m (other e m l) in
       rw (grant-is, cut-kept .chain) (outer-in low (chunksOf parts) high k, ap liveKind (cut-kept .kinds e k) ∙ l)
+
+  -- and no chunk becomes live but the granted one
+  kept-only : (e : Entry) → Mem e (after .chain) → live (after .heap) e ≡ true → (e ≡ parts .granted) ⊎ (Mem e es × (live h e ≡ true))
+  kept-only e m l = go (among low (chunksOf parts) high (rw (cut-kept .chain) at m)) (cut-either chosen n large (can .enough))
+    where
+      used : e .flags ≡ 1
+      used = live-between (written ws (after .stores)) (after .heap) (cut-kept .pictured .passes) e (rw (cut-kept .pictured .chain) m) l .0
+
+      part : Left chosen n parts → Mem e (parts .granted ∷ parts .above ∷ []) → e ≡ parts .granted
+      part w (List·Memᴰ·head q) = q
+      part w (List·Memᴰ·tail k) =
+          let f = ap (λ (x : Entry). x .flags) (List·Memᴰ·eq-of-singleton k) in
+          let u = used in
+          absurd (omega (arith, w .cutting .free))
+
+      go : Mem e (low ++ high) ⊎ Mem e (chunksOf parts) → Whole chosen n parts ⊎ Left chosen n parts
+          → (e ≡ parts .granted) ⊎ (Mem e es × (live h e ≡ true))
+      go (inl k) c =
+          inr (
+            subst (λ (xs : List Entry). Mem e xs) (sym (whole ws h p low chosen high (can .split) (can .free))) (outer-in low (chosen ∷ []) high k),
+            sym (ap liveKind (cut-kept .kinds e k)) ∙ l,
+          )
+      go (inr k) (inl w) = inl (List·Memᴰ·eq-of-singleton (rw (w .chunks) at k))
+      go (inr k) (inr w) = inl (part w (rw (w .chunks) at k))
+
+  pub granted-only : (e : Entry) → Mem e (grant n (asRead ws h) .draft .chain) → live (grant n (asRead ws h) .draft .heap) e ≡ true
+      → (e ≡ grant n (asRead ws h) .granted) ⊎ (Mem e (shape ws (h .bytes)) × (live h e ≡ true))
+  granted-only = rw grant-is kept-only

@@ -3,298 +3,49 @@
 use mathlib.Core.Path.{_≡_, refl, sym, ap, subst, _∙_}
 use mathlib.Core.Logic.{_≢_, _⊎_, inl, inr}
 use mathlib.Core.Bool.{Bool, true, false, not, cond, _&&_, true≢false, false≢true}
-use mathlib.Core.List.{List, [], _∷_, _++_, map}
-use Prim.Native.Nat.{ℕ, zero, suc, _+_, _*_, _/_, _%_, _≤_, _<_}
+use mathlib.Core.List.{List, [], _∷_}
+use Prim.Native.Nat.{ℕ, _+_, _*_, _≤_, _<_}
 use native.Mathlib.Decide.{ℕ-discrete}
 use native.Mathlib.Omega.{arith}
 use lib.Dec.{leb, ltb}
 use lib.IntN.{ℤ}
-use lib.ListN.{length}
 use borrow.Author.Tests.{ne-eqb, lt-ltb, le-ltb, leb-true}
 use Rattle.grant.proofs.NeedLaws.{need-large, need-eight}
-use Rattle.grant.proofs.SourceLaws.{CanGrant}
-use Rattle.grant.proofs.GrantKept.{chosen, can, source, cutting, grant-is, grant-kept, granted-there, granted-live, granted-large, granted-new, live-stays}
-use Rattle.grant.proofs.GrantSpares.{grant-spares}
-use Rattle.lists.specs.Lists.{numbersFrom}
 use Rattle.record.specs.declared.answers.Answer.{Answer}
-use Rattle.record.specs.declared.answers.Answer.the-variants.{Granted, Returned}
+use Rattle.record.specs.declared.answers.Answer.the-variants.{Done, Granted, Returned}
 use Rattle.record.specs.declared.answers.Refusal.the-variants.{BlockSize, NotLive, NoRoom, NoBinTakes}
 use Rattle.record.specs.declared.heap.Heap.{Heap}
-use Rattle.record.specs.declared.sources.Source.{Source}
-use Rattle.record.specs.declared.sources.Source.the-variants.{FromBin, FromDonor, FromTop, Nowhere}
 use Rattle.record.specs.Answers.{figuresOf}
-use Rattle.record.specs.Heap.{tableOf}
 use Rattle.region.specs.declared.Block.{Block}
-use Rattle.region.specs.Words.{Store, put, word, store, written}
-use Rattle.region.proofs.WordsLaws.{Off, off, word-same, length-store, written-append}
-use Rattle.release.proofs.AgainLaws.{again}
-use Rattle.release.proofs.ReleaseKept.{free-kept, others-stay, none-new}
-use Rattle.release.proofs.ReleaseSpares.{free-spares, shrink-spares, shrink-spares-own}
-use Rattle.release.proofs.ShrinkKept.{shrink-kept, shrink-there, shrink-others-stay}
-use Rattle.rules.specs.Shape.{Entry, shape, binList}
-use Rattle.rules.specs.Kinds.{ordinaryKind, live, overhead, blockOf, blockEnd, blockWords}
+use Rattle.region.specs.Words.{Store, written}
+use Rattle.region.proofs.WordsLaws.{off}
+use Rattle.release.proofs.ReleaseKept.{free-kept}
+use Rattle.release.proofs.ReleaseSpares.{shrink-spares, shrink-spares-own}
+use Rattle.release.proofs.ShrinkKept.{shrink-kept, shrink-there, shrink-others-stay, shrink-none-new}
+use Rattle.rules.specs.Shape.{Entry, shape}
+use Rattle.rules.specs.Kinds.{live, overhead, blockOf, blockWords}
 use Rattle.rules.specs.Check.{Passes}
-use Rattle.rules.specs.Draft.{Draft, asRead, alsoWrites}
-use Rattle.rules.specs.Serve.{serves, need, permitted, nowhere}
+use Rattle.rules.specs.Draft.{asRead, alsoWrites}
+use Rattle.rules.specs.Serve.{need, permitted, nowhere}
 use Rattle.rules.specs.Cut.{Grant}
 use Rattle.rules.specs.Outcome.{Outcome, Refusals, judged, heapFails, unchanged, made, grants, changeOf}
 use Rattle.rules.specs.Allocate.{sourceOf, grant, asFound, cleared, allocateWith, allocate, allocateCleared}
 use Rattle.rules.specs.Free.{isLive, blockSpot, freeBlock, free}
-use Rattle.rules.specs.Reallocate.{copied, shrunk, moved, resized, resize, reallocate}
+use Rattle.rules.specs.Reallocate.{shrunk, moved, resized, resize, reallocate}
 use Rattle.rules.specs.Merge.{setMerge, check}
 use Rattle.rules.specs.Ask.{askChunk, askBin}
 use Rattle.rules.specs.Statements.{Left, leftBy}
 use Rattle.rules.specs.Calls.{Call, Setup, Allocate, AllocateCleared, Free, Reallocate, SetMerge, Check, AskChunk, AskBin, step}
 use Rattle.rules.proofs.CheckLaws.{passes-iff}
-use Rattle.rules.proofs.SpotLaws.{bounds, inside, apart, is-ordinary, is-donor}
-use Rattle.settling.proofs.FillLaws.{Within, fills, filled-within, below-block, above-block}
-use Rattle.settling.proofs.PictureLaws.{Pictured}
+use Rattle.rules.proofs.SpotLaws.{inside}
+use Rattle.settling.proofs.FillLaws.{Within}
 use Rattle.promises.specs.Ways.{ours}
 use Rattle.promises.specs.Room.{OnChain, HoldsBlock}
 use Rattle.promises.specs.Refused.{isSetup, recordOf}
-use Rattle.promises.specs.Apart.{SameWords, Keeps, KeepsAll, KeepsOthers, Gone, CutFrom, New, Clear, Stays, onlyLooks, Apart}
-use Rattle.promises.proofs.ServeLaws.{top-can, donor-can, ordinary-can}
+use Rattle.promises.specs.Apart.{SameWords, Keeps, KeepsAll, KeepsOthers, Gone, NoneNew, NoneNewBut, New, Clear, Stays, onlyLooks, Apart}
 use Rattle.promises.proofs.RefusedLaws.{allocating, live-iff, one-block, here-holds, refusing}
+use Rattle.promises.proofs.GrantedLaws.{kept-still, new-apart, new-clear, cleared-within, others-kept, none-others, moved-apart}
 use Rattle.promises.proofs.OddLaws.{Failed}
-
--- words that were written one after the other from number i on are read back
-fill-reads : (value : ℕ → ℕ) (b n i : ℕ) (ws : List ℕ) → b / 4 + i + n ≤ length ws → (k : ℕ) → i ≤ k → k < i + n
-    → word (written ws (map (λ j. put b j (value j)) (numbersFrom i n))) b k ≡ value k
-fill-reads value b zero i ws r k lo hi = absurd (omega arith)
-fill-reads value b (suc n) i ws r k lo hi =
-    go (ℕ-discrete k i)
-    (λ l. fill-reads value b n (suc i) (store ws b i (value i)) (omega (arith, length-store ws b i (value i))) k l (omega arith))
-  where
-    later : (n j : ℕ) → i < j → Off (b / 4 + i) (map (λ j. put b j (value j)) (numbersFrom j n))
-    later zero j l = tt
-    later (suc n) j l = (λ q. omega arith, later n (suc j) (omega arith))
-
-    go : Dec (k ≡ i) → let after = written (store ws b i (value i)) (map (λ j. put b j (value j)) (numbersFrom (suc i) n)) in
-        (suc i ≤ k → word after b k ≡ value k) → word after b k ≡ value k
-    go (yes q) f =
-        rw q
-        (off (map (λ j. put b j (value j)) (numbersFrom (suc i) n)) (store ws b i (value i)) b i (later n (suc i) (omega arith))
-        ∙ word-same ws b i (value i) (omega arith))
-    go (no m) f = f (omega arith)
-
--- nothing is written, and no chunk changes its kind
-kept-still : (ws : List ℕ) (h : Heap) (e : Entry) → OnChain ws h e → live h e ≡ true → Keeps ws ws h e
-kept-still ws h e m l = record { held = record { member = m; live = l; block = refl }; same = λ k r. refl }
-
--- what is kept twice is kept
-keeps-on : (ws us vs : List ℕ) (g h : Heap) (e : Entry) → Keeps ws us g e → Keeps us vs h e → Keeps ws vs h e
-keeps-on ws us vs g h e a b = record { held = b .held; same = λ k l. b .same k l ∙ a .same k l }
-
--- n bytes are granted
-module _ (ws : List ℕ) (h : Heap) (p : Passes ws h) (n : ℕ) (large : 24 ≤ n) (eight : n % 8 ≡ 0)
-    (some : nowhere (sourceOf n (asRead ws h)) ≡ false) where
-  abbrev given : Grant
-  given = grant n (asRead ws h)
-
-  abbrev new : Entry
-  new = given .granted
-
-  -- the words and the record then
-  abbrev W : List ℕ
-  W = written ws (given .draft .stores)
-
-  abbrev H : Heap
-  H = given .draft .heap
-
-  abbrev from : Entry
-  from = chosen ws h p n large eight some
-
-  kept : Pictured ws (given .draft)
-  kept = grant-kept ws h p n large eight some
-
-  new-there : OnChain W H new
-  new-there = rw (kept .chain) (granted-there ws h p n large eight some)
-
-  new-live : live H new ≡ true
-  new-live = granted-live ws h p n large eight some
-
-  old-there : (e : Entry) → OnChain ws h e → live h e ≡ true → OnChain W H e
-  old-there e m l = rw (kept .chain) (live-stays ws h p n large eight some e m l .0)
-
-  beside : (e : Entry) → OnChain ws h e → live h e ≡ true → (blockEnd e ≤ new .place) ⊎ (blockEnd new ≤ e .place)
-  beside e m l =
-      apart W H (kept .passes) e new (old-there e m l) new-there (granted-new ws h p n large eight some e m l)
-
-  -- the chunk that was chosen can serve
-  source-serves : serves (tableOf h) (h .donor .0) (h .top .0) n from ≡ true
-  source-serves = go (source ws h p n large eight some) refl (can ws h p n large eight some)
-    where
-      go : (s : Source) → source ws h p n large eight some ≡ s → CanGrant ws h n s from → serves (tableOf h) (h .donor .0) (h .top .0) n from ≡ true
-      go (FromBin c) q k = ordinary-can ws h p n from (is-ordinary ws h p from (k .member) (ap ordinaryKind (k .kind))) (k .enough)
-      go FromDonor q k =
-          let b = k .free .between in
-          let d = is-donor ws h p from (k .member) (omega (arith, k .place)) (k .place) in
-          donor-can ws h p n from (k .free) (λ t. omega (arith, k .place, d .below)) (k .place) (k .spare refl) (k .little refl)
-      go FromTop q k = top-can ws h p n from (k .free) (k .place) (k .spare refl)
-      go Nowhere q k = absurd (true≢false (sym (ap nowhere q) ∙ some))
-
-  cut-from : CutFrom ws h n new from
-  cut-from =
-      let c = cutting ws h p n large eight some in
-      let i = ap (λ (x : Grant). x .granted) (grant-is ws h p n large eight some) in
-      record {
-        member = can ws h p n large eight some .member;
-        serves = source-serves;
-        starts = rw i (omega (arith, c .place));
-        ends = rw i (omega (arith, c .place, c .sum));
-        enough = granted-large ws h p n large eight some;
-        apart = beside;
-      }
-
-  -- and its block written into
-  module _ (ss : List Store) (w : Within new ss) where
-    abbrev W₁ : List ℕ
-    W₁ = written ws (given .draft .stores ++ ss)
-
-    appended : W₁ ≡ written W ss
-    appended = written-append (given .draft .stores) ss ws
-
-    filled : (shape W₁ (H .bytes) ≡ shape W (H .bytes)) × ((i : ℕ) → binList W₁ H i ≡ binList W H i) × Passes W₁ H
-    filled = rw appended (fills W H (kept .passes) new new-there new-live ss w)
-
-    new-held : HoldsBlock W₁ H (blockOf new) new
-    new-held = record { member = rw (filled .0) new-there; live = new-live; block = refl }
-
-    -- no word of a live block is written
-    old-off : (e : Entry) → OnChain ws h e → live h e ≡ true → (k : ℕ) → k < blockWords e → Off (blockOf e / 4 + k) ss
-    old-off e m l k r = go (beside e m l)
-      where
-        go : (blockEnd e ≤ new .place) ⊎ (blockEnd new ≤ e .place) → Off (blockOf e / 4 + k) ss
-        go (inl q) = let i = inside ws h p e m in below-block new ss w _ (omega arith)
-        go (inr q) = above-block new ss w _ (omega arith)
-
-    keeps-all : (e : Entry) → OnChain ws h e → live h e ≡ true → Keeps ws W₁ H e
-    keeps-all e m l =
-        record {
-          held = record { member = rw (filled .0) (old-there e m l); live = live-stays ws h p n large eight some e m l .1; block = refl };
-          same = λ k r.
-              let i = inside ws h p e m in
-              rw appended
-              (off ss W (blockOf e) k (old-off e m l k r)
-              ∙ off (given .draft .stores) ws (blockOf e) k (grant-spares ws h p n large eight some e m l _ (omega arith) (omega arith)));
-        }
-
-    -- it meets the promise of a new block
-    new-apart : (a : Answer) → New ws h n (blockOf new) (leftBy ws (made a (alsoWrites ss (given .draft)))) × KeepsAll ws h (leftBy ws (made a (alsoWrites ss (given .draft))))
-    new-apart a = ((new, from, (new-held, cut-from)), keeps-all)
-
-    -- words written into it one after the other are read back
-    new-long : blockEnd new ≤ 4 * length W
-    new-long = let i = inside W H (kept .passes) new new-there in let b = bounds W H (kept .passes) in omega arith
-
-cleared-within : (e : Entry) → Within e (cleared e)
-cleared-within e = filled-within e (λ k. 0) (blockWords e) (omega arith)
-
--- a new block that is cleared reads 0
-new-clear : (ws : List ℕ) (h : Heap) (p : Passes ws h) (n : ℕ) (large : 24 ≤ n) (eight : n % 8 ≡ 0) (some : nowhere (sourceOf n (asRead ws h)) ≡ false)
-    → let g = grant n (asRead ws h) in let after = written ws (g .draft .stores ++ cleared (g .granted)) in
-    (e : Entry) → HoldsBlock after (g .draft .heap) (blockOf (g .granted)) e → (k : ℕ) → k < blockWords e → word after (blockOf (g .granted)) k ≡ 0
-new-clear ws h p n large eight some e k j r =
-    let x : Entry = new ws h p n large eight some in
-    let w = cleared-within x in
-    let f = filled ws h p n large eight some (cleared x) w in
-    let q = one-block _ (H ws h p n large eight some) (f .2) (blockOf x) e x k (new-held ws h p n large eight some (cleared x) w) in
-    let l = new-long ws h p n large eight some (cleared x) w in
-    let u = granted-large ws h p n large eight some in
-    rw (appended ws h p n large eight some (cleared x) w)
-    (fill-reads (λ i. 0) (blockOf x) (blockWords x) 0 (W ws h p n large eight some) (omega arith) j (omega arith)
-    (omega (arith, ap blockWords q)))
-
--- the live block at b is given back
-module _ (ws : List ℕ) (h : Heap) (p : Passes ws h) (b : ℕ) (l : isLive (asRead ws h) b ≡ true) where
-  abbrev freed : Draft
-  freed = freeBlock b (asRead ws h)
-
-  abbrev F : List ℕ
-  F = written ws (freed .stores)
-
-  others-kept : (e : Entry) → OnChain ws h e → live h e ≡ true → blockOf e ≢ b → Keeps ws F (freed .heap) e
-  others-kept e m k o =
-      let r = others-stay ws h p b l e m k o in
-      record {
-        held = record { member = rw (free-kept ws h p b l .chain) (r .0); live = r .1; block = refl };
-        same = λ j q.
-            let i = inside ws h p e m in
-            off (freed .stores) ws (blockOf e) j (free-spares ws h p b l e m k o _ (omega arith) (omega arith));
-      }
-
-  none-others : (e : Entry) → OnChain F (freed .heap) e → live (freed .heap) e ≡ true → OnChain ws h e × (live h e ≡ true) × (blockOf e ≢ b)
-  none-others e m k = none-new ws h p b l e (rw (free-kept ws h p b l .chain) at m) k
-
--- the chunk e of a live block, which has less than n bytes, and room for n elsewhere: the block moves
-module _ (ws : List ℕ) (h : Heap) (p : Passes ws h) (n : ℕ) (large : 24 ≤ n) (eight : n % 8 ≡ 0) (some : nowhere (sourceOf n (asRead ws h)) ≡ false)
-    (e : Entry) (m : OnChain ws h e) (l : live h e ≡ true) (less : e .size < n) where
-  abbrev to : Entry
-  to = new ws h p n large eight some
-
-  abbrev copies : List Store
-  copies = copied ws e to
-
-  fits : blockWords e ≤ blockWords to
-  fits = let u = granted-large ws h p n large eight some in omega arith
-
-  copies-within : Within to copies
-  copies-within = filled-within to (λ k. word ws (blockOf e) k) (blockWords e) fits
-
-  -- the words and the record once the old block was copied
-  abbrev C : List ℕ
-  C = W₁ ws h p n large eight some copies copies-within
-
-  abbrev G : Heap
-  G = H ws h p n large eight some
-
-  copied-passes : Passes C G
-  copied-passes = filled ws h p n large eight some copies copies-within .2
-
-  copied-keeps : (d : Entry) → OnChain ws h d → live h d ≡ true → Keeps ws C G d
-  copied-keeps = keeps-all ws h p n large eight some copies copies-within
-
-  live-again : isLive (asRead C G) (blockOf e) ≡ true
-  live-again = live-iff C G (blockOf e) .1 (e, copied-keeps e m l .held)
-
-  -- the old block is given back
-  abbrev over : Draft
-  over = alsoWrites copies (given ws h p n large eight some .draft)
-
-  abbrev M : List ℕ
-  M = written ws (freeBlock (blockOf e) over .stores)
-
-  again-is : (freeBlock (blockOf e) over .heap ≡ freeBlock (blockOf e) (asRead C G) .heap)
-      × (M ≡ written C (freeBlock (blockOf e) (asRead C G) .stores))
-  again-is =
-      let f = filled ws h p n large eight some copies copies-within in
-      let k = kept ws h p n large eight some in
-      let r = again C over (blockOf e) (f .0 ∙ k .chain) (λ i. f .1 i ∙ k .lists i) (k .housed) in
-      (r .0, ap (written ws) (r .1) ∙ written-append (over .stores) (freeBlock (blockOf e) (asRead C G) .stores) ws)
-
-  moved-keeps : (d : Entry) → OnChain C G d → live G d ≡ true → blockOf d ≢ blockOf e → Keeps C M (freeBlock (blockOf e) over .heap) d
-  moved-keeps d k j o = rw (again-is .0, again-is .1) (others-kept C G copied-passes (blockOf e) live-again d k j o)
-
-  to-kept : Keeps C M (freeBlock (blockOf e) over .heap) to
-  to-kept =
-      let r = new-held ws h p n large eight some copies copies-within in
-      moved-keeps to (r .member) (r .live) (λ q. granted-new ws h p n large eight some e m l (omega arith))
-
-  copied-reads : SameWords ws (blockOf e) C (blockOf to) (blockWords e)
-  copied-reads k r =
-      let x = new-long ws h p n large eight some copies copies-within in
-      let y = fits in
-      rw (appended ws h p n large eight some copies copies-within)
-      (fill-reads (λ j. word ws (blockOf e) j) (blockOf to) (blockWords e) 0 (W ws h p n large eight some) (omega arith) k (omega arith) (omega arith))
-
-  moved-apart : (a : Answer) → let left = leftBy ws (made a (freeBlock (blockOf e) over)) in
-      New ws h n (blockOf to) left × KeepsOthers ws h (blockOf e) left × Gone (blockOf e) left × SameWords ws (blockOf e) M (blockOf to) (blockWords e)
-  moved-apart a = (
-    (to, from ws h p n large eight some, (to-kept .held, cut-from ws h p n large eight some)),
-    (λ d k j o. let r = copied-keeps d k j in keeps-on ws C M G (freeBlock (blockOf e) over .heap) d r (moved-keeps d (r .held .member) (r .held .live) o)),
-    (λ d k. none-others C G copied-passes (blockOf e) live-again d (rw (again-is .0, again-is .1) at (k .member)) (rw (again-is .0) at (k .live)) .2 (k .block)),
-    λ k r. to-kept .same k (let y = fits in omega arith) ∙ copied-reads k r,
-  )
 
 -- a call that granted a block was not refused: its tests failed, and the outcome is what it made
 accepted : (h : Heap) (o : Outcome) (block : Block) (change : ℤ) (ts : Refusals) → judged h ts o .answer ≡ Granted block change
@@ -322,7 +73,7 @@ module _ (ws : List ℕ) (h : Heap) (p : Passes ws h) (block : Block) (change : 
     block-is : blockOf (grant n (asRead ws h) .granted) ≡ block .0
     block-is = block-of 0 (grant n (asRead ws h) .granted) block change (sym (ap (λ (o : Outcome). o .answer) (taken .1)) ∙ q)
 
-    with-apart : New ws h n (block .0) (leftBy ws (allocateWith fill ws h z)) × KeepsAll ws h (leftBy ws (allocateWith fill ws h z))
+    with-apart : let left = leftBy ws (allocateWith fill ws h z) in New ws h n (block .0) left × KeepsAll ws h left × NoneNewBut ws h (block .0) left
     with-apart =
         rw (taken .1, ← block-is)
         (new-apart ws h p n (need-large z) (need-eight z) (taken .0 .1 .1 .0) (fill (grant n (asRead ws h) .granted)) (within _) (made-of .answer))
@@ -410,7 +161,7 @@ module _ (ws : List ℕ) (h : Heap) (p : Passes ws h) (b : ℕ) (e : Entry) (k :
       moved-left = sym (resized-left ∙ ap (λ (x : Grant). leftBy ws (made (grants (old .size) (x .granted)) (x .draft))) moved-is)
 
       abbrev Moved : ℕ → ℕ → Entry → Left → Type 0
-      Moved d c x y = New ws h large d y × KeepsOthers ws h c y × Gone c y × SameWords ws c (y .words) d (blockWords x)
+      Moved d c x y = New ws h large d y × KeepsOthers ws h c y × Gone c y × NoneNewBut ws h d y × SameWords ws c (y .words) d (blockWords x)
 
       moved-well : Moved (block .0) b e left
       moved-well =
@@ -425,38 +176,52 @@ module _ (ws : List ℕ) (h : Heap) (p : Passes ws h) (b : ℕ) (e : Entry) (k :
     -- one that its chunk has room for
     module _ (fits : large ≤ e .size) where
       abbrev Stay : Grant → Type 0
-      Stay x = (blockOf (x .granted) ≡ b) × ((y : Entry) × Stays ws large b e (written ws (x .draft .stores)) (x .draft .heap) y)
-          × KeepsOthers ws h b (leftBy ws (made (grants (old .size) (x .granted)) (x .draft)))
+      Stay x =
+          let left = leftBy ws (made (grants (old .size) (x .granted)) (x .draft)) in
+          (blockOf (x .granted) ≡ b) × ((y : Entry) × Stays ws large b e (left .words) (left .heap) y) × KeepsOthers ws h b left × NoneNewBut ws h b left
 
-      shrink-well : large + 24 ≤ old .size → Stay (shrunk (blockSpot (asRead ws h) b) large (asRead ws h))
-      shrink-well l =
-          let live : isLive (asRead ws h) b ≡ true = is-live in
-          let x : Grant = shrunk (blockSpot (asRead ws h) b) large (asRead ws h) in
-          let t = shrink-there ws h p b live large (need-large z) (need-eight z) l in
-          let c = shrink-kept ws h p b live large (need-large z) (need-eight z) l .chain in (
-            old-holds .block,
-            (
-              x .granted,
-              record {
-                held = record { member = rw c (t .0); live = t .1; block = old-holds .block };
-                enough = omega arith;
-                noMore = fits;
-                same = λ j r.
-                    let i = inside ws h p old (old-holds .member) .place in
-                    off (x .draft .stores) ws b j
-                    (shrink-spares-own ws h p b live large (need-large z) (need-eight z) l _ (omega (arith, old-holds .block)) (omega (arith, old-holds .block)));
-              },
-            ),
-            λ d m v o.
-                let s = shrink-others-stay ws h p b live large (need-large z) (need-eight z) l d m v o in
-                record {
-                  held = record { member = rw c (s .0); live = s .1; block = refl };
-                  same = λ j r.
-                      let i = inside ws h p d m in
-                      off (x .draft .stores) ws (blockOf d) j
-                      (shrink-spares ws h p b live large (need-large z) (need-eight z) l d m v o _ (omega arith) (omega arith));
-                },
-          )
+      -- a tail is split off
+      module _ (l : large + 24 ≤ old .size) where
+        abbrev shrinks : Grant
+        shrinks = shrunk (blockSpot (asRead ws h) b) large (asRead ws h)
+
+        abbrev shrunkWords : List ℕ
+        shrunkWords = written ws (shrinks .draft .stores)
+
+        shrunk-chain : shape shrunkWords (shrinks .draft .heap .bytes) ≡ shrinks .draft .chain
+        shrunk-chain = shrink-kept ws h p b is-live large (need-large z) (need-eight z) l .chain
+
+        shrunk-stays : Stays ws large b e shrunkWords (shrinks .draft .heap) (shrinks .granted)
+        shrunk-stays =
+            let t = shrink-there ws h p b is-live large (need-large z) (need-eight z) l in
+            record {
+              held = record { member = rw shrunk-chain (t .0); live = t .1; block = old-holds .block };
+              enough = omega arith;
+              noMore = fits;
+              same = λ j r.
+                  let i = inside ws h p old (old-holds .member) .place in
+                  off (shrinks .draft .stores) ws b j
+                  (shrink-spares-own ws h p b is-live large (need-large z) (need-eight z) l _ (omega (arith, old-holds .block)) (omega (arith, old-holds .block)));
+            }
+
+        shrunk-keeps : (d : Entry) → OnChain ws h d → live h d ≡ true → blockOf d ≢ b → Keeps ws shrunkWords (shrinks .draft .heap) d
+        shrunk-keeps d m v o =
+            let s = shrink-others-stay ws h p b is-live large (need-large z) (need-eight z) l d m v o in
+            record {
+              held = record { member = rw shrunk-chain (s .0); live = s .1; block = refl };
+              same = λ j r.
+                  let i = inside ws h p d m in
+                  off (shrinks .draft .stores) ws (blockOf d) j
+                  (shrink-spares ws h p b is-live large (need-large z) (need-eight z) l d m v o _ (omega arith) (omega arith));
+            }
+
+        shrunk-only : (d : Entry) → OnChain shrunkWords (shrinks .draft .heap) d → live (shrinks .draft .heap) d ≡ true
+            → (blockOf d ≡ b) ⊎ (OnChain ws h d × (live h d ≡ true))
+        shrunk-only d m v = go (ℕ-discrete (blockOf d) b)
+          where
+            go : Dec (blockOf d ≡ b) → (blockOf d ≡ b) ⊎ (OnChain ws h d × (live h d ≡ true))
+            go (yes q) = inl q
+            go (no o) = inr (shrink-none-new ws h p b is-live large (need-large z) (need-eight z) l d (rw shrunk-chain at m) v o)
 
       -- nothing changes
       same-well : Stay (record { granted = old; draft = asRead ws h })
@@ -464,7 +229,8 @@ module _ (ws : List ℕ) (h : Heap) (p : Passes ws h) (b : ℕ) (e : Entry) (k :
       same-well = (
         old-holds .block,
         (old, record { held = old-holds; enough = rw old-is fits; noMore = rw old-is (omega arith); same = λ j r. refl }),
-        λ d m v o. kept-still ws h d m v,
+        (λ d m v o. kept-still ws h d m v),
+        λ d m v. inr (m, v),
       )
 
       stay-well : Stay result
@@ -473,12 +239,14 @@ module _ (ws : List ℕ) (h : Heap) (p : Passes ws h) (b : ℕ) (e : Entry) (k :
         where
           go : (t : Bool) → leb (large + 24) (old .size) ≡ t
               → Stay (cond t (shrunk (blockSpot (asRead ws h) b) large (asRead ws h)) (record { granted = old; draft = asRead ws h }))
-          go true u = shrink-well (leb-true (large + 24) (old .size) u)
+          go true u =
+              let l = leb-true (large + 24) (old .size) u in
+              (old-holds .block, (shrinks l .granted, shrunk-stays l), shrunk-keeps l, shrunk-only l)
           go false u = same-well
 
-      stays-well : (block .0 ≡ b) × ((y : Entry) × Stays ws large b e (ours (Reallocate b z) ws h .words) (ours (Reallocate b z) ws h .heap) y)
-          × KeepsOthers ws h b (ours (Reallocate b z) ws h)
-      stays-well = let r = stay-well in rw resized-left (sym resized-block ∙ r .0, r .1, r .2)
+      stays-well : let left = ours (Reallocate b z) ws h in
+          (block .0 ≡ b) × ((y : Entry) × Stays ws large b e (left .words) (left .heap) y) × KeepsOthers ws h b left × NoneNewBut ws h b left
+      stays-well = let r = stay-well in rw resized-left (sym resized-block ∙ r .0, r .1, r .2, r .3)
 
 -- a question changes nothing, answered or refused
 unchanged-judged : (h : Heap) (a : Answer) (ts : Refusals) → judged h ts (unchanged h a) ≡ unchanged h (judged h ts (unchanged h a) .answer)
@@ -487,17 +255,22 @@ unchanged-judged h a ((true, r) ∷ ts) = refl
 unchanged-judged h a ((false, r) ∷ ts) = unchanged-judged h a ts
 
 module _ (ws : List ℕ) (h : Heap) (p : Passes ws h) where
-  look : (call : Call) → onlyLooks call ≡ true → KeepsAll ws h (ours call ws h)
+  still : KeepsAll ws h (leftBy ws (unchanged h Done)) × NoneNew ws h (leftBy ws (unchanged h Done))
+  still = (kept-still ws h, λ e m l. (m, l))
+
+  look : (call : Call) → onlyLooks call ≡ true → KeepsAll ws h (ours call ws h) × NoneNew ws h (ours call ws h)
   unfolding ours step setMerge check askChunk askBin free asRead
   look (Setup table donor merge) q = absurd (false≢true q)
   look (Allocate z) q = absurd (false≢true q)
   look (AllocateCleared count size) q = absurd (false≢true q)
-  look (Free b) q = rw (passes-iff ws h .1 p, q) (kept-still ws h)
+  look (Free b) q = rw (passes-iff ws h .1 p, q) still
   look (Reallocate b z) q = absurd (false≢true q)
-  look (SetMerge on) q = rw (passes-iff ws h .1 p) (λ e m l. let k = kept-still ws h e m l in record { held = record { member = m; live = l; block = refl }; same = k .same })
-  look Check q = kept-still ws h
-  look (AskChunk question place) q = rw (unchanged-judged h _ _) (kept-still ws h)
-  look (AskBin question i) q = rw (unchanged-judged h _ _) (kept-still ws h)
+  look (SetMerge on) q =
+      rw (passes-iff ws h .1 p)
+      (λ e m l. record { held = record { member = m; live = l; block = refl }; same = λ k r. refl }, λ e m l. (m, l))
+  look Check q = still
+  look (AskChunk question place) q = rw (unchanged-judged h _ _) still
+  look (AskBin question i) q = rw (unchanged-judged h _ _) still
 
 -- a refused call gives the record as it came
 came : (call : Call) (h : Heap) → isSetup call ≡ false → recordOf call h ≡ h
@@ -514,21 +287,23 @@ came (AskBin question i) h q = refl
 module _ (ws : List ℕ) (h : Heap) (p : Passes ws h) (block : Block) (change : ℤ) where
   allocated : (z : ℕ) → ours (Allocate z) ws h .answer ≡ Granted block change
       → New ws h (need overhead z) (block .0) (ours (Allocate z) ws h) × KeepsAll ws h (ours (Allocate z) ws h)
+      × NoneNewBut ws h (block .0) (ours (Allocate z) ws h)
   unfolding ours step allocate
   allocated z q = with-apart ws h p block change asFound (λ e. tt) z q
 
   reallocated : (z : ℕ) → ours (Reallocate 0 z) ws h .answer ≡ Granted block change
       → New ws h (need overhead z) (block .0) (ours (Reallocate 0 z) ws h) × KeepsAll ws h (ours (Reallocate 0 z) ws h)
+      × NoneNewBut ws h (block .0) (ours (Reallocate 0 z) ws h)
   unfolding ours step reallocate allocate
   reallocated z q = with-apart ws h p block change asFound (λ e. tt) z q
 
   cleared-apart : (count size : ℕ) → let left = ours (AllocateCleared count size) ws h in
       left .answer ≡ Granted block change
-      → New ws h (need overhead (count * size)) (block .0) left × KeepsAll ws h left × Clear (block .0) left
+      → New ws h (need overhead (count * size)) (block .0) left × KeepsAll ws h left × NoneNewBut ws h (block .0) left × Clear (block .0) left
   unfolding ours step allocateCleared
   cleared-apart count size q =
       let r = with-apart ws h p block change cleared cleared-within (count * size) q in
-      (r .0, r .1, cleared-clear ws h p block change (count * size) q)
+      (r .0, r .1, r .2, cleared-clear ws h p block change (count * size) q)
 
 pub kept-apart : Apart ours
 kept-apart =
@@ -543,5 +318,5 @@ kept-apart =
           (others-kept ws h p b (is-live ws h p b e k), none-others ws h p b (is-live ws h p b e k));
       looks = look;
       refused = λ ws h p call s r q.
-          rw (refusing .heap call ws h r q ∙ came call h s, refusing .words call ws h r q) (kept-still ws h);
+          rw (refusing .heap call ws h r q ∙ came call h s, refusing .words call ws h r q) (still ws h p);
     }

@@ -1,35 +1,31 @@
 -- On a heap that passes no call that grants or moves a block writes past the heap bytes, whatever goes into the block. Assumes nothing.
-use mathlib.Core.Path.{_≡_, refl, _∙_}
+use mathlib.Core.Path.{_≡_, refl}
 use mathlib.Core.Bool.{Bool, true, false, cond, _&&_}
 use mathlib.Core.List.{List, [], _∷_, _++_, map}
 use Prim.Native.Nat.{ℕ, _+_, _/_, _%_, _≤_, _<_}
 use native.Mathlib.Omega.{arith}
 use lib.Dec.{leb, ltb}
 use borrow.Author.Tests.{leb-true, ltb-true}
-use Rattle.grant.proofs.GrantKept.{grant-kept, granted-there, granted-live, granted-large, live-stays}
 use Rattle.grant.proofs.GrantSpares.{grant-inside}
 use Rattle.lists.specs.Lists.{Mem, numbersFrom}
 use Rattle.record.specs.declared.heap.Heap.{Heap}
-use Rattle.region.specs.Words.{Store, put, word, written}
+use Rattle.region.specs.Words.{Store, put, word}
 use Rattle.region.proofs.PrefixLaws.{Below}
 use Rattle.region.proofs.WordsLaws.{length-written}
-use Rattle.release.proofs.AgainLaws.{again}
 use Rattle.release.proofs.ReleaseMeaning.{splits}
 use Rattle.release.proofs.ReleaseSpares.{free-inside, shrink-inside}
-use Rattle.rules.specs.Shape.{Entry, shape, binList}
-use Rattle.rules.specs.Kinds.{blockOf, blockEnd, blockWords}
+use Rattle.rules.specs.Shape.{Entry, shape}
+use Rattle.rules.specs.Kinds.{live, blockOf, blockEnd, blockWords}
 use Rattle.rules.specs.Check.{Passes}
 use Rattle.rules.specs.Draft.{Draft, Spot, asRead, alsoWrites}
 use Rattle.rules.specs.Serve.{nowhere}
 use Rattle.rules.specs.Cut.{Grant}
 use Rattle.rules.specs.Allocate.{sourceOf, grant, asFound, cleared}
 use Rattle.rules.specs.Free.{isLive, blockSpot, freeBlock}
-use Rattle.rules.specs.Reallocate.{copied, shrunk, moved, resized}
+use Rattle.rules.specs.Reallocate.{shrunk, moved, resized}
 use Rattle.rules.proofs.SpotLaws.{inside, in-split}
-use Rattle.settling.proofs.FillLaws.{Within, filled-within, fills}
-use Rattle.settling.proofs.PictureLaws.{Pictured}
-use Rattle.promises.specs.Room.{HoldsBlock}
-use Rattle.promises.proofs.RefusedLaws.{live-iff}
+use Rattle.settling.proofs.FillLaws.{Within, filled-within}
+use Rattle.promises.proofs.GrantedLaws.{grantedWords, copiedWords, copiedHeap, kept, new-there, fits, over, again-is, copied-passes, live-again}
 
 -- stores one after the other
 below-both : (m : ℕ) (ss ts : List Store) → Below m ss → Below m ts → Below m (ss ++ ts)
@@ -50,20 +46,13 @@ module _ (ws : List ℕ) (h : Heap) (p : Passes ws h) (n : ℕ) (large : 24 ≤ 
     abbrev pub given : Grant
     given = grant n (asRead ws h)
 
-    abbrev pub then : List ℕ
-    then = written ws (given .draft .stores)
-
-    pub pictured : Pictured ws (given .draft)
-    pictured = grant-kept ws h p n large eight some
-
     same-bytes : given .draft .heap .bytes ≡ h .bytes
-    same-bytes = omega (arith, pictured .passes .fits .bytes, p .fits .bytes, length-written (given .draft .stores) ws)
-
-    pub granted-in : Mem (given .granted) (shape then (given .draft .heap .bytes))
-    granted-in = rw (pictured .chain) (granted-there ws h p n large eight some)
+    same-bytes = omega (arith, kept ws h p n large eight some .passes .fits .bytes, p .fits .bytes, length-written (given .draft .stores) ws)
 
     granted-ends : blockEnd (given .granted) ≤ h .bytes
-    granted-ends = let i = inside then (given .draft .heap) (pictured .passes) (given .granted) granted-in .ends in omega (arith, same-bytes)
+    granted-ends =
+        let i = inside (grantedWords ws h p n large eight some) (given .draft .heap) (kept ws h p n large eight some .passes) (given .granted) (new-there ws h p n large eight some) .ends in
+        omega (arith, same-bytes)
 
     -- words written into it, as many as fit
     abbrev filling : (ℕ → ℕ) → ℕ → List Store
@@ -88,47 +77,24 @@ module _ (ws : List ℕ) (h : Heap) (p : Passes ws h) (n : ℕ) (large : 24 ≤ 
 
     -- is moved: it is live still when the old words have been copied
     module _ (some : nowhere (sourceOf n (asRead ws h)) ≡ false) (less : at .here .size < n) where
-      abbrev pub copies : List Store
-      copies = copied ws (at .here) (given some .granted)
+      found : (shape ws (h .bytes) ≡ at .low ++ at .here ∷ at .high) × (live h (at .here) ≡ true) × (blockOf (at .here) ≡ b)
+      found = splits ws h p b l
 
-      abbrev pub half : Draft
-      half = alsoWrites copies (given some .draft)
-
-      abbrev pub halfWords : List ℕ
-      halfWords = written (then some) copies
-
-      abbrev pub old : ℕ
-      old = blockOf (at .here)
-
-      fits : blockWords (at .here) ≤ blockWords (given some .granted)
-      fits = let g = granted-large ws h p n large eight some in omega arith
-
-      pub filled : (shape halfWords (half .heap .bytes) ≡ shape (then some) (half .heap .bytes))
-          × ((i : ℕ) → binList halfWords (half .heap) i ≡ binList (then some) (half .heap) i) × Passes halfWords (half .heap)
-      filled =
-          fills (then some) (half .heap) (pictured some .passes) (given some .granted) (granted-in some) (granted-live ws h p n large eight some) copies
-          (filled-within (given some .granted) (λ i. word ws old i) (blockWords (at .here)) fits)
-
-      old-held : HoldsBlock halfWords (half .heap) old (at .here)
-      old-held =
-          let k = splits ws h p b l in
-          let s = live-stays ws h p n large eight some (at .here) (in-split (at .low) (at .here) (at .high) (k .0)) (k .1) in
-          record { member = rw (filled .0 ∙ pictured some .chain) (s .0); live = s .1; block = refl }
-
-      pub old-live : isLive (asRead halfWords (half .heap)) old ≡ true
-      old-live = live-iff halfWords (half .heap) old .1 (at .here, old-held)
-
-      -- giving it back is what it is on the heap as it is then read
-      pub given-back : let afresh = freeBlock old (asRead halfWords (half .heap)) in
-          (freeBlock old half .heap ≡ afresh .heap) × (freeBlock old half .stores ≡ half .stores ++ afresh .stores) × (freeBlock old half .homeless ≡ afresh .homeless)
-      given-back = again halfWords half old (filled .0 ∙ pictured some .chain) (λ i. filled .1 i ∙ pictured some .lists i) (pictured some .housed)
+      there : Mem (at .here) (shape ws (h .bytes))
+      there = in-split (at .low) (at .here) (at .high) (found .0)
 
       moved-below : Inner (moved ws at n (asRead ws h) .draft)
       moved-below =
-          rw (given-back .1)
-          (below-both (h .bytes / 4) (half .stores) (freeBlock old (asRead halfWords (half .heap)) .stores)
-          (filled-below some (λ i. word ws old i) (blockWords (at .here)) fits)
-          (rw (same-bytes some) at (free-inside halfWords (half .heap) (filled .2) old old-live)))
+          let e : Entry = at .here in
+          let m = there in
+          let v = found .1 in
+          rw (again-is ws h p n large eight some e m v less .1)
+          (below-both (h .bytes / 4) (over ws h p n large eight some e m v less .stores)
+          (freeBlock (blockOf e) (asRead (copiedWords ws h p n large eight some e m v less) (copiedHeap ws h p n large eight some e m v less)) .stores)
+          (filled-below some (λ i. word ws (blockOf e) i) (blockWords e) (fits ws h p n large eight some e m v less))
+          (rw (same-bytes some) at
+          (free-inside (copiedWords ws h p n large eight some e m v less) (copiedHeap ws h p n large eight some e m v less) (copied-passes ws h p n large eight some e m v less)
+          (blockOf e) (live-again ws h p n large eight some e m v less))))
 
     pub resized-below : (ltb (at .here .size) n && nowhere (sourceOf n (asRead ws h)) ≡ false) → Inner (resized ws at n (asRead ws h) .draft)
     unfolding resized asRead

@@ -10,7 +10,6 @@ use lib.Dec.{eqb, leb, ltb}
 use lib.ListN.{length}
 use borrow.Author.Tests.{leb-true, ltb-true}
 use Rattle.grant.proofs.NeedLaws.{need-large, need-eight}
-use Rattle.grant.proofs.GrantKept.{granted-live}
 use Rattle.lists.proofs.ListsLaws.{less, or-else}
 use Rattle.record.specs.declared.answers.Answer.{Answer}
 use Rattle.record.specs.declared.answers.Answer.the-variants.{Done, Granted, Returned, Told, Counted, Refused}
@@ -20,7 +19,6 @@ use Rattle.record.specs.Heap.{empty, withMerge}
 use Rattle.record.specs.Table.{validTable}
 use Rattle.record.proofs.TableLaws.{valid-iff}
 use Rattle.region.specs.Words.{Store, written}
-use Rattle.region.proofs.WordsLaws.{written-append}
 use Rattle.release.proofs.ReleaseKept.{free-kept}
 use Rattle.release.proofs.ShrinkKept.{shrink-kept}
 use Rattle.rules.specs.Shape.{Entry, shape, heapBytes}
@@ -40,7 +38,7 @@ use Rattle.settling.proofs.FillLaws.{Within, filled-within, fills}
 use Rattle.promises.specs.Ways.{ours}
 use Rattle.promises.specs.Kept.{Passing, Accepted, OnLiveBlocks, afterStores, Keeping}
 use Rattle.promises.proofs.FreshLaws.{fresh-passes}
-use Rattle.promises.proofs.InsideLaws.{given, then, pictured, granted-in, copies, half, halfWords, old, filled, old-live, given-back}
+use Rattle.promises.proofs.GrantedLaws.{given, filled, copiedWords, copiedHeap, copied-passes, live-again, again-is, moved-words}
 use Rattle.promises.proofs.OddLaws.{Failed, not-false}
 use Rattle.promises.proofs.RefusedLaws.{allocating, fitting-iff}
 
@@ -100,11 +98,7 @@ module _ (ws : List ℕ) (h : Heap) (p : Passes ws h) where
   module _ (n : ℕ) (large : 24 ≤ n) (eight : n % 8 ≡ 0) where
     granted-passes : (some : nowhere (sourceOf n (asRead ws h)) ≡ false) (ss : List Store) → Within (given ws h p n large eight some .granted) ss
         → Passes (written ws (given ws h p n large eight some .draft .stores ++ ss)) (given ws h p n large eight some .draft .heap)
-    granted-passes some ss w =
-        let g = given ws h p n large eight some in
-        rw (written-append (g .draft .stores) ss ws)
-        (fills (then ws h p n large eight some) (g .draft .heap) (pictured ws h p n large eight some .passes) (g .granted)
-        (granted-in ws h p n large eight some) (granted-live ws h p n large eight some) ss w .2)
+    granted-passes some ss w = filled ws h p n large eight some ss w .2
 
     -- the live block at b is moved, or loses its tail, or stays
     module _ (b : ℕ) (l : isLive (asRead ws h) b ≡ true) where
@@ -114,14 +108,12 @@ module _ (ws : List ℕ) (h : Heap) (p : Passes ws h) where
       moved-passes : nowhere (sourceOf n (asRead ws h)) ≡ false → blockSpot (asRead ws h) b .here .size < n
           → PassesAfter (moved ws (blockSpot (asRead ws h) b) n (asRead ws h) .draft)
       moved-passes some less =
-          let g = given ws h p n large eight some in
-          let c = copies ws h p n large eight b l some less in
-          let d = half ws h p n large eight b l some less in
-          let W = halfWords ws h p n large eight b l some less in
-          let o = old ws h p n large eight b l some less in
-          let r = given-back ws h p n large eight b l some less in
-          rw (r .0, r .1, written-append (d .stores) (freeBlock o (asRead W (d .heap)) .stores) ws, written-append (g .draft .stores) c ws)
-          (free-kept W (d .heap) (filled ws h p n large eight b l some less .2) o (old-live ws h p n large eight b l some less) .passes)
+          let (s, v, _) = splits ws h p b l in
+          let e : Entry = blockSpot (asRead ws h) b .here in
+          let m : Mem e (shape ws (h .bytes)) = in-split (blockSpot (asRead ws h) b .low) e (blockSpot (asRead ws h) b .high) s in
+          rw (again-is ws h p n large eight some e m v less .0, moved-words ws h p n large eight some e m v less)
+          (free-kept (copiedWords ws h p n large eight some e m v less) (copiedHeap ws h p n large eight some e m v less) (copied-passes ws h p n large eight some e m v less) (blockOf e)
+          (live-again ws h p n large eight some e m v less) .passes)
 
       resized-passes : (ltb (blockSpot (asRead ws h) b .here .size) n && nowhere (sourceOf n (asRead ws h))) ≡ false
           → PassesAfter (resized ws (blockSpot (asRead ws h) b) n (asRead ws h) .draft)

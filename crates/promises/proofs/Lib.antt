@@ -3,6 +3,7 @@ pub mod RefusedLaws
 pub mod RoomLaws
 pub mod CountsLaws
 pub mod DeterminedLaws
+pub mod GrantedLaws
 pub mod InsideLaws
 pub mod OddLaws
 pub mod FreshLaws

@@ -43,13 +43,23 @@ KeepsOthers ws h b left = (e : Entry) → OnChain ws h e → live h e ≡ true �
 abbrev pub Gone : ℕ → Left → Type 0
 Gone b left = (e : Entry) → HoldsBlock (left .words) (left .heap) b e → ⊥
 
+-- a block that is live afterwards was live before; or it is the one at b
+abbrev pub NoneNew : List ℕ → Heap → Left → Type 0
+NoneNew ws h left =
+    (e : Entry) → OnChain (left .words) (left .heap) e → live (left .heap) e ≡ true → OnChain ws h e × (live h e ≡ true)
+
+abbrev pub NoneNewBut : List ℕ → Heap → ℕ → Left → Type 0
+NoneNewBut ws h b left =
+    (e : Entry) → OnChain (left .words) (left .heap) e → live (left .heap) e ≡ true
+    → (blockOf e ≡ b) ⊎ (OnChain ws h e × (live h e ≡ true))
+
 -- no block is live afterwards but those that were live before, without the one at b
 abbrev pub NoOthers : List ℕ → Heap → ℕ → Left → Type 0
 NoOthers ws h b left =
     (e : Entry) → OnChain (left .words) (left .heap) e → live (left .heap) e ≡ true
     → OnChain ws h e × (live h e ≡ true) × (blockOf e ≢ b)
 
--- the chunk e is cut from one chunk of the old chain, which can serve n, has n bytes, and meets no chunk of a live block
+-- the chunk e has n bytes at least, lies inside one chunk of the old chain, which can serve n, and meets no chunk of a live block
 pub record CutFrom (ws : List ℕ) (h : Heap) (n : ℕ) (e from : Entry) : Type 0 where
   pub member : OnChain ws h from
   pub serves : serves (tableOf h) (h .donor .0) (h .top .0) n from ≡ true
@@ -89,36 +99,40 @@ onlyLooks (AskBin q i) = true
 
 -- the promise. Setup is no part of it: it lays out a region anew
 pub record Apart (way : Way) : Type 0 where
-  -- a granted block is new, and all that were live are kept
+  -- a granted block is new, and the live blocks are then those of before and this one
   pub allocate : (ws : List ℕ) (h : Heap) → Passes ws h → (z : ℕ) (block : Block) (change : ℤ)
-      → way (Allocate z) ws h .answer ≡ Granted block change
-      → New ws h (need overhead z) (block .0) (way (Allocate z) ws h) × KeepsAll ws h (way (Allocate z) ws h)
+      → let left = way (Allocate z) ws h in
+      left .answer ≡ Granted block change
+      → New ws h (need overhead z) (block .0) left × KeepsAll ws h left × NoneNewBut ws h (block .0) left
   -- so is a cleared one, all of whose words are 0
   pub cleared : (ws : List ℕ) (h : Heap) → Passes ws h → (count size : ℕ) (block : Block) (change : ℤ)
       → let left = way (AllocateCleared count size) ws h in
       left .answer ≡ Granted block change
-      → New ws h (need overhead (count * size)) (block .0) left × KeepsAll ws h left × Clear (block .0) left
+      → New ws h (need overhead (count * size)) (block .0) left × KeepsAll ws h left × NoneNewBut ws h (block .0) left × Clear (block .0) left
   -- and one that is asked for in the place of none
   pub noBlock : (ws : List ℕ) (h : Heap) → Passes ws h → (z : ℕ) (block : Block) (change : ℤ)
       → let left = way (Reallocate 0 z) ws h in
-      left .answer ≡ Granted block change → New ws h (need overhead z) (block .0) left × KeepsAll ws h left
-  -- a block that outgrows its chunk moves to a new one, which begins with the whole old block; no other block is touched
+      left .answer ≡ Granted block change
+      → New ws h (need overhead z) (block .0) left × KeepsAll ws h left × NoneNewBut ws h (block .0) left
+  -- a block that outgrows its chunk moves to a new one, which begins with the whole old block; the old one goes, and no other is touched
   pub moved : (ws : List ℕ) (h : Heap) → Passes ws h → (b z : ℕ) (block : Block) (change : ℤ)
       → (e : Entry) → HoldsBlock ws h b e → e .size < need overhead z
       → let left = way (Reallocate b z) ws h in
       left .answer ≡ Granted block change
-      → New ws h (need overhead z) (block .0) left × KeepsOthers ws h b left × Gone b left
+      → New ws h (need overhead z) (block .0) left × KeepsOthers ws h b left × Gone b left × NoneNewBut ws h (block .0) left
       × SameWords ws b (left .words) (block .0) (blockWords e)
   -- one that its chunk has room for stays at its place
   pub stays : (ws : List ℕ) (h : Heap) → Passes ws h → (b z : ℕ) (block : Block) (change : ℤ)
       → (old : Entry) → HoldsBlock ws h b old → need overhead z ≤ old .size
       → let left = way (Reallocate b z) ws h in
       left .answer ≡ Granted block change
-      → (block .0 ≡ b) × ((e : Entry) × Stays ws (need overhead z) b old (left .words) (left .heap) e) × KeepsOthers ws h b left
+      → (block .0 ≡ b) × ((e : Entry) × Stays ws (need overhead z) b old (left .words) (left .heap) e)
+      × KeepsOthers ws h b left × NoneNewBut ws h b left
   -- a live block that is given back goes, and it alone
   pub free : (ws : List ℕ) (h : Heap) → Passes ws h → (b : ℕ) (e : Entry) → HoldsBlock ws h b e
       → KeepsOthers ws h b (way (Free b) ws h) × NoOthers ws h b (way (Free b) ws h)
-  -- calls that give and take nothing, and refused ones
-  pub looks : (ws : List ℕ) (h : Heap) → Passes ws h → (call : Call) → onlyLooks call ≡ true → KeepsAll ws h (way call ws h)
+  -- calls that give and take nothing, and refused ones, leave all live blocks as they are
+  pub looks : (ws : List ℕ) (h : Heap) → Passes ws h → (call : Call) → onlyLooks call ≡ true
+      → KeepsAll ws h (way call ws h) × NoneNew ws h (way call ws h)
   pub refused : (ws : List ℕ) (h : Heap) → Passes ws h → (call : Call) → isSetup call ≡ false → (r : Refusal)
-      → way call ws h .answer ≡ Refused r → KeepsAll ws h (way call ws h)
+      → way call ws h .answer ≡ Refused r → KeepsAll ws h (way call ws h) × NoneNew ws h (way call ws h)

@@ -14,7 +14,8 @@ use Rattle.rules.specs.Shape.{shape}
 use Rattle.rules.specs.Kinds.{overhead}
 use Rattle.rules.specs.Check.{countsOf}
 use Rattle.rules.specs.Serve.{need}
-use Rattle.rules.specs.Statements.{Left}
+use Rattle.rules.specs.Outcome.{unchanged}
+use Rattle.rules.specs.Statements.{Left, leftBy}
 use Rattle.rules.specs.Calls.{Setup, Allocate, AllocateCleared, Free, Reallocate, SetMerge, Check, AskChunk, AskBin}
 use Rattle.promises.specs.Ways.{Way, ours}
 
@@ -49,7 +50,7 @@ butAskBin askBin = done (λ z. ours (Allocate z)) (λ b. ours (Free b)) (ours Ch
 
 -- an answer, and nothing is changed
 abbrev pub merely : Answer → Doing
-merely a ws h = record { answer = a; heap = h; words = ws }
+merely a ws h = leftBy ws (unchanged h a)
 
 -- 1: no allocation finds room
 abbrev pub refusesAlways : Way

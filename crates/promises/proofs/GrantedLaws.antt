@@ -1,0 +1,299 @@
+-- A granted block whose words were written, a block given back, and a block that moved: each leaves what the promise of blocks apart says
+-- (`new-apart`, `others-kept`, `none-others`, `moved-apart`). Assumes nothing.
+use mathlib.Core.Path.{_≡_, refl, sym, ap, _∙_}
+use mathlib.Core.Logic.{_≢_, _⊎_, inl, inr}
+use mathlib.Core.Bool.{true, false, true≢false}
+use mathlib.Core.List.{List, _++_, map}
+use Prim.Native.Nat.{ℕ, zero, suc, _+_, _*_, _/_, _%_, _≤_, _<_}
+use native.Mathlib.Decide.{ℕ-discrete}
+use native.Mathlib.Omega.{arith}
+use lib.ListN.{length}
+use Rattle.grant.proofs.SourceLaws.{CanGrant}
+use Rattle.grant.proofs.GrantKept.{chosen, can, source, cutting, grant-is, grant-kept, granted-there, granted-live, granted-large, granted-new, live-stays, granted-only}
+use Rattle.grant.proofs.GrantSpares.{grant-spares}
+use Rattle.lists.specs.Lists.{numbersFrom}
+use Rattle.record.specs.declared.answers.Answer.{Answer}
+use Rattle.record.specs.declared.heap.Heap.{Heap}
+use Rattle.record.specs.declared.sources.Source.{Source}
+use Rattle.record.specs.declared.sources.Source.the-variants.{FromBin, FromDonor, FromTop, Nowhere}
+use Rattle.record.specs.Heap.{tableOf}
+use Rattle.region.specs.Words.{Store, put, word, store, written}
+use Rattle.region.proofs.WordsLaws.{Off, off, word-same, length-store, written-append}
+use Rattle.release.proofs.AgainLaws.{again}
+use Rattle.release.proofs.ReleaseKept.{free-kept, others-stay, none-new}
+use Rattle.release.proofs.ReleaseSpares.{free-spares}
+use Rattle.rules.specs.Shape.{Entry, shape, binList}
+use Rattle.rules.specs.Kinds.{ordinaryKind, live, blockOf, blockEnd, blockWords}
+use Rattle.rules.specs.Check.{Passes}
+use Rattle.rules.specs.Draft.{Draft, asRead, alsoWrites}
+use Rattle.rules.specs.Serve.{serves, nowhere}
+use Rattle.rules.specs.Cut.{Grant}
+use Rattle.rules.specs.Outcome.{made}
+use Rattle.rules.specs.Allocate.{sourceOf, grant, cleared}
+use Rattle.rules.specs.Free.{isLive, freeBlock}
+use Rattle.rules.specs.Reallocate.{copied}
+use Rattle.rules.specs.Statements.{leftBy}
+use Rattle.rules.proofs.SpotLaws.{bounds, inside, apart, is-ordinary, is-donor}
+use Rattle.settling.proofs.FillLaws.{Within, fills, filled-within, below-block, above-block}
+use Rattle.settling.proofs.PictureLaws.{Pictured}
+use Rattle.promises.specs.Room.{OnChain, HoldsBlock}
+use Rattle.promises.specs.Apart.{SameWords, Keeps, KeepsAll, KeepsOthers, Gone, NoneNewBut, CutFrom, New}
+use Rattle.promises.proofs.ServeLaws.{top-can, donor-can, ordinary-can}
+use Rattle.promises.proofs.RefusedLaws.{live-iff, one-block}
+
+-- words that were written one after the other from number i on are read back
+fill-reads : (value : ℕ → ℕ) (b n i : ℕ) (ws : List ℕ) → b / 4 + i + n ≤ length ws → (k : ℕ) → i ≤ k → k < i + n
+    → word (written ws (map (λ j. put b j (value j)) (numbersFrom i n))) b k ≡ value k
+fill-reads value b zero i ws r k lo hi = absurd (omega arith)
+fill-reads value b (suc n) i ws r k lo hi =
+    go (ℕ-discrete k i)
+    (λ l. fill-reads value b n (suc i) (store ws b i (value i)) (omega (arith, length-store ws b i (value i))) k l (omega arith))
+  where
+    later : (n j : ℕ) → i < j → Off (b / 4 + i) (map (λ j. put b j (value j)) (numbersFrom j n))
+    later zero j l = tt
+    later (suc n) j l = (λ q. omega arith, later n (suc j) (omega arith))
+
+    go : Dec (k ≡ i) → let after = written (store ws b i (value i)) (map (λ j. put b j (value j)) (numbersFrom (suc i) n)) in
+        (suc i ≤ k → word after b k ≡ value k) → word after b k ≡ value k
+    go (yes q) f =
+        rw q
+        (off (map (λ j. put b j (value j)) (numbersFrom (suc i) n)) (store ws b i (value i)) b i (later n (suc i) (omega arith))
+        ∙ word-same ws b i (value i) (omega arith))
+    go (no m) f = f (omega arith)
+
+-- nothing is written, and no chunk changes its kind
+pub kept-still : (ws : List ℕ) (h : Heap) (e : Entry) → OnChain ws h e → live h e ≡ true → Keeps ws ws h e
+kept-still ws h e m l = record { held = record { member = m; live = l; block = refl }; same = λ k r. refl }
+
+-- what is kept twice is kept
+keeps-on : (ws us vs : List ℕ) (g h : Heap) (e : Entry) → Keeps ws us g e → Keeps us vs h e → Keeps ws vs h e
+keeps-on ws us vs g h e a b = record { held = b .held; same = λ k l. b .same k l ∙ a .same k l }
+
+-- n bytes are granted
+module _ (ws : List ℕ) (h : Heap) (p : Passes ws h) (n : ℕ) (large : 24 ≤ n) (eight : n % 8 ≡ 0)
+    (some : nowhere (sourceOf n (asRead ws h)) ≡ false) where
+  abbrev pub given : Grant
+  given = grant n (asRead ws h)
+
+  abbrev pub new : Entry
+  new = given .granted
+
+  -- the words and the record then
+  abbrev pub grantedWords : List ℕ
+  grantedWords = written ws (given .draft .stores)
+
+  abbrev pub grantedHeap : Heap
+  grantedHeap = given .draft .heap
+
+  abbrev pub from : Entry
+  from = chosen ws h p n large eight some
+
+  pub kept : Pictured ws (given .draft)
+  kept = grant-kept ws h p n large eight some
+
+  pub new-there : OnChain grantedWords grantedHeap new
+  new-there = rw (kept .chain) (granted-there ws h p n large eight some)
+
+  new-live : live grantedHeap new ≡ true
+  new-live = granted-live ws h p n large eight some
+
+  old-there : (e : Entry) → OnChain ws h e → live h e ≡ true → OnChain grantedWords grantedHeap e
+  old-there e m l = rw (kept .chain) (live-stays ws h p n large eight some e m l .0)
+
+  beside : (e : Entry) → OnChain ws h e → live h e ≡ true → (blockEnd e ≤ new .place) ⊎ (blockEnd new ≤ e .place)
+  beside e m l =
+      apart grantedWords grantedHeap (kept .passes) e new (old-there e m l) new-there (granted-new ws h p n large eight some e m l)
+
+  -- the chunk that was chosen can serve
+  source-serves : serves (tableOf h) (h .donor .0) (h .top .0) n from ≡ true
+  source-serves = go (source ws h p n large eight some) refl (can ws h p n large eight some)
+    where
+      go : (s : Source) → source ws h p n large eight some ≡ s → CanGrant ws h n s from → serves (tableOf h) (h .donor .0) (h .top .0) n from ≡ true
+      go (FromBin c) q k = ordinary-can ws h p n from (is-ordinary ws h p from (k .member) (ap ordinaryKind (k .kind))) (k .enough)
+      go FromDonor q k =
+          let b = k .free .between in
+          let d = is-donor ws h p from (k .member) (omega (arith, k .place)) (k .place) in
+          donor-can ws h p n from (k .free) (λ t. omega (arith, k .place, d .below)) (k .place) (k .spare refl) (k .little refl)
+      go FromTop q k = top-can ws h p n from (k .free) (k .place) (k .spare refl)
+      go Nowhere q k = absurd (true≢false (sym (ap nowhere q) ∙ some))
+
+  cut-from : CutFrom ws h n new from
+  cut-from =
+      let c = cutting ws h p n large eight some in
+      let i = ap (λ (x : Grant). x .granted) (grant-is ws h p n large eight some) in
+      record {
+        member = can ws h p n large eight some .member;
+        serves = source-serves;
+        starts = rw i (omega (arith, c .place));
+        ends = rw i (omega (arith, c .place, c .sum));
+        enough = granted-large ws h p n large eight some;
+        apart = beside;
+      }
+
+  -- and its block written into
+  module _ (ss : List Store) (w : Within new ss) where
+    abbrev pub filledWords : List ℕ
+    filledWords = written ws (given .draft .stores ++ ss)
+
+    appended : filledWords ≡ written grantedWords ss
+    appended = written-append (given .draft .stores) ss ws
+
+    pub filled : (shape filledWords (grantedHeap .bytes) ≡ shape grantedWords (grantedHeap .bytes)) × ((i : ℕ) → binList filledWords grantedHeap i ≡ binList grantedWords grantedHeap i) × Passes filledWords grantedHeap
+    filled = rw appended (fills grantedWords grantedHeap (kept .passes) new new-there new-live ss w)
+
+    new-held : HoldsBlock filledWords grantedHeap (blockOf new) new
+    new-held = record { member = rw (filled .0) new-there; live = new-live; block = refl }
+
+    -- no word of a live block is written
+    old-off : (e : Entry) → OnChain ws h e → live h e ≡ true → (k : ℕ) → k < blockWords e → Off (blockOf e / 4 + k) ss
+    old-off e m l k r = go (beside e m l)
+      where
+        go : (blockEnd e ≤ new .place) ⊎ (blockEnd new ≤ e .place) → Off (blockOf e / 4 + k) ss
+        go (inl q) = let i = inside ws h p e m in below-block new ss w _ (omega arith)
+        go (inr q) = above-block new ss w _ (omega arith)
+
+    keeps-all : (e : Entry) → OnChain ws h e → live h e ≡ true → Keeps ws filledWords grantedHeap e
+    keeps-all e m l =
+        record {
+          held = record { member = rw (filled .0) (old-there e m l); live = live-stays ws h p n large eight some e m l .1; block = refl };
+          same = λ k r.
+              let i = inside ws h p e m in
+              rw appended
+              (off ss grantedWords (blockOf e) k (old-off e m l k r)
+              ∙ off (given .draft .stores) ws (blockOf e) k (grant-spares ws h p n large eight some e m l _ (omega arith) (omega arith)));
+        }
+
+    -- no other chunk becomes live
+    only-new : (e : Entry) → OnChain filledWords grantedHeap e → live grantedHeap e ≡ true → (blockOf e ≡ blockOf new) ⊎ (OnChain ws h e × (live h e ≡ true))
+    only-new e m l = go (granted-only ws h p n large eight some e (rw (filled .0 ∙ kept .chain) at m) l)
+      where
+        go : (e ≡ new) ⊎ (OnChain ws h e × (live h e ≡ true)) → (blockOf e ≡ blockOf new) ⊎ (OnChain ws h e × (live h e ≡ true))
+        go (inl q) = inl (ap blockOf q)
+        go (inr k) = inr k
+
+    -- it meets the promise of a new block
+    pub new-apart : (a : Answer) → let left = leftBy ws (made a (alsoWrites ss (given .draft))) in
+        New ws h n (blockOf new) left × KeepsAll ws h left × NoneNewBut ws h (blockOf new) left
+    new-apart a = ((new, from, (new-held, cut-from)), keeps-all, only-new)
+
+    -- it ends inside the region
+    new-long : blockEnd new ≤ 4 * length grantedWords
+    new-long = let i = inside grantedWords grantedHeap (kept .passes) new new-there in let b = bounds grantedWords grantedHeap (kept .passes) in omega arith
+
+pub cleared-within : (e : Entry) → Within e (cleared e)
+cleared-within e = filled-within e (λ k. 0) (blockWords e) (omega arith)
+
+-- a new block that is cleared reads 0
+pub new-clear : (ws : List ℕ) (h : Heap) (p : Passes ws h) (n : ℕ) (large : 24 ≤ n) (eight : n % 8 ≡ 0) (some : nowhere (sourceOf n (asRead ws h)) ≡ false)
+    → let g = grant n (asRead ws h) in let after = written ws (g .draft .stores ++ cleared (g .granted)) in
+    (e : Entry) → HoldsBlock after (g .draft .heap) (blockOf (g .granted)) e → (k : ℕ) → k < blockWords e → word after (blockOf (g .granted)) k ≡ 0
+new-clear ws h p n large eight some e k j r =
+    let x : Entry = new ws h p n large eight some in
+    let w = cleared-within x in
+    let f = filled ws h p n large eight some (cleared x) w in
+    let q = one-block _ (grantedHeap ws h p n large eight some) (f .2) (blockOf x) e x k (new-held ws h p n large eight some (cleared x) w) in
+    let l = new-long ws h p n large eight some (cleared x) w in
+    let u = granted-large ws h p n large eight some in
+    rw (appended ws h p n large eight some (cleared x) w)
+    (fill-reads (λ i. 0) (blockOf x) (blockWords x) 0 (grantedWords ws h p n large eight some) (omega arith) j (omega arith)
+    (omega (arith, ap blockWords q)))
+
+-- the live block at b is given back
+module _ (ws : List ℕ) (h : Heap) (p : Passes ws h) (b : ℕ) (l : isLive (asRead ws h) b ≡ true) where
+  abbrev pub freed : Draft
+  freed = freeBlock b (asRead ws h)
+
+  abbrev pub freedWords : List ℕ
+  freedWords = written ws (freed .stores)
+
+  pub others-kept : (e : Entry) → OnChain ws h e → live h e ≡ true → blockOf e ≢ b → Keeps ws freedWords (freed .heap) e
+  others-kept e m k o =
+      let r = others-stay ws h p b l e m k o in
+      record {
+        held = record { member = rw (free-kept ws h p b l .chain) (r .0); live = r .1; block = refl };
+        same = λ j q.
+            let i = inside ws h p e m in
+            off (freed .stores) ws (blockOf e) j (free-spares ws h p b l e m k o _ (omega arith) (omega arith));
+      }
+
+  pub none-others : (e : Entry) → OnChain freedWords (freed .heap) e → live (freed .heap) e ≡ true → OnChain ws h e × (live h e ≡ true) × (blockOf e ≢ b)
+  none-others e m k = none-new ws h p b l e (rw (free-kept ws h p b l .chain) at m) k
+
+-- the chunk e of a live block, which has less than n bytes, and room for n elsewhere: the block moves
+module _ (ws : List ℕ) (h : Heap) (p : Passes ws h) (n : ℕ) (large : 24 ≤ n) (eight : n % 8 ≡ 0) (some : nowhere (sourceOf n (asRead ws h)) ≡ false)
+    (e : Entry) (m : OnChain ws h e) (l : live h e ≡ true) (less : e .size < n) where
+  abbrev pub to : Entry
+  to = new ws h p n large eight some
+
+  abbrev pub copies : List Store
+  copies = copied ws e to
+
+  pub fits : blockWords e ≤ blockWords to
+  fits = let u = granted-large ws h p n large eight some in omega arith
+
+  pub copies-within : Within to copies
+  copies-within = filled-within to (λ k. word ws (blockOf e) k) (blockWords e) fits
+
+  -- the words and the record once the old block was copied
+  abbrev pub copiedWords : List ℕ
+  copiedWords = filledWords ws h p n large eight some copies copies-within
+
+  abbrev pub copiedHeap : Heap
+  copiedHeap = grantedHeap ws h p n large eight some
+
+  pub copied-passes : Passes copiedWords copiedHeap
+  copied-passes = filled ws h p n large eight some copies copies-within .2
+
+  copied-keeps : (d : Entry) → OnChain ws h d → live h d ≡ true → Keeps ws copiedWords copiedHeap d
+  copied-keeps = keeps-all ws h p n large eight some copies copies-within
+
+  pub live-again : isLive (asRead copiedWords copiedHeap) (blockOf e) ≡ true
+  live-again = live-iff copiedWords copiedHeap (blockOf e) .1 (e, copied-keeps e m l .held)
+
+  -- the old block is given back
+  abbrev pub over : Draft
+  over = alsoWrites copies (given ws h p n large eight some .draft)
+
+  abbrev pub movedWords : List ℕ
+  movedWords = written ws (freeBlock (blockOf e) over .stores)
+
+  pub again-is : let afresh = freeBlock (blockOf e) (asRead copiedWords copiedHeap) in
+      (freeBlock (blockOf e) over .heap ≡ afresh .heap) × (freeBlock (blockOf e) over .stores ≡ over .stores ++ afresh .stores)
+  again-is =
+      let f = filled ws h p n large eight some copies copies-within in
+      let k = kept ws h p n large eight some in
+      let r = again copiedWords over (blockOf e) (f .0 ∙ k .chain) (λ i. f .1 i ∙ k .lists i) (k .housed) in
+      (r .0, r .1)
+
+  pub moved-words : movedWords ≡ written copiedWords (freeBlock (blockOf e) (asRead copiedWords copiedHeap) .stores)
+  moved-words = ap (written ws) (again-is .1) ∙ written-append (over .stores) (freeBlock (blockOf e) (asRead copiedWords copiedHeap) .stores) ws
+
+  moved-keeps : (d : Entry) → OnChain copiedWords copiedHeap d → live copiedHeap d ≡ true → blockOf d ≢ blockOf e → Keeps copiedWords movedWords (freeBlock (blockOf e) over .heap) d
+  moved-keeps d k j o = rw (again-is .0, moved-words) (others-kept copiedWords copiedHeap copied-passes (blockOf e) live-again d k j o)
+
+  to-kept : Keeps copiedWords movedWords (freeBlock (blockOf e) over .heap) to
+  to-kept =
+      let r = new-held ws h p n large eight some copies copies-within in
+      moved-keeps to (r .member) (r .live) (λ q. granted-new ws h p n large eight some e m l (omega arith))
+
+  copied-reads : SameWords ws (blockOf e) copiedWords (blockOf to) (blockWords e)
+  copied-reads k r =
+      let x = new-long ws h p n large eight some copies copies-within in
+      let y = fits in
+      rw (appended ws h p n large eight some copies copies-within)
+      (fill-reads (λ j. word ws (blockOf e) j) (blockOf to) (blockWords e) 0 (grantedWords ws h p n large eight some) (omega arith) k (omega arith) (omega arith))
+
+  moved-only : (d : Entry) → OnChain movedWords (freeBlock (blockOf e) over .heap) d → live (freeBlock (blockOf e) over .heap) d ≡ true
+      → OnChain copiedWords copiedHeap d × (live copiedHeap d ≡ true) × (blockOf d ≢ blockOf e)
+  moved-only d k j = none-others copiedWords copiedHeap copied-passes (blockOf e) live-again d (rw (again-is .0, moved-words) at k) (rw (again-is .0) at j)
+
+  pub moved-apart : (a : Answer) → let left = leftBy ws (made a (freeBlock (blockOf e) over)) in
+      New ws h n (blockOf to) left × KeepsOthers ws h (blockOf e) left × Gone (blockOf e) left × NoneNewBut ws h (blockOf to) left
+      × SameWords ws (blockOf e) movedWords (blockOf to) (blockWords e)
+  moved-apart a = (
+    (to, from ws h p n large eight some, (to-kept .held, cut-from ws h p n large eight some)),
+    (λ d k j o. let r = copied-keeps d k j in keeps-on ws copiedWords movedWords copiedHeap (freeBlock (blockOf e) over .heap) d r (moved-keeps d (r .held .member) (r .held .live) o)),
+    (λ d k. moved-only d (k .member) (k .live) .2 (k .block)),
+    (λ d k j. let r = moved-only d k j in only-new ws h p n large eight some copies copies-within d (r .0) (r .1)),
+    λ k r. to-kept .same k (let y = fits in omega arith) ∙ copied-reads k r,
+  )
