@@ -38,6 +38,9 @@ use Rattle.settling.proofs.FillLaws.{Within, filled-within, fills}
 use Rattle.promises.specs.Ways.{ours}
 use Rattle.promises.specs.Kept.{Passing, Accepted, OnLiveBlocks, afterStores, Keeping}
 use Rattle.promises.proofs.FreshLaws.{fresh-passes}
+use Rattle.rules.proofs.SpotLaws.{in-split}
+use Rattle.release.proofs.ReleaseMeaning.{splits}
+use Rattle.promises.specs.Room.{OnChain}
 use Rattle.promises.proofs.GrantedLaws.{given, filled, copiedWords, copiedHeap, copied-passes, live-again, again-is, moved-words}
 use Rattle.promises.proofs.OddLaws.{Failed, not-false}
 use Rattle.promises.proofs.RefusedLaws.{allocating, fitting-iff}
@@ -110,7 +113,7 @@ module _ (ws : List ℕ) (h : Heap) (p : Passes ws h) where
       moved-passes some less =
           let (s, v, _) = splits ws h p b l in
           let e : Entry = blockSpot (asRead ws h) b .here in
-          let m : Mem e (shape ws (h .bytes)) = in-split (blockSpot (asRead ws h) b .low) e (blockSpot (asRead ws h) b .high) s in
+          let m : OnChain ws h e = in-split (blockSpot (asRead ws h) b .low) e (blockSpot (asRead ws h) b .high) s in
           rw (again-is ws h p n large eight some e m v less .0, moved-words ws h p n large eight some e m v less)
           (free-kept (copiedWords ws h p n large eight some e m v less) (copiedHeap ws h p n large eight some e m v less) (copied-passes ws h p n large eight some e m v less) (blockOf e)
           (live-again ws h p n large eight some e m v less) .passes)
