@@ -306,17 +306,17 @@ module _ (ws : List ℕ) (h : Heap) (p : Passes ws h) (block : Block) (change : 
       (r .0, r .1, r .2, cleared-clear ws h p block change (count * size) q)
 
 pub kept-apart : Apart ours
-kept-apart =
+kept-apart ws h p =
     record {
-      allocate = λ ws h p z block change q. allocated ws h p block change z q;
-      cleared = λ ws h p count size block change q. cleared-apart ws h p block change count size q;
-      noBlock = λ ws h p z block change q. reallocated ws h p block change z q;
-      moved = λ ws h p b z block change e k l q. moved-well ws h p b e k block change z q l;
-      stays = λ ws h p b z block change e k l q. stays-well ws h p b e k block change z q l;
-      free = λ ws h p b e k.
+      allocate = λ z block change q. allocated ws h p block change z q;
+      cleared = λ count size block change q. cleared-apart ws h p block change count size q;
+      noBlock = λ z block change q. reallocated ws h p block change z q;
+      moved = λ b z block change e k l q. moved-well ws h p b e k block change z q l;
+      stays = λ b z block change e k l q. stays-well ws h p b e k block change z q l;
+      free = λ b e k.
           rw (free-left ws h p b e k)
           (others-kept ws h p b (is-live ws h p b e k), none-others ws h p b (is-live ws h p b e k));
-      looks = look;
-      refused = λ ws h p call s r q.
+      looks = look ws h p;
+      refused = λ call s r q.
           rw (refusing .heap call ws h r q ∙ came call h s, refusing .words call ws h r q) (still ws h p);
     }

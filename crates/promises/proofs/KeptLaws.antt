@@ -22,7 +22,7 @@ use Rattle.region.specs.Words.{Store, written}
 use Rattle.release.proofs.ReleaseKept.{free-kept}
 use Rattle.release.proofs.ShrinkKept.{shrink-kept}
 use Rattle.rules.specs.Shape.{Entry, shape, heapBytes}
-use Rattle.rules.specs.Kinds.{overhead, blockWords}
+use Rattle.rules.specs.Kinds.{overhead, blockWords, blockOf}
 use Rattle.rules.specs.Check.{Passes}
 use Rattle.rules.specs.Draft.{Draft, asRead, alsoWrites}
 use Rattle.rules.specs.Serve.{need, permitted, nowhere}

@@ -8,6 +8,6 @@ pub mod InsideLaws
 pub mod OddLaws
 pub mod FreshLaws
 pub mod KeptLaws
-pub mod RunsLaws
 pub mod ApartLaws
+pub mod RunsLaws
 pub mod WrongLaws

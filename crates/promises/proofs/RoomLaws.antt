@@ -84,15 +84,14 @@ module _ (way : Way) (refuses : Refusing way) (ws : List ℕ) (h : Heap) (p : Pa
       before q l (reallocateBin m w) = omega arith
 
 pub refusing-room : (way : Way) → Refusing way → Room way
-refusing-room way refuses =
+refusing-room way refuses ws h p =
     record {
-      allocate = λ ws h p z t. allocates way refuses ws h p z t;
-      cleared = λ ws h p count size t. clears way refuses ws h p count size t;
-      noBlock = λ ws h p z t.
-          reallocates way refuses ws h p 0 z t (λ k. omega (arith, k .0)) (λ e k. absurd (omega (arith, k .block)));
-      outgrown = λ ws h p b z t e k l.
+      allocate = allocates way refuses ws h p;
+      cleared = clears way refuses ws h p;
+      noBlock = λ z t. reallocates way refuses ws h p 0 z t (λ k. omega (arith, k .0)) (λ e k. absurd (omega (arith, k .block)));
+      outgrown = λ b z t e k l.
           reallocates way refuses ws h p b z t (λ n. n .1 e k) (λ d m. rw (one-block ws h p b d e m k) l);
-      fitting = λ ws h p b z e k l q. let g = no-place way refuses ws h p b z q .0 e k in omega arith;
+      fitting = λ b z e k l q. let g = no-place way refuses ws h p b z q .0 e k in omega arith;
     }
 
 pub room : Room ours

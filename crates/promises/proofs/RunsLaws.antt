@@ -4,12 +4,14 @@ use mathlib.Core.List.{List, [], _∷_}
 use Rattle.rules.specs.Calls.{State}
 use Rattle.promises.specs.Ways.{Way, ours}
 use Rattle.promises.specs.Room.{Room}
+use Rattle.promises.specs.Apart.{Apart}
 use Rattle.promises.specs.Refused.{Refusing}
 use Rattle.promises.specs.Kept.{Passing, Keeping}
 use Rattle.promises.specs.Runs.{Step, Calls, Writes, afterStep, MayStep, IsRun, Along, Begins, ThroughRuns, Running}
 use Rattle.promises.proofs.KeptLaws.{keeping}
 use Rattle.promises.proofs.RefusedLaws.{refusing}
 use Rattle.promises.proofs.RoomLaws.{room}
+use Rattle.promises.proofs.ApartLaws.{kept-apart}
 
 module _ (way : Way) (keeps : Keeping way) where
   step-keeps : (x : Step) (s : State) → MayStep x s → Passing s → Passing (afterStep way x s)
@@ -30,17 +32,14 @@ module _ (way : Way) (keeps : Keeping way) where
     through s b xs r = along xs s r (begins-passing s b)
 
 -- the promises of single calls are instances
-pub keeping-running : (way : Way) → Keeping way → Refusing way → Room way → Running way
-keeping-running way keeps refuses rooms =
+pub keeping-running : (way : Way) → Keeping way → Refusing way → Room way → Apart way → Running way
+keeping-running way keeps refuses room apart =
     record {
       passes = through way keeps _ (λ s p. p);
       refused = through way keeps _ (λ s p call r. refuses .exactly call (s .words) (s .heap) r);
-      allocate = through way keeps _ (λ s p. rooms .allocate (s .words) (s .heap) p);
-      cleared = through way keeps _ (λ s p. rooms .cleared (s .words) (s .heap) p);
-      noBlock = through way keeps _ (λ s p. rooms .noBlock (s .words) (s .heap) p);
-      outgrown = through way keeps _ (λ s p. rooms .outgrown (s .words) (s .heap) p);
-      fitting = through way keeps _ (λ s p. rooms .fitting (s .words) (s .heap) p);
+      room = through way keeps _ (λ s p. room (s .words) (s .heap) p);
+      apart = through way keeps _ (λ s p. apart (s .words) (s .heap) p);
     }
 
 pub running : Running ours
-running = keeping-running ours keeping refusing room
+running = keeping-running ours keeping refusing room kept-apart

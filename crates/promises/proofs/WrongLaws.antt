@@ -65,7 +65,7 @@ fresh-serves = refl
 pub room-refutes-refusing : Room refusesAlways → ⊥
 room-refutes-refusing promised =
     let s : State = after 0 in
-    let none = promised .allocate (s .words) (s .heap) fresh-passes 16 refl .0 refl in
+    let none = promised (s .words) (s .heap) fresh-passes .allocate 16 refl .0 refl in
     let (e, m, t) = for-some (λ x. itself (serves (tableOf (s .heap)) (s .heap .donor .0) (s .heap .top .0) (need overhead 16) x)) (shape (s .words) (s .heap .bytes)) .0 fresh-serves in
     false≢true (sym (none e m) ∙ t)
 
@@ -73,7 +73,7 @@ room-refutes-refusing promised =
 granted-once : (way : Way) → Apart way → (ws : List ℕ) (h : Heap) → Passes ws h → (z : ℕ) (block : Block) (change : ℤ) (d : Entry)
     → HoldsBlock ws h (block .0) d → way (Allocate z) ws h .answer ≡ Granted block change → ⊥
 granted-once way promised ws h p z block change d k q =
-    let (e, from, (held, cut)) = promised .allocate ws h p z block change q .0 in
+    let (e, from, (held, cut)) = promised ws h p .allocate z block change q .0 in
     go e (held .block) (cut .enough) (cut .apart d (k .member) (k .live))
   where
     go : (e : Entry) → blockOf e ≡ block .0 → need overhead z ≤ e .size → (blockEnd d ≤ e .place) ⊎ (blockEnd e ≤ d .place) → ⊥
@@ -98,7 +98,7 @@ first-held = live-iff (after 1 .words) (after 1 .heap) 16 .0 first-live
 -- an allocator that grants the same block each time, whichever it is: calls 1 and 2 of the demonstration
 pub apart-refutes-same-block : (block : Block) → Apart (sameBlock block) → ⊥
 apart-refutes-same-block block promised =
-    let (e, from, (held, cut)) = promised .allocate (after 0 .words) (after 0 .heap) fresh-passes 16 block (pos (need overhead 16)) refl .0 in
+    let (e, from, (held, cut)) = promised (after 0 .words) (after 0 .heap) fresh-passes .allocate 16 block (pos (need overhead 16)) refl .0 in
     let is16 : blockOf e ≡ 16 = for-each (λ x. if-then (itself (live (granting .heap) x)) (number-is (blockOf x) 16)) (shape (granting .words) (granting .heap .bytes)) .0
     granting-live e (held .member) (held .live) in
     let (d, k) = first-held in
@@ -109,7 +109,7 @@ apart-refutes-same-block block promised =
 pub apart-refutes-idle-free : Apart idleFree → ⊥
 apart-refutes-idle-free promised =
     let (d, k) = first-held in
-    promised .free (after 1 .words) (after 1 .heap) first-passes 16 d k .1 d (k .member) (k .live) .2 (k .block)
+    promised (after 1 .words) (after 1 .heap) first-passes .free 16 d k .1 d (k .member) (k .live) .2 (k .block)
 
 -- a count of chunks in a bin that is the same each time: bin 2 is empty in the fresh heap and has a chunk after call 7
 fresh-count : (2 < after 0 .heap .bins) × (length (binList (after 0 .words) (after 0 .heap) 2) ≡ 0)

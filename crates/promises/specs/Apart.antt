@@ -97,42 +97,46 @@ onlyLooks Check = true
 onlyLooks (AskChunk q p) = true
 onlyLooks (AskBin q i) = true
 
--- the promise. Setup is no part of it: it lays out a region anew
-pub record Apart (way : Way) : Type 0 where
+-- of each call on one heap. Setup is no part of it: it lays out a region anew
+pub record ApartAt (way : Way) (ws : List ℕ) (h : Heap) : Type 0 where
   -- a granted block is new, and the live blocks are then those of before and this one
-  pub allocate : (ws : List ℕ) (h : Heap) → Passes ws h → (z : ℕ) (block : Block) (change : ℤ)
+  pub allocate : (z : ℕ) (block : Block) (change : ℤ)
       → let left = way (Allocate z) ws h in
       left .answer ≡ Granted block change
       → New ws h (need overhead z) (block .0) left × KeepsAll ws h left × NoneNewBut ws h (block .0) left
   -- so is a cleared one, all of whose words are 0
-  pub cleared : (ws : List ℕ) (h : Heap) → Passes ws h → (count size : ℕ) (block : Block) (change : ℤ)
+  pub cleared : (count size : ℕ) (block : Block) (change : ℤ)
       → let left = way (AllocateCleared count size) ws h in
       left .answer ≡ Granted block change
       → New ws h (need overhead (count * size)) (block .0) left × KeepsAll ws h left × NoneNewBut ws h (block .0) left × Clear (block .0) left
   -- and one that is asked for in the place of none
-  pub noBlock : (ws : List ℕ) (h : Heap) → Passes ws h → (z : ℕ) (block : Block) (change : ℤ)
+  pub noBlock : (z : ℕ) (block : Block) (change : ℤ)
       → let left = way (Reallocate 0 z) ws h in
       left .answer ≡ Granted block change
       → New ws h (need overhead z) (block .0) left × KeepsAll ws h left × NoneNewBut ws h (block .0) left
   -- a block that outgrows its chunk moves to a new one, which begins with the whole old block; the old one goes, and no other is touched
-  pub moved : (ws : List ℕ) (h : Heap) → Passes ws h → (b z : ℕ) (block : Block) (change : ℤ)
+  pub moved : (b z : ℕ) (block : Block) (change : ℤ)
       → (e : Entry) → HoldsBlock ws h b e → e .size < need overhead z
       → let left = way (Reallocate b z) ws h in
       left .answer ≡ Granted block change
       → New ws h (need overhead z) (block .0) left × KeepsOthers ws h b left × Gone b left × NoneNewBut ws h (block .0) left
       × SameWords ws b (left .words) (block .0) (blockWords e)
   -- one that its chunk has room for stays at its place
-  pub stays : (ws : List ℕ) (h : Heap) → Passes ws h → (b z : ℕ) (block : Block) (change : ℤ)
+  pub stays : (b z : ℕ) (block : Block) (change : ℤ)
       → (old : Entry) → HoldsBlock ws h b old → need overhead z ≤ old .size
       → let left = way (Reallocate b z) ws h in
       left .answer ≡ Granted block change
       → (block .0 ≡ b) × ((e : Entry) × Stays ws (need overhead z) b old (left .words) (left .heap) e)
       × KeepsOthers ws h b left × NoneNewBut ws h b left
   -- a live block that is given back goes, and it alone
-  pub free : (ws : List ℕ) (h : Heap) → Passes ws h → (b : ℕ) (e : Entry) → HoldsBlock ws h b e
+  pub free : (b : ℕ) (e : Entry) → HoldsBlock ws h b e
       → KeepsOthers ws h b (way (Free b) ws h) × NoOthers ws h b (way (Free b) ws h)
   -- calls that give and take nothing, and refused ones, leave all live blocks as they are
-  pub looks : (ws : List ℕ) (h : Heap) → Passes ws h → (call : Call) → onlyLooks call ≡ true
+  pub looks : (call : Call) → onlyLooks call ≡ true
       → KeepsAll ws h (way call ws h) × NoneNew ws h (way call ws h)
-  pub refused : (ws : List ℕ) (h : Heap) → Passes ws h → (call : Call) → isSetup call ≡ false → (r : Refusal)
+  pub refused : (call : Call) → isSetup call ≡ false → (r : Refusal)
       → way call ws h .answer ≡ Refused r → KeepsAll ws h (way call ws h) × NoneNew ws h (way call ws h)
+
+-- the promise: so it is on every heap that passes
+abbrev pub Apart : Way → Type 0
+Apart way = (ws : List ℕ) (h : Heap) → Passes ws h → ApartAt way ws h

@@ -37,21 +37,25 @@ abbrev pub OnlyForRoom : Way → Call → List ℕ → Heap → ℕ → Type 0
 OnlyForRoom way call ws h z =
     (way call ws h .answer ≡ Refused NoRoom) ↔ NoneServes ws h (need overhead z)
 
--- the promise, for each call that asks for room with a permitted size ("The calls": Allocate, Cleared allocate, Reallocate)
-pub record Room (way : Way) : Type 0 where
-  pub allocate : (ws : List ℕ) (h : Heap) → Passes ws h → (z : ℕ) → permitted z ≡ true
+-- of each call that asks for room with a permitted size ("The calls": Allocate, Cleared allocate, Reallocate), on one heap
+pub record RoomAt (way : Way) (ws : List ℕ) (h : Heap) : Type 0 where
+  pub allocate : (z : ℕ) → permitted z ≡ true
       → OnlyForRoom way (Allocate z) ws h z
   -- the need of a cleared block is that of the exact product
-  pub cleared : (ws : List ℕ) (h : Heap) → Passes ws h → (count size : ℕ) → permitted (count * size) ≡ true
+  pub cleared : (count size : ℕ) → permitted (count * size) ≡ true
       → OnlyForRoom way (AllocateCleared count size) ws h (count * size)
   -- block 0 is reallocated as a new one is allocated
-  pub noBlock : (ws : List ℕ) (h : Heap) → Passes ws h → (z : ℕ) → permitted z ≡ true
+  pub noBlock : (z : ℕ) → permitted z ≡ true
       → OnlyForRoom way (Reallocate 0 z) ws h z
   -- a block that outgrows its chunk needs another
-  pub outgrown : (ws : List ℕ) (h : Heap) → Passes ws h → (b z : ℕ) → permitted z ≡ true
+  pub outgrown : (b z : ℕ) → permitted z ≡ true
       → (e : Entry) → HoldsBlock ws h b e → e .size < need overhead z
       → OnlyForRoom way (Reallocate b z) ws h z
   -- a block that its chunk has room for is never refused for want of it
-  pub fitting : (ws : List ℕ) (h : Heap) → Passes ws h → (b z : ℕ)
+  pub fitting : (b z : ℕ)
       → (e : Entry) → HoldsBlock ws h b e → need overhead z ≤ e .size
       → way (Reallocate b z) ws h .answer ≡ Refused NoRoom → ⊥
+
+-- the promise: so it is on every heap that passes
+abbrev pub Room : Way → Type 0
+Room way = (ws : List ℕ) (h : Heap) → Passes ws h → RoomAt way ws h

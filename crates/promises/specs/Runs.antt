@@ -2,19 +2,16 @@
 -- and so what is promised of calls on heaps that pass holds there, as long as blocks are written by their owners and nothing else is.
 use mathlib.Core.Path.{_≡_}
 use mathlib.Core.Logic.{_↔_}
-use mathlib.Core.Bool.{Bool, true}
+use mathlib.Core.Bool.{Bool}
 use mathlib.Core.List.{List, [], _∷_}
-use Prim.Native.Nat.{ℕ, _*_, _≤_, _<_}
+use Prim.Native.Nat.{ℕ}
 use Rattle.record.specs.declared.answers.Answer.the-variants.{Refused}
 use Rattle.record.specs.declared.answers.Refusal.{Refusal}
-use Rattle.record.specs.declared.answers.Refusal.the-variants.{NoRoom}
 use Rattle.region.specs.Words.{Store}
-use Rattle.rules.specs.Shape.{Entry}
-use Rattle.rules.specs.Kinds.{overhead}
-use Rattle.rules.specs.Serve.{need, permitted}
-use Rattle.rules.specs.Calls.{Call, Setup, Allocate, AllocateCleared, Reallocate, State}
+use Rattle.rules.specs.Calls.{Call, Setup, State}
 use Rattle.promises.specs.Ways.{Way}
-use Rattle.promises.specs.Room.{HoldsBlock, OnlyForRoom}
+use Rattle.promises.specs.Room.{RoomAt}
+use Rattle.promises.specs.Apart.{ApartAt}
 use Rattle.promises.specs.Refused.{First}
 use Rattle.promises.specs.Kept.{Passing, Accepted, after, OnLiveBlocks, afterStores}
 
@@ -63,14 +60,7 @@ pub record Running (way : Way) : Type 0 where
   -- whichever call is made there, a refusal is given exactly for the first reason that holds (`Refusing`)
   pub refused : ThroughRuns way (λ s.
       (call : Call) (r : Refusal) → (way call (s .words) (s .heap) .answer ≡ Refused r) ↔ First (s .words) (s .heap) call r)
-  -- and for want of room exactly when no chunk of the whole chain can serve (`Room`)
-  pub allocate : ThroughRuns way (λ s. (z : ℕ) → permitted z ≡ true → OnlyForRoom way (Allocate z) (s .words) (s .heap) z)
-  pub cleared : ThroughRuns way (λ s.
-      (count size : ℕ) → permitted (count * size) ≡ true → OnlyForRoom way (AllocateCleared count size) (s .words) (s .heap) (count * size))
-  pub noBlock : ThroughRuns way (λ s. (z : ℕ) → permitted z ≡ true → OnlyForRoom way (Reallocate 0 z) (s .words) (s .heap) z)
-  pub outgrown : ThroughRuns way (λ s.
-      (b z : ℕ) → permitted z ≡ true → (e : Entry) → HoldsBlock (s .words) (s .heap) b e → e .size < need overhead z
-      → OnlyForRoom way (Reallocate b z) (s .words) (s .heap) z)
-  pub fitting : ThroughRuns way (λ s.
-      (b z : ℕ) (e : Entry) → HoldsBlock (s .words) (s .heap) b e → need overhead z ≤ e .size
-      → way (Reallocate b z) (s .words) (s .heap) .answer ≡ Refused NoRoom → ⊥)
+  -- for want of room exactly when no chunk of the whole chain can serve (`Room`)
+  pub room : ThroughRuns way (λ s. RoomAt way (s .words) (s .heap))
+  -- and live blocks are kept apart, with their words (`Apart`)
+  pub apart : ThroughRuns way (λ s. ApartAt way (s .words) (s .heap))
