@@ -92,17 +92,17 @@ isAsked q answers = leb 1 q && leb q (length answers)
 abbrev pub answerTo : ℕ → List (Option ℕ) → ℕ
 answerTo q answers = shown (getD answers (q - 1) none)
 
+-- question q of something that is there or is not: its answer, and the heap stays as it is
+abbrev pub asked : List ℕ → Heap → ℕ → List (Option ℕ) → Bool → Outcome
+asked ws h q answers there =
+    judged h
+    (heapFails ws h ∷ (not (isAsked q answers) || not there, NotThere) ∷ [])
+    (unchanged h (Told (answerTo q answers)))
+
 unfoldable pub askChunk : List ℕ → Heap → ℕ → ℕ → Outcome
 askChunk ws h q p =
     let d = asRead ws h in
-    let answers = chunkAnswers d (askedSpot d q p) in
-    judged h
-    (heapFails ws h ∷ (not (isAsked q answers) || not (isThere d q p), NotThere) ∷ [])
-    (unchanged h (Told (answerTo q answers)))
+    asked ws h q (chunkAnswers d (askedSpot d q p)) (isThere d q p)
 
 unfoldable pub askBin : List ℕ → Heap → ℕ → ℕ → Outcome
-askBin ws h q i =
-    let answers = binAnswers (asRead ws h .lists i) in
-    judged h
-    (heapFails ws h ∷ (not (isAsked q answers) || not (ltb i (h .bins)), NotThere) ∷ [])
-    (unchanged h (Told (answerTo q answers)))
+askBin ws h q i = asked ws h q (binAnswers (asRead ws h .lists i)) (ltb i (h .bins))
