@@ -22,7 +22,9 @@ use Rattle.record.specs.Heap.{tableOf}
 use Rattle.record.specs.Table.{TakenBy, small, binOf}
 use Rattle.record.proofs.TableLaws.{bin-taken}
 use Rattle.region.specs.Words.{word, size}
+use Rattle.rules.specs.Allocate.{sourceOf}
 use Rattle.rules.specs.Check.{Passes}
+use Rattle.rules.specs.Draft.{asRead}
 use Rattle.rules.specs.Serve.{sizeOn, fromBin, ownBin, tryDonor, largerBin, tryTop, chosen}
 use Rattle.rules.specs.Shape.{Entry, shape, binList}
 use Rattle.rules.proofs.SpotLaws.{spot-at, top-here, donor-here}
@@ -85,8 +87,8 @@ module _ (ws : List ℕ) (h : Heap) (p : Passes ws h) (n : ℕ) where
   unfolding topM
   top-is = rw top-size
 
-  pub choose-is : chooseM ws (tableOf h) (h .heads) (h .donor .0) (h .top .0) n ≡ chosen h es (binList ws h) n
-  unfolding chooseM chosen
+  pub choose-is : chooseM ws (tableOf h) (h .heads) (h .donor .0) (h .top .0) n ≡ sourceOf n (asRead ws h)
+  unfolding chooseM chosen asRead
   choose-is =
       let t = bin-taken (tableOf h) n in
       rw (own-is (binOf (tableOf h) n) t, donor-is, larger-is (binOf (tableOf h) n) t, top-is)

@@ -8,4 +8,5 @@ pub mod CutMeaning
 pub mod ServeSteps
 pub mod ServeMeaning
 pub mod GrantKept
+pub mod GrantedChunk
 pub mod GrantSpares

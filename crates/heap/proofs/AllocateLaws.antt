@@ -18,7 +18,7 @@ use Rattle.rules.specs.Serve.{permitted}
 use Rattle.rules.specs.Statements.{Meets, replied}
 use Rattle.grant.specs.Need.{needM}
 use Rattle.grant.proofs.NeedLaws.{permitted-need}
-use Rattle.heap.specs.Replies.{refusing}
+use Rattle.replies.specs.Replies.{refusing}
 use Rattle.heap.specs.Grants.{grantBlockM}
 use Rattle.heap.proofs.GrantLaws.{grant-block-is}
 

@@ -22,7 +22,7 @@ use Rattle.rules.proofs.CheckLaws.{passes-iff}
 use Rattle.rules.proofs.EvenLaws.{evenPart, even-read, even-passes}
 use Rattle.ask.specs.Questions.{askChunkM, askBinM}
 use Rattle.ask.proofs.AskMeaning.{ask-chunk-is, ask-bin-is}
-use Rattle.heap.specs.Replies.{reply, refusing}
+use Rattle.replies.specs.Replies.{reply, refusing}
 
 -- a question leaves the heap as it came, refused or not
 question-keeps : (h : Heap) (t u : Bool) (v : ℕ)

@@ -29,9 +29,9 @@ use Rattle.release.specs.Give.{state, givenUpM}
 use Rattle.release.proofs.ReleaseMeaning.{place, housed}
 use Rattle.release.proofs.GiveMeaning.{drawn, give-up-is}
 use Rattle.rules.specs.Calls.{State}
-use Rattle.heap.specs.Replies.{reply, refusing, changeM}
-use Rattle.heap.proofs.ChangeLaws.{change-is}
-use Rattle.heap.proofs.FindLaws.{not-live, live-at}
+use Rattle.replies.specs.Replies.{reply, refusing, changeM}
+use Rattle.replies.proofs.ChangeLaws.{change-is}
+use Rattle.release.proofs.FindLaws.{not-live, live-at}
 
 module _ (ws : List ℕ) (h : Heap) (b : ℕ) where
   pub free-fails : passes ws h ≡ false → Meets ws (free ws h b) (refusing h HeapFails) ws

@@ -2,13 +2,11 @@
 use mathlib.Core.Path.{_≡_, refl, sym, ap, _∙_}
 use mathlib.Core.Bool.{Bool, true, false, cond}
 use mathlib.Core.List.{List, _++_, append-nil}
-use Prim.Native.Nat.{ℕ, _+_, _*_, _%_, _^_, _≤_}
+use Prim.Native.Nat.{ℕ, _+_, _%_, _^_}
 use native.Mathlib.Omega.{arith}
 use lib.IntN.{ℤ}
-use lib.ListN.{length}
 use mir.Syntax.{w32}
 use mir.Val.{toZ, ofZ}
-use Rattle.lists.specs.Lists.{Mem}
 use Rattle.record.specs.declared.answers.Answer.the-variants.{Granted}
 use Rattle.record.specs.declared.answers.Refusal.the-variants.{NoRoom}
 use Rattle.record.specs.declared.answers.Reply.{Reply}
@@ -26,10 +24,9 @@ use Rattle.rules.specs.Draft.{asRead, alsoWrites}
 use Rattle.rules.specs.Kinds.{overhead, blockOf, blockEnd}
 use Rattle.rules.specs.Outcome.{made, grants}
 use Rattle.rules.specs.Serve.{need, permitted, nowhere}
-use Rattle.rules.specs.Shape.{Entry, shape}
+use Rattle.rules.specs.Shape.{Entry}
 use Rattle.rules.specs.Statements.{leftBy, replied}
 use Rattle.rules.proofs.CheckLaws.{passes-iff}
-use Rattle.rules.proofs.SpotLaws.{bounds, inside}
 use Rattle.blocks.proofs.BlocksMeaning.{clear-is}
 use Rattle.grant.specs.declared.serve.Grant.{Grant as Given}
 use Rattle.grant.specs.Choose.{chooseM}
@@ -37,10 +34,10 @@ use Rattle.grant.specs.Serve.{leaves, servedM}
 use Rattle.grant.proofs.NeedLaws.{need-large, need-eight}
 use Rattle.grant.proofs.ChooseMeaning.{choose-is}
 use Rattle.grant.proofs.ServeMeaning.{handed, serve-is, grant-housed}
-use Rattle.grant.proofs.GrantKept.{grant-kept, granted-there}
-use Rattle.heap.specs.Replies.{reply, refusing, changeM}
+use Rattle.grant.proofs.GrantedChunk.{granted-lies}
+use Rattle.replies.specs.Replies.{reply, refusing, changeM}
 use Rattle.heap.specs.Grants.{filledM, grantedM, grantBlockM}
-use Rattle.heap.proofs.ChangeLaws.{change-kept, change-ruled}
+use Rattle.replies.proofs.ChangeLaws.{change-kept, change-ruled}
 
 -- the code's steps, over plain variables
 module _ (ws table : List ℕ) (h : Heap) (n : ℕ) (clears : Bool) (source : Source) (e : source ≡ chooseM ws table (h .heads) (h .donor .0) (h .top .0) n)
@@ -68,35 +65,14 @@ module _ (ws : List ℕ) (h : Heap) (q : passes ws h ≡ true) (z : ℕ) (k : pe
   abbrev granted : Grant
   granted = grant n (asRead ws h)
 
-  pub chosen-is : chooseM ws (tableOf h) (h .heads) (h .donor .0) (h .top .0) n ≡ sourceOf n (asRead ws h)
-  unfolding asRead
-  chosen-is = choose-is ws h well n
-
   module _ (some : nowhere (sourceOf n (asRead ws h)) ≡ false) where
-    -- where the granted chunk lies
-    pub record Lies : Type 0 where
-      pub place : granted .granted .place % 8 ≡ 0
-      pub size : granted .granted .size % 8 ≡ 0
-      pub large : 8 ≤ granted .granted .size
-      pub few : blockEnd (granted .granted) ≤ 65536
-      pub fits : blockEnd (granted .granted) ≤ 4 * length (written ws (granted .draft .stores))
-
-    pub lies : Lies
-    lies =
-        let g = grant-kept ws h well n (need-large z) (need-eight z) some in
-        let m : Mem (granted .granted) (shape (written ws (granted .draft .stores)) (granted .draft .heap .bytes)) =
-        rw (g .chain) (granted-there ws h well n (need-large z) (need-eight z) some) in
-        let i = inside _ _ (g .passes) (granted .granted) m in
-        let b = bounds _ _ (g .passes) in
-        record { place = i .place; size = i .size; large = i .some; few = omega arith; fits = omega arith }
-
     -- zeros, or nothing
     filled-is : (clears : Bool) → filledM (written ws (granted .draft .stores)) clears (blockOf (granted .granted)) (blockEnd (granted .granted))
         ≡ written ws (granted .draft .stores ++ cond clears cleared asFound (granted .granted))
     unfolding filledM
     filled-is true =
-        let l = lies in
-        clear-is (written ws (granted .draft .stores)) (granted .granted) (l .place) (l .size) (l .large) (l .fits)
+        let l = granted-lies ws h well n (need-large z) (need-eight z) some in
+        clear-is (written ws (granted .draft .stores)) (granted .granted) (l .place) (l .size) (l .least) (l .fits)
         ∙ sym (written-append (granted .draft .stores) (cleared (granted .granted)) ws)
     filled-is false = ap (written ws) (sym (append-nil (granted .draft .stores)))
 
@@ -104,7 +80,7 @@ module _ (ws : List ℕ) (h : Heap) (q : passes ws h ≡ true) (z : ℕ) (k : pe
         ≡ leftBy ws (made (grants 0 (granted .granted)) (alsoWrites (cond clears cleared asFound (granted .granted)) (granted .draft)))
     unfolding grantedM
     code-is clears =
-        let l = lies in
+        let l = granted-lies ws h well n (need-large z) (need-eight z) some in
         let b : blockAt (granted .granted .place) ≡ blockOf (granted .granted) = omega arith in
         let e : (granted .granted .place + granted .granted .size) % 2 ^ 32 ≡ blockEnd (granted .granted) = omega arith in
         rw (b, e, change-ruled 0 (granted .granted .size) (omega arith) (omega arith), filled-is clears)
@@ -116,7 +92,7 @@ module _ (ws : List ℕ) (h : Heap) (q : passes ws h ≡ true) (z : ℕ) (k : pe
         ≡ leftBy ws (made (grants 0 (granted .granted)) (alsoWrites (cond clears cleared asFound (granted .granted)) (granted .draft)))
     unfolding grantBlockM
     serves clears =
-        rw (chosen-is, some, serve-is ws h well n (need-large z) (need-eight z) (sourceOf n (asRead ws h)) refl some) (code-is clears)
+        rw (choose-is ws h well n, some, serve-is ws h well n (need-large z) (need-eight z) (sourceOf n (asRead ws h)) refl some) (code-is clears)
 
   pub grant-block-is : (clears : Bool) → grantBlockM ws (tableOf h) h n clears ≡ leftBy ws (allocateWith (cond clears cleared asFound) ws h z)
   unfolding grantBlockM
@@ -124,5 +100,5 @@ module _ (ws : List ℕ) (h : Heap) (q : passes ws h ≡ true) (z : ℕ) (k : pe
     where
       by : (t : Bool) → nowhere (sourceOf n (asRead ws h)) ≡ t
           → grantBlockM ws (tableOf h) h n clears ≡ leftBy ws (allocateWith (cond clears cleared asFound) ws h z)
-      by true e = rw (chosen-is, e, q, k)
+      by true e = rw (choose-is ws h well n, e, q, k)
       by false e = serves e clears ∙ sym (ap (leftBy ws) (ruled-is e (cond clears cleared asFound)))

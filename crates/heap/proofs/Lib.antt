@@ -1,9 +1,5 @@
-pub mod ChangeLaws
 pub mod CallLaws
-pub mod FindLaws
 pub mod FreeLaws
 pub mod GrantLaws
 pub mod AllocateLaws
-pub mod ResizeSteps
-pub mod MoveMeaning
-pub mod ResizeLaws
+pub mod ReallocateLaws

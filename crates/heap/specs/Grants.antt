@@ -5,7 +5,7 @@ use Prim.Native.Nat.{ℕ, _+_, _%_, _^_}
 use Rattle.blocks.specs.Blocks.{clearedM}
 use Rattle.grant.specs.Choose.{chooseM}
 use Rattle.grant.specs.Serve.{Leaves, servedM}
-use Rattle.heap.specs.Replies.{changeM, left}
+use Rattle.replies.specs.Replies.{changeM, left}
 use Rattle.record.specs.declared.answers.Answer.the-variants.{Granted, Refused}
 use Rattle.record.specs.declared.answers.Refusal.the-variants.{NoRoom}
 use Rattle.record.specs.declared.heap.Heap.{Heap}

@@ -1,3 +1,1 @@
-pub mod Replies
 pub mod Grants
-pub mod Resize

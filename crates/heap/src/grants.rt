@@ -2,8 +2,6 @@
 ghost use mathlib.Core.Path.{_≡_};
 ghost use Rattle.heap.specs.Grants.{filledM, grantBlockM};
 ghost use Rattle.rules.specs.Statements.{replied};
-use crate::replies::change;
-use crate::replies::refused;
 use blocks::clear_block;
 use grant::serve::find;
 use grant::serve::is_nowhere;
@@ -14,6 +12,8 @@ use record::answers::Reply;
 use record::heap::Heap;
 use region::Block;
 use region::block_of;
+use replies::change;
+use replies::refused;
 
 fn fill(region: &mut [u32], clears: bool, block: Block, end: u32)
     ensures { λ _. ⌜ now (region .exit) ≡ filledM (now (region .entry)) clears (block .0) end ⌝ }

@@ -2,9 +2,6 @@
 // Each asks the check first; setup needs none. How chunks are found, joined and written is in the layers below.
 ghost use Rattle.rules.specs.Statements.{Allocates, AllocatesCleared, AsksBin, AsksChunk, Checks, Frees, Reallocates, SetsMerge, SetsUp};
 use crate::grants::grant_block;
-use crate::replies::change;
-use crate::replies::refused;
-use crate::resize::resize;
 use audit::passes;
 use audit::verdict;
 use grant::need::is_permitted;
@@ -16,12 +13,13 @@ use record::answers::Reply;
 use record::heap::Heap;
 use region::Block;
 use release::give::give_up;
+use replies::change;
+use replies::refused;
+use resize::resize;
 use seek::Sought;
 use seek::find_block;
 
 mod grants;
-mod replies;
-mod resize;
 
 pub fn setup(region: &mut [u32], table: &[u32], donor: u32, merge: bool) -> Reply
     ensures { λ r. ⌜ SetsUp (now (region .entry)) (now (table .entry)) donor merge r (now (region .exit)) ⌝ }

@@ -3,6 +3,7 @@ pub mod GiveSteps
 pub mod JoinMeaning
 pub mod GivingMeaning
 pub mod ReleaseMeaning
+pub mod FindLaws
 pub mod TailMeaning
 pub mod GiveMeaning
 pub mod AgainLaws

@@ -4,7 +4,7 @@ use lib.Seq.{length-take-le}
 use borrow.Author.Needs.{needs}
 use borrow.Author.Tests.{not-true, not-false}
 use Rattle.heap.proofs.CallLaws.{bins-there}
-use Rattle.heap.proofs.ResizeLaws.{reallocate-none, reallocate-fails, reallocate-refuses, reallocate-misses, reallocates}
+use Rattle.heap.proofs.ReallocateLaws.{reallocate-none, reallocate-fails, reallocate-refuses, reallocate-misses, reallocates}
 use Rattle.heap.proofs.reallocate.Statement.{statement}
 use Rattle.heap.proofs.reallocate.Tie as tie
 

@@ -24,9 +24,9 @@ use Rattle.release.specs.Give.{state, givenUpM}
 use Rattle.rules.specs.Serve.{nowhere}
 use Rattle.rules.specs.Statements.{Left, replied}
 use Rattle.seek.specs.declared.Place.{Place}
-use Rattle.heap.specs.Replies.{reply, refusing, changeM}
-use Rattle.heap.specs.Resize.{shrinkM, movedM, moveM, resizeM}
-use Rattle.heap.proofs.ChangeLaws.{change-kept}
+use Rattle.replies.specs.Replies.{reply, refusing, changeM}
+use Rattle.resize.specs.Resize.{shrinkM, movedM, moveM, resizeM}
+use Rattle.replies.proofs.ChangeLaws.{change-kept}
 
 module _ (ws table : List ℕ) (h : Heap) (p : Place) (n : ℕ) where
   pub shrinks : (rest : ℕ) → rest ≡ (p .chunk .0 + n) % 2 ^ 32 → (split : List ℕ) → split ≡ store ws (p .chunk .0) forward rest

@@ -1,6 +1,6 @@
 // What a call hands back: a refusal with the record as it came, and the change in used bytes, a signed difference of two sizes.
 ghost use mathlib.Core.Path.{_≡_};
-ghost use Rattle.heap.specs.Replies.{changeM, refusing};
+ghost use Rattle.replies.specs.Replies.{changeM, refusing};
 use record::answers::Answer;
 use record::answers::Refusal;
 use record::answers::Reply;

@@ -1,8 +1,8 @@
 -- `resize::move_block` is its definition, call by call. Assumes nothing.
 use borrow.Author.Needs.{needs}
-use Rattle.heap.proofs.ResizeSteps.{moves-not, moves}
-use Rattle.heap.proofs.resize.move_block.Statement.{statement}
-use Rattle.heap.proofs.resize.move_block.Tie as tie
+use Rattle.resize.proofs.ResizeSteps.{moves-not, moves}
+use Rattle.resize.proofs.move_block.Statement.{statement}
+use Rattle.resize.proofs.move_block.Tie as tie
 
 returns : tie.Need-returns
 returns c =

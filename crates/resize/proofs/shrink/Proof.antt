@@ -1,8 +1,8 @@
 -- `resize::shrink` is its definition, call by call. Assumes nothing.
 use borrow.Author.Needs.{needs}
-use Rattle.heap.proofs.ResizeSteps.{shrinks}
-use Rattle.heap.proofs.resize.shrink.Statement.{statement}
-use Rattle.heap.proofs.resize.shrink.Tie as tie
+use Rattle.resize.proofs.ResizeSteps.{shrinks}
+use Rattle.resize.proofs.shrink.Statement.{statement}
+use Rattle.resize.proofs.shrink.Tie as tie
 
 returns : tie.Need-returns
 returns c =

@@ -1,8 +1,8 @@
 -- `resize::resize` goes by the size that the chunk has. Assumes nothing.
 use borrow.Author.Needs.{needs}
-use Rattle.heap.proofs.ResizeSteps.{resizes-up, resizes-down, resizes-not}
-use Rattle.heap.proofs.resize.resize.Statement.{statement}
-use Rattle.heap.proofs.resize.resize.Tie as tie
+use Rattle.resize.proofs.ResizeSteps.{resizes-up, resizes-down, resizes-not}
+use Rattle.resize.proofs.resize.Statement.{statement}
+use Rattle.resize.proofs.resize.Tie as tie
 
 returns : tie.Need-returns
 returns c = resizes-up _ _ _ _ _ _ (c .before .before .before .before .before .distance .ensures) (c .before .before .before .before .if1 .taken) (c .before .before .move-block .ensures)

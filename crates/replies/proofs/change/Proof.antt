@@ -1,10 +1,10 @@
 -- `replies::change` is the difference of two sizes. Assumes nothing.
 use borrow.Author.Needs.{needs}
 use borrow.Author.Tests.{lt-ltb, le-ltb}
-use Rattle.heap.proofs.ChangeLaws.{machine-fits, machine-is}
-use Rattle.heap.specs.Replies.{changeM}
-use Rattle.heap.proofs.replies.change.Statement.{statement}
-use Rattle.heap.proofs.replies.change.Tie as tie
+use Rattle.replies.proofs.ChangeLaws.{machine-fits, machine-is}
+use Rattle.replies.specs.Replies.{changeM}
+use Rattle.replies.proofs.change.Statement.{statement}
+use Rattle.replies.proofs.change.Tie as tie
 
 returns : tie.Need-returns
 unfolding changeM

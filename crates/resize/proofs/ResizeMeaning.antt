@@ -1,50 +1,44 @@
--- Reallocate: what the code leaves is what the rule says, refused or not. Assumes nothing.
+-- A live block gets another size as the rule says: it stays, gives its tail back, moves, or is refused for room (`resize-is`). Assumes nothing.
 use mathlib.Core.Path.{_≡_, refl, sym, ap, _∙_}
 use mathlib.Core.Bool.{Bool, true, false}
 use mathlib.Core.List.{List}
 use Prim.Native.Nat.{ℕ, _+_, _-_, _%_, _^_, _≤_, _<_}
 use native.Mathlib.Decide.{decLt}
 use native.Mathlib.Omega.{arith}
-use borrow.Author.Tests.{eq-eqb, ne-eqb, lt-ltb, le-ltb, le-leb, lt-leb}
+use borrow.Author.Tests.{lt-ltb, le-ltb, le-leb, lt-leb}
 use Rattle.lists.specs.Lists.{Mem}
-use Rattle.record.specs.declared.answers.Refusal.the-variants.{HeapFails, BlockSize, NotLive}
-use Rattle.record.specs.declared.answers.Reply.{Reply}
 use Rattle.record.specs.declared.heap.Heap.{Heap}
 use Rattle.record.specs.Heap.{tableOf}
 use Rattle.region.specs.Places.{blockAt}
-use Rattle.rules.specs.Allocate.{allocate, sourceOf, grant}
+use Rattle.rules.specs.Allocate.{sourceOf, grant}
 use Rattle.rules.specs.Check.{Passes, passes}
 use Rattle.rules.specs.Cut.{Grant}
 use Rattle.rules.specs.Draft.{Draft, asRead}
 use Rattle.rules.specs.Free.{isLive, freeBlock}
 use Rattle.rules.specs.Kinds.{overhead, blockOf, blockEnd, live}
 use Rattle.rules.specs.Outcome.{made, grants}
-use Rattle.rules.specs.Reallocate.{resize, reallocate, resized}
+use Rattle.rules.specs.Reallocate.{resize, resized}
 use Rattle.rules.specs.Serve.{need, permitted, nowhere}
 use Rattle.rules.specs.Shape.{Entry, shape}
-use Rattle.rules.specs.Statements.{Meets, leftBy, replied}
+use Rattle.rules.specs.Statements.{leftBy}
 use Rattle.rules.proofs.CheckLaws.{passes-iff}
 use Rattle.rules.proofs.SpotLaws.{bounds, inside, in-split}
 use Rattle.seek.specs.declared.Place.{Place}
-use Rattle.seek.specs.declared.Sought.{Sought}
-use Rattle.seek.specs.declared.Sought.the-variants.{Found, Nowhere}
-use Rattle.seek.specs.Seek.{soughtIn, hasBlock}
-use Rattle.grant.specs.Need.{needM}
-use Rattle.grant.proofs.NeedLaws.{need-large, need-eight, permitted-need}
+use Rattle.grant.proofs.NeedLaws.{need-large, need-eight}
+use Rattle.grant.proofs.ChooseMeaning.{choose-is}
 use Rattle.grant.proofs.ServeMeaning.{serve-is}
+use Rattle.grant.proofs.GrantedChunk.{granted-lies}
+use Rattle.release.proofs.FindLaws.{placeOf}
 use Rattle.release.proofs.GiveMeaning.{give-up-tail-is}
 use Rattle.release.proofs.ReleaseMeaning.{place, splits}
 use Rattle.release.proofs.TailMeaning.{tail-housed}
-use Rattle.heap.specs.Replies.{refusing}
-use Rattle.heap.specs.Resize.{shrinkM, movedM, moveM, resizeM}
-use Rattle.heap.proofs.ChangeLaws.{change-ruled}
-use Rattle.heap.proofs.GrantLaws.{chosen-is, lies as granted-lies}
-use Rattle.heap.proofs.FindLaws.{placeOf, not-live, live-at}
-use Rattle.heap.proofs.MoveMeaning.{copiedOver, copy-written, move-is, move-housed}
+use Rattle.replies.proofs.ChangeLaws.{change-ruled}
+use Rattle.resize.specs.Resize.{shrinkM, movedM, moveM, resizeM}
+use Rattle.resize.proofs.MoveMeaning.{copiedOver, copy-written, move-is, move-housed}
 
 -- the live block at b, in a heap that passes
 module _ (ws : List ℕ) (h : Heap) (q : passes ws h ≡ true) (z : ℕ) (k : permitted z ≡ true) (b : ℕ) (l : isLive (asRead ws h) b ≡ true) where
-  well : Passes ws h
+  abbrev well : Passes ws h
   well = passes-iff ws h .0 q
 
   abbrev n : ℕ
@@ -109,7 +103,7 @@ module _ (ws : List ℕ) (h : Heap) (q : passes ws h ≡ true) (z : ℕ) (k : pe
     unfolding resizeM moveM resize
     refuses none =
         let i = lies in
-        rw (i .size, lt-ltb (e .size) n less, chosen-is ws h q z k, none, q, k, l)
+        rw (i .size, lt-ltb (e .size) n less, choose-is ws h well n, none, q, k, l)
 
     module _ (some : nowhere (sourceOf n (asRead ws h)) ≡ false) where
       abbrev g : Grant
@@ -122,12 +116,12 @@ module _ (ws : List ℕ) (h : Heap) (q : passes ws h ≡ true) (z : ℕ) (k : pe
       unfolding resizeM moveM movedM
       code-moves =
           let i = lies in
-          let o = granted-lies ws h q z k some in
+          let o = granted-lies ws h well n (need-large z) (need-eight z) some in
           let block : blockAt (g .granted .place) ≡ blockOf (g .granted) = omega arith in
           rw (
             i .size,
             lt-ltb (e .size) n less,
-            chosen-is ws h q z k,
+            choose-is ws h well n,
             some,
             serve-is ws h well n (need-large z) (need-eight z) (sourceOf n (asRead ws h)) refl some,
             copy-written ws h well n (need-large z) (need-eight z) some e member is-live less,
@@ -144,7 +138,7 @@ module _ (ws : List ℕ) (h : Heap) (q : passes ws h ≡ true) (z : ℕ) (k : pe
       moves : resizeM ws (tableOf h) h p n ≡ leftBy ws (resize ws h b z)
       moves = code-moves ∙ sym (ap (leftBy ws) rule-moves)
 
-  resize-is : resizeM ws (tableOf h) h p n ≡ leftBy ws (resize ws h b z)
+  pub resize-is : resizeM ws (tableOf h) h p n ≡ leftBy ws (resize ws h b z)
   resize-is = by (decLt (e .size) n) (decLt (e .size) (n + 24)) (nowhere (sourceOf n (asRead ws h))) refl
     where
       by : Dec (e .size < n) → Dec (e .size < n + 24) → (t : Bool) → nowhere (sourceOf n (asRead ws h)) ≡ t
@@ -153,31 +147,3 @@ module _ (ws : List ℕ) (h : Heap) (q : passes ws h ≡ true) (z : ℕ) (k : pe
       by (yes u) d false t = moves u t
       by (no u) (yes v) t s = stays (omega arith) v
       by (no u) (no v) t s = shrinks (omega arith)
-
-module _ (ws : List ℕ) (h : Heap) (b z : ℕ) where
-  pub reallocate-none : b ≡ 0 → (r : Reply) (words : List ℕ) → Meets ws (allocate ws h z) r words → Meets ws (reallocate ws h b z) r words
-  unfolding reallocate
-  reallocate-none e r words g = rw (eq-eqb b 0 e) g
-
-  module _ (n : b ≡ 0 → ⊥) where
-    pub reallocate-fails : passes ws h ≡ false → Meets ws (reallocate ws h b z) (refusing h HeapFails) ws
-    unfolding reallocate resize
-    reallocate-fails q = rw (ne-eqb b 0 n, q) refl
-
-    module _ (q : passes ws h ≡ true) where
-      pub reallocate-refuses : permitted z ≡ false → Meets ws (reallocate ws h b z) (refusing h BlockSize) ws
-      unfolding reallocate resize
-      reallocate-refuses k = rw (ne-eqb b 0 n, q, k) refl
-
-      module _ (k : permitted z ≡ true) (s : Sought) (e : s ≡ soughtIn (hasBlock (h .bytes) b) 0 (shape ws (h .bytes))) where
-        pub reallocate-misses : s ≡ Nowhere → Meets ws (reallocate ws h b z) (refusing h NotLive) ws
-        unfolding reallocate resize
-        reallocate-misses m = rw (ne-eqb b 0 n, q, k, not-live ws h (passes-iff ws h .0 q) b s e m) refl
-
-        pub reallocates : (x : Place) → s ≡ Found x → (m : ℕ) → m ≡ needM z → (r : Reply) (words : List ℕ)
-            → replied r words ≡ resizeM ws (tableOf h) h x m → Meets ws (reallocate ws h b z) r words
-        unfolding reallocate
-        reallocates x f m en r words g =
-            let (l, a) = live-at ws h (passes-iff ws h .0 q) b s e x f in
-            rw (ne-eqb b 0 n)
-            (g ∙ ap (resizeM ws (tableOf h) h x) (en ∙ permitted-need z k) ∙ ap (λ (y : Place). resizeM ws (tableOf h) h y (need overhead z)) a ∙ resize-is ws h q z k b l)

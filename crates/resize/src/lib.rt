@@ -1,10 +1,8 @@
 // A live block gets another size: its chunk keeps the need and gives the tail back, or the block moves, or nothing changes.
 // The block was found on the chain before.
 ghost use mathlib.Core.Path.{_≡_};
-ghost use Rattle.heap.specs.Resize.{moveM, resizeM, shrinkM};
+ghost use Rattle.resize.specs.Resize.{moveM, resizeM, shrinkM};
 ghost use Rattle.rules.specs.Statements.{replied};
-use crate::replies::change;
-use crate::replies::refused;
 use blocks::copy_block;
 use grant::serve::find;
 use grant::serve::is_nowhere;
@@ -21,6 +19,8 @@ use region::block_of;
 use region::store;
 use region::word;
 use release::give::give_up;
+use replies::change;
+use replies::refused;
 use seek::Place;
 
 // The forward link of what is kept is all that is written of it.

@@ -12,7 +12,7 @@ use mir.Val.{SFits, toZ, ofZ}
 use mir.ValLaws.{toZ-pos, toZ-ofZ}
 use borrow.Author.Tests.{lt-ltb, le-ltb}
 use Rattle.rules.specs.Outcome.{changeOf}
-use Rattle.heap.specs.Replies.{changeM}
+use Rattle.replies.specs.Replies.{changeM}
 
 either-small : (t : Bool) (x y n : ℕ) → x < n → y < n → mag (cond t (negsuc x) (pos y)) < n
 either-small true x y n p q = p

@@ -6,7 +6,7 @@ use lib.Dec.{leb, ltb}
 use Rattle.blocks.specs.Blocks.{copiedM}
 use Rattle.grant.specs.Choose.{chooseM}
 use Rattle.grant.specs.Serve.{Leaves, servedM}
-use Rattle.heap.specs.Replies.{changeM, left}
+use Rattle.replies.specs.Replies.{changeM, left}
 use Rattle.record.specs.declared.answers.Answer.the-variants.{Granted, Refused}
 use Rattle.record.specs.declared.answers.Refusal.the-variants.{NoRoom}
 use Rattle.record.specs.declared.heap.Heap.{Heap}

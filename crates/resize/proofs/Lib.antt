@@ -1,0 +1,3 @@
+pub mod ResizeSteps
+pub mod MoveMeaning
+pub mod ResizeMeaning
