@@ -4,12 +4,13 @@ use mathlib.Core.Path.{_≡_, refl, sym, ap, _∙_}
 use mathlib.Core.Logic.{_≢_, _⊎_, inl, inr}
 use mathlib.Core.Bool.{true, false, true≢false}
 use mathlib.Core.List.{List, _++_, map}
-use Prim.Native.Nat.{ℕ, zero, suc, _+_, _*_, _/_, _%_, _≤_, _<_}
+use Prim.Native.Nat.{ℕ, zero, suc, _+_, _/_, _%_, _≤_, _<_}
 use native.Mathlib.Decide.{ℕ-discrete}
 use native.Mathlib.Omega.{arith}
 use lib.ListN.{length}
 use Rattle.grant.proofs.SourceLaws.{CanGrant}
-use Rattle.grant.proofs.GrantKept.{chosen, can, source, cutting, grant-is, grant-kept, granted-there, granted-live, granted-large, granted-new, live-stays, granted-only}
+use Rattle.grant.proofs.GrantKept.{chosen, can, source, cutting, grant-is, granted-large, granted-new, live-stays, granted-only}
+use Rattle.grant.proofs.GrantedChunk as granting
 use Rattle.grant.proofs.GrantSpares.{grant-spares}
 use Rattle.lists.specs.Lists.{numbersFrom}
 use Rattle.record.specs.declared.answers.Answer.{Answer}
@@ -18,11 +19,11 @@ use Rattle.record.specs.declared.sources.Source.{Source}
 use Rattle.record.specs.declared.sources.Source.the-variants.{FromBin, FromDonor, FromTop, Nowhere}
 use Rattle.record.specs.Heap.{tableOf}
 use Rattle.region.specs.Words.{Store, put, word, store, written}
-use Rattle.region.proofs.WordsLaws.{Off, off, word-same, length-store, written-append}
-use Rattle.release.proofs.AgainLaws.{again}
+use Rattle.region.proofs.WordsLaws.{Off, off, word-same, length-store}
 use Rattle.release.proofs.ReleaseKept.{free-kept, others-stay, none-new}
 use Rattle.release.proofs.ReleaseSpares.{free-spares}
-use Rattle.rules.specs.Shape.{Entry, shape, binList}
+use Rattle.resize.proofs.MovedLaws as moving
+use Rattle.rules.specs.Shape.{Entry, shape}
 use Rattle.rules.specs.Kinds.{ordinaryKind, live, blockOf, blockEnd, blockWords}
 use Rattle.rules.specs.Check.{Passes}
 use Rattle.rules.specs.Draft.{Draft, asRead, alsoWrites}
@@ -31,15 +32,13 @@ use Rattle.rules.specs.Cut.{Grant}
 use Rattle.rules.specs.Outcome.{made}
 use Rattle.rules.specs.Allocate.{sourceOf, grant, cleared}
 use Rattle.rules.specs.Free.{isLive, freeBlock}
-use Rattle.rules.specs.Reallocate.{copied}
 use Rattle.rules.specs.Statements.{leftBy}
-use Rattle.rules.proofs.SpotLaws.{bounds, inside, apart, is-ordinary, is-donor}
-use Rattle.settling.proofs.FillLaws.{Within, fills, filled-within, below-block, above-block}
-use Rattle.settling.proofs.PictureLaws.{Pictured}
+use Rattle.rules.proofs.SpotLaws.{inside, is-ordinary, is-donor}
+use Rattle.settling.proofs.FillLaws.{Within, filled-within, below-block, above-block}
 use Rattle.promises.specs.Room.{OnChain, HoldsBlock}
 use Rattle.promises.specs.Apart.{SameWords, Keeps, KeepsAll, KeepsOthers, Gone, NoneNewBut, CutFrom, New}
 use Rattle.promises.proofs.ServeLaws.{top-can, donor-can, ordinary-can}
-use Rattle.promises.proofs.RefusedLaws.{live-iff, one-block}
+use Rattle.promises.proofs.RefusedLaws.{one-block}
 
 -- words that were written one after the other from number i on are read back
 fill-reads : (value : ℕ → ℕ) (b n i : ℕ) (ws : List ℕ) → b / 4 + i + n ≤ length ws → (k : ℕ) → i ≤ k → k < i + n
@@ -72,37 +71,14 @@ keeps-on ws us vs g h e a b = record { held = b .held; same = λ k l. b .same k 
 -- n bytes are granted
 module _ (ws : List ℕ) (h : Heap) (p : Passes ws h) (n : ℕ) (large : 24 ≤ n) (eight : n % 8 ≡ 0)
     (some : nowhere (sourceOf n (asRead ws h)) ≡ false) where
-  abbrev pub given : Grant
-  given = grant n (asRead ws h)
+  abbrev new : Entry
+  new = granting.new ws h p n large eight some
 
-  abbrev pub new : Entry
-  new = given .granted
-
-  -- the words and the record then
-  abbrev pub grantedWords : List ℕ
-  grantedWords = written ws (given .draft .stores)
-
-  abbrev pub grantedHeap : Heap
-  grantedHeap = given .draft .heap
+  abbrev grantedHeap : Heap
+  grantedHeap = granting.grantedHeap ws h p n large eight some
 
   abbrev pub from : Entry
   from = chosen ws h p n large eight some
-
-  pub kept : Pictured ws (given .draft)
-  kept = grant-kept ws h p n large eight some
-
-  pub new-there : OnChain grantedWords grantedHeap new
-  new-there = rw (kept .chain) (granted-there ws h p n large eight some)
-
-  new-live : live grantedHeap new ≡ true
-  new-live = granted-live ws h p n large eight some
-
-  old-there : (e : Entry) → OnChain ws h e → live h e ≡ true → OnChain grantedWords grantedHeap e
-  old-there e m l = rw (kept .chain) (live-stays ws h p n large eight some e m l .0)
-
-  beside : (e : Entry) → OnChain ws h e → live h e ≡ true → (blockEnd e ≤ new .place) ⊎ (blockEnd new ≤ e .place)
-  beside e m l =
-      apart grantedWords grantedHeap (kept .passes) e new (old-there e m l) new-there (granted-new ws h p n large eight some e m l)
 
   -- the chunk that was chosen can serve
   source-serves : serves (tableOf h) (h .donor .0) (h .top .0) n from ≡ true
@@ -127,26 +103,23 @@ module _ (ws : List ℕ) (h : Heap) (p : Passes ws h) (n : ℕ) (large : 24 ≤ 
         starts = rw i (omega (arith, c .place));
         ends = rw i (omega (arith, c .place, c .sum));
         enough = granted-large ws h p n large eight some;
-        apart = beside;
+        apart = granting.beside ws h p n large eight some;
       }
 
   -- and its block written into
   module _ (ss : List Store) (w : Within new ss) where
-    abbrev pub filledWords : List ℕ
-    filledWords = written ws (given .draft .stores ++ ss)
+    abbrev filledWords : List ℕ
+    filledWords = granting.filledWords ws h p n large eight some ss w
 
-    appended : filledWords ≡ written grantedWords ss
-    appended = written-append (given .draft .stores) ss ws
-
-    pub filled : (shape filledWords (grantedHeap .bytes) ≡ shape grantedWords (grantedHeap .bytes)) × ((i : ℕ) → binList filledWords grantedHeap i ≡ binList grantedWords grantedHeap i) × Passes filledWords grantedHeap
-    filled = rw appended (fills grantedWords grantedHeap (kept .passes) new new-there new-live ss w)
+    abbrev sameChain : shape filledWords (grantedHeap .bytes) ≡ shape (granting.grantedWords ws h p n large eight some) (grantedHeap .bytes)
+    sameChain = granting.filled ws h p n large eight some ss w .0
 
     new-held : HoldsBlock filledWords grantedHeap (blockOf new) new
-    new-held = record { member = rw (filled .0) new-there; live = new-live; block = refl }
+    new-held = record { member = rw sameChain (granting.new-there ws h p n large eight some); live = granting.new-live ws h p n large eight some; block = refl }
 
     -- no word of a live block is written
     old-off : (e : Entry) → OnChain ws h e → live h e ≡ true → (k : ℕ) → k < blockWords e → Off (blockOf e / 4 + k) ss
-    old-off e m l k r = go (beside e m l)
+    old-off e m l k r = go (granting.beside ws h p n large eight some e m l)
       where
         go : (blockEnd e ≤ new .place) ⊎ (blockEnd new ≤ e .place) → Off (blockOf e / 4 + k) ss
         go (inl q) = let i = inside ws h p e m in below-block new ss w _ (omega arith)
@@ -155,30 +128,26 @@ module _ (ws : List ℕ) (h : Heap) (p : Passes ws h) (n : ℕ) (large : 24 ≤ 
     keeps-all : (e : Entry) → OnChain ws h e → live h e ≡ true → Keeps ws filledWords grantedHeap e
     keeps-all e m l =
         record {
-          held = record { member = rw (filled .0) (old-there e m l); live = live-stays ws h p n large eight some e m l .1; block = refl };
+          held = record { member = rw sameChain (granting.old-there ws h p n large eight some e m l); live = live-stays ws h p n large eight some e m l .1; block = refl };
           same = λ k r.
               let i = inside ws h p e m in
-              rw appended
-              (off ss grantedWords (blockOf e) k (old-off e m l k r)
-              ∙ off (given .draft .stores) ws (blockOf e) k (grant-spares ws h p n large eight some e m l _ (omega arith) (omega arith)));
+              rw (granting.appended ws h p n large eight some ss w)
+              (off ss (granting.grantedWords ws h p n large eight some) (blockOf e) k (old-off e m l k r)
+              ∙ off (granting.given ws h p n large eight some .draft .stores) ws (blockOf e) k (grant-spares ws h p n large eight some e m l _ (omega arith) (omega arith)));
         }
 
     -- no other chunk becomes live
     only-new : (e : Entry) → OnChain filledWords grantedHeap e → live grantedHeap e ≡ true → (blockOf e ≡ blockOf new) ⊎ (OnChain ws h e × (live h e ≡ true))
-    only-new e m l = go (granted-only ws h p n large eight some e (rw (filled .0 ∙ kept .chain) at m) l)
+    only-new e m l = go (granted-only ws h p n large eight some e (rw (sameChain ∙ granting.kept ws h p n large eight some .chain) at m) l)
       where
         go : (e ≡ new) ⊎ (OnChain ws h e × (live h e ≡ true)) → (blockOf e ≡ blockOf new) ⊎ (OnChain ws h e × (live h e ≡ true))
         go (inl q) = inl (ap blockOf q)
         go (inr k) = inr k
 
     -- it meets the promise of a new block
-    pub new-apart : (a : Answer) → let left = leftBy ws (made a (alsoWrites ss (given .draft))) in
+    pub new-apart : (a : Answer) → let left = leftBy ws (made a (alsoWrites ss (granting.given ws h p n large eight some .draft))) in
         New ws h n (blockOf new) left × KeepsAll ws h left × NoneNewBut ws h (blockOf new) left
     new-apart a = ((new, from, (new-held, cut-from)), keeps-all, only-new)
-
-    -- it ends inside the region
-    new-long : blockEnd new ≤ 4 * length grantedWords
-    new-long = let i = inside grantedWords grantedHeap (kept .passes) new new-there in let b = bounds grantedWords grantedHeap (kept .passes) in omega arith
 
 pub cleared-within : (e : Entry) → Within e (cleared e)
 cleared-within e = filled-within e (λ k. 0) (blockWords e) (omega arith)
@@ -190,12 +159,12 @@ pub new-clear : (ws : List ℕ) (h : Heap) (p : Passes ws h) (n : ℕ) (large : 
 new-clear ws h p n large eight some e k j r =
     let x : Entry = new ws h p n large eight some in
     let w = cleared-within x in
-    let f = filled ws h p n large eight some (cleared x) w in
+    let f = granting.filled ws h p n large eight some (cleared x) w in
     let q = one-block _ (grantedHeap ws h p n large eight some) (f .2) (blockOf x) e x k (new-held ws h p n large eight some (cleared x) w) in
-    let l = new-long ws h p n large eight some (cleared x) w in
+    let l = granting.granted-lies ws h p n large eight some in
     let u = granted-large ws h p n large eight some in
-    rw (appended ws h p n large eight some (cleared x) w)
-    (fill-reads (λ i. 0) (blockOf x) (blockWords x) 0 (grantedWords ws h p n large eight some) (omega arith) j (omega arith)
+    rw (granting.appended ws h p n large eight some (cleared x) w)
+    (fill-reads (λ i. 0) (blockOf x) (blockWords x) 0 (granting.grantedWords ws h p n large eight some) (omega arith) j (omega arith)
     (omega (arith, ap blockWords q)))
 
 -- the live block at b is given back
@@ -222,78 +191,65 @@ module _ (ws : List ℕ) (h : Heap) (p : Passes ws h) (b : ℕ) (l : isLive (asR
 -- the chunk e of a live block, which has less than n bytes, and room for n elsewhere: the block moves
 module _ (ws : List ℕ) (h : Heap) (p : Passes ws h) (n : ℕ) (large : 24 ≤ n) (eight : n % 8 ≡ 0) (some : nowhere (sourceOf n (asRead ws h)) ≡ false)
     (e : Entry) (m : OnChain ws h e) (l : live h e ≡ true) (less : e .size < n) where
-  abbrev pub to : Entry
-  to = new ws h p n large eight some
+  abbrev to : Entry
+  to = moving.to ws h p n large eight some e m l less
 
-  abbrev pub copies : List Store
-  copies = copied ws e to
+  -- the words and the record once the old block was copied, and once it was given back
+  abbrev copiedWords : List ℕ
+  copiedWords = moving.copiedWords ws h p n large eight some e m l less
 
-  pub fits : blockWords e ≤ blockWords to
-  fits = let u = granted-large ws h p n large eight some in omega arith
+  abbrev copiedHeap : Heap
+  copiedHeap = moving.copiedHeap ws h p n large eight some e m l less
 
-  pub copies-within : Within to copies
-  copies-within = filled-within to (λ k. word ws (blockOf e) k) (blockWords e) fits
+  abbrev movedWords : List ℕ
+  movedWords = moving.movedWords ws h p n large eight some e m l less
 
-  -- the words and the record once the old block was copied
-  abbrev pub copiedWords : List ℕ
-  copiedWords = filledWords ws h p n large eight some copies copies-within
+  abbrev movedHeap : Heap
+  movedHeap = freeBlock (blockOf e) (moving.copiedOver ws h p n large eight some e m l less) .heap
 
-  abbrev pub copiedHeap : Heap
-  copiedHeap = grantedHeap ws h p n large eight some
+  abbrev copies : List Store
+  copies = moving.copies ws h p n large eight some e m l less
 
-  pub copied-passes : Passes copiedWords copiedHeap
-  copied-passes = filled ws h p n large eight some copies copies-within .2
+  abbrev within : Within to copies
+  within = moving.copies-within ws h p n large eight some e m l less
+
+  abbrev longer : blockWords e ≤ blockWords to
+  longer = moving.fits ws h p n large eight some e m l less
 
   copied-keeps : (d : Entry) → OnChain ws h d → live h d ≡ true → Keeps ws copiedWords copiedHeap d
-  copied-keeps = keeps-all ws h p n large eight some copies copies-within
+  copied-keeps = keeps-all ws h p n large eight some copies within
 
-  pub live-again : isLive (asRead copiedWords copiedHeap) (blockOf e) ≡ true
-  live-again = live-iff copiedWords copiedHeap (blockOf e) .1 (e, copied-keeps e m l .held)
+  moved-keeps : (d : Entry) → OnChain copiedWords copiedHeap d → live copiedHeap d ≡ true → blockOf d ≢ blockOf e → Keeps copiedWords movedWords movedHeap d
+  moved-keeps d k j o =
+      rw (moving.again-is ws h p n large eight some e m l less .0, moving.moved-words ws h p n large eight some e m l less)
+      (others-kept copiedWords copiedHeap (moving.copied-passes ws h p n large eight some e m l less) (blockOf e) (moving.live-again ws h p n large eight some e m l less) d k j o)
 
-  -- the old block is given back
-  abbrev pub over : Draft
-  over = alsoWrites copies (given ws h p n large eight some .draft)
-
-  abbrev pub movedWords : List ℕ
-  movedWords = written ws (freeBlock (blockOf e) over .stores)
-
-  pub again-is : let afresh = freeBlock (blockOf e) (asRead copiedWords copiedHeap) in
-      (freeBlock (blockOf e) over .heap ≡ afresh .heap) × (freeBlock (blockOf e) over .stores ≡ over .stores ++ afresh .stores)
-  again-is =
-      let f = filled ws h p n large eight some copies copies-within in
-      let k = kept ws h p n large eight some in
-      let r = again copiedWords over (blockOf e) (f .0 ∙ k .chain) (λ i. f .1 i ∙ k .lists i) (k .housed) in
-      (r .0, r .1)
-
-  pub moved-words : movedWords ≡ written copiedWords (freeBlock (blockOf e) (asRead copiedWords copiedHeap) .stores)
-  moved-words = ap (written ws) (again-is .1) ∙ written-append (over .stores) (freeBlock (blockOf e) (asRead copiedWords copiedHeap) .stores) ws
-
-  moved-keeps : (d : Entry) → OnChain copiedWords copiedHeap d → live copiedHeap d ≡ true → blockOf d ≢ blockOf e → Keeps copiedWords movedWords (freeBlock (blockOf e) over .heap) d
-  moved-keeps d k j o = rw (again-is .0, moved-words) (others-kept copiedWords copiedHeap copied-passes (blockOf e) live-again d k j o)
-
-  to-kept : Keeps copiedWords movedWords (freeBlock (blockOf e) over .heap) to
+  to-kept : Keeps copiedWords movedWords movedHeap to
   to-kept =
-      let r = new-held ws h p n large eight some copies copies-within in
+      let r = new-held ws h p n large eight some copies within in
       moved-keeps to (r .member) (r .live) (λ q. granted-new ws h p n large eight some e m l (omega arith))
 
   copied-reads : SameWords ws (blockOf e) copiedWords (blockOf to) (blockWords e)
   copied-reads k r =
-      let x = new-long ws h p n large eight some copies copies-within in
-      let y = fits in
-      rw (appended ws h p n large eight some copies copies-within)
-      (fill-reads (λ j. word ws (blockOf e) j) (blockOf to) (blockWords e) 0 (grantedWords ws h p n large eight some) (omega arith) k (omega arith) (omega arith))
+      let x = granting.granted-lies ws h p n large eight some in
+      let y = longer in
+      rw (granting.appended ws h p n large eight some copies within)
+      (fill-reads (λ j. word ws (blockOf e) j) (blockOf to) (blockWords e) 0 (granting.grantedWords ws h p n large eight some) (omega arith) k (omega arith) (omega arith))
 
-  moved-only : (d : Entry) → OnChain movedWords (freeBlock (blockOf e) over .heap) d → live (freeBlock (blockOf e) over .heap) d ≡ true
+  moved-only : (d : Entry) → OnChain movedWords movedHeap d → live movedHeap d ≡ true
       → OnChain copiedWords copiedHeap d × (live copiedHeap d ≡ true) × (blockOf d ≢ blockOf e)
-  moved-only d k j = none-others copiedWords copiedHeap copied-passes (blockOf e) live-again d (rw (again-is .0, moved-words) at k) (rw (again-is .0) at j)
+  moved-only d k j =
+      none-others copiedWords copiedHeap (moving.copied-passes ws h p n large eight some e m l less) (blockOf e) (moving.live-again ws h p n large eight some e m l less) d
+      (rw (moving.again-is ws h p n large eight some e m l less .0, moving.moved-words ws h p n large eight some e m l less) at k)
+      (rw (moving.again-is ws h p n large eight some e m l less .0) at j)
 
-  pub moved-apart : (a : Answer) → let left = leftBy ws (made a (freeBlock (blockOf e) over)) in
+  pub moved-apart : (a : Answer) → let left = leftBy ws (made a (freeBlock (blockOf e) (moving.copiedOver ws h p n large eight some e m l less))) in
       New ws h n (blockOf to) left × KeepsOthers ws h (blockOf e) left × Gone (blockOf e) left × NoneNewBut ws h (blockOf to) left
       × SameWords ws (blockOf e) movedWords (blockOf to) (blockWords e)
   moved-apart a = (
     (to, from ws h p n large eight some, (to-kept .held, cut-from ws h p n large eight some)),
-    (λ d k j o. let r = copied-keeps d k j in keeps-on ws copiedWords movedWords copiedHeap (freeBlock (blockOf e) over .heap) d r (moved-keeps d (r .held .member) (r .held .live) o)),
+    (λ d k j o. let r = copied-keeps d k j in keeps-on ws copiedWords movedWords copiedHeap movedHeap d r (moved-keeps d (r .held .member) (r .held .live) o)),
     (λ d k. moved-only d (k .member) (k .live) .2 (k .block)),
-    (λ d k j. let r = moved-only d k j in only-new ws h p n large eight some copies copies-within d (r .0) (r .1)),
-    λ k r. to-kept .same k (let y = fits in omega arith) ∙ copied-reads k r,
+    (λ d k j. let r = moved-only d k j in only-new ws h p n large eight some copies within d (r .0) (r .1)),
+    λ k r. to-kept .same k (let y = longer in omega arith) ∙ copied-reads k r,
   )

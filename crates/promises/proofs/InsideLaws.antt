@@ -6,6 +6,7 @@ use Prim.Native.Nat.{ℕ, _+_, _/_, _%_, _≤_, _<_}
 use native.Mathlib.Omega.{arith}
 use lib.Dec.{leb, ltb}
 use borrow.Author.Tests.{leb-true, ltb-true}
+use Rattle.grant.proofs.GrantedChunk.{grantedWords, kept, new-there}
 use Rattle.grant.proofs.GrantSpares.{grant-inside}
 use Rattle.lists.specs.Lists.{Mem, numbersFrom}
 use Rattle.record.specs.declared.heap.Heap.{Heap}
@@ -14,6 +15,7 @@ use Rattle.region.proofs.PrefixLaws.{Below}
 use Rattle.region.proofs.WordsLaws.{length-written}
 use Rattle.release.proofs.ReleaseMeaning.{splits}
 use Rattle.release.proofs.ReleaseSpares.{free-inside, shrink-inside}
+use Rattle.resize.proofs.MovedLaws.{fits, copiedOver, copiedWords, copiedHeap, copied-passes, live-again, again-is}
 use Rattle.rules.specs.Shape.{Entry, shape}
 use Rattle.rules.specs.Kinds.{live, blockOf, blockEnd, blockWords}
 use Rattle.rules.specs.Check.{Passes}
@@ -25,7 +27,6 @@ use Rattle.rules.specs.Free.{isLive, blockSpot, freeBlock}
 use Rattle.rules.specs.Reallocate.{shrunk, moved, resized}
 use Rattle.rules.proofs.SpotLaws.{inside, in-split}
 use Rattle.settling.proofs.FillLaws.{Within, filled-within}
-use Rattle.promises.proofs.GrantedLaws.{grantedWords, copiedWords, copiedHeap, kept, new-there, fits, over, again-is, copied-passes, live-again}
 
 -- stores one after the other
 below-both : (m : ℕ) (ss ts : List Store) → Below m ss → Below m ts → Below m (ss ++ ts)
@@ -89,7 +90,7 @@ module _ (ws : List ℕ) (h : Heap) (p : Passes ws h) (n : ℕ) (large : 24 ≤ 
           let m = there in
           let v = found .1 in
           rw (again-is ws h p n large eight some e m v less .1)
-          (below-both (h .bytes / 4) (over ws h p n large eight some e m v less .stores)
+          (below-both (h .bytes / 4) (copiedOver ws h p n large eight some e m v less .stores)
           (freeBlock (blockOf e) (asRead (copiedWords ws h p n large eight some e m v less) (copiedHeap ws h p n large eight some e m v less)) .stores)
           (filled-below some (λ i. word ws (blockOf e) i) (blockWords e) (fits ws h p n large eight some e m v less))
           (rw (same-bytes some) at

@@ -41,7 +41,8 @@ use Rattle.promises.proofs.FreshLaws.{fresh-passes}
 use Rattle.rules.proofs.SpotLaws.{in-split}
 use Rattle.release.proofs.ReleaseMeaning.{splits}
 use Rattle.promises.specs.Room.{OnChain}
-use Rattle.promises.proofs.GrantedLaws.{given, filled, copiedWords, copiedHeap, copied-passes, live-again, again-is, moved-words}
+use Rattle.grant.proofs.GrantedChunk.{given, filled}
+use Rattle.resize.proofs.MovedLaws.{copiedWords, copiedHeap, copied-passes, live-again, again-is, moved-words}
 use Rattle.promises.proofs.OddLaws.{Failed, not-false}
 use Rattle.promises.proofs.RefusedLaws.{allocating, fitting-iff}
 

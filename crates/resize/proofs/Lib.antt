@@ -1,3 +1,4 @@
 pub mod ResizeSteps
+pub mod MovedLaws
 pub mod MoveMeaning
 pub mod ResizeMeaning

@@ -34,7 +34,8 @@ use Rattle.release.proofs.ReleaseMeaning.{place, splits}
 use Rattle.release.proofs.TailMeaning.{tail-housed}
 use Rattle.replies.proofs.ChangeLaws.{change-ruled}
 use Rattle.resize.specs.Resize.{shrinkM, movedM, moveM, resizeM}
-use Rattle.resize.proofs.MoveMeaning.{copiedOver, copy-written, move-is, move-housed}
+use Rattle.resize.proofs.MovedLaws.{copiedOver}
+use Rattle.resize.proofs.MoveMeaning.{copy-written, move-is, move-housed}
 
 -- the live block at b, in a heap that passes
 module _ (ws : List ℕ) (h : Heap) (q : passes ws h ≡ true) (z : ℕ) (k : permitted z ≡ true) (b : ℕ) (l : isLive (asRead ws h) b ≡ true) where
