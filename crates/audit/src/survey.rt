@@ -1,6 +1,5 @@
 // The walk of the chain: every chunk is examined, counted and, if it is ordinary, marked.
 // Where the links lead is read here alone; the lists of the bins come afterwards.
-ghost use Prim.Native.Nat.{ℕ};
 ghost use mathlib.Core.Path.{_≡_};
 ghost use Rattle.audit.specs.Survey.{shares, shareOf, marking, added, SurveyIs};
 use crate::chunks::Seen;

@@ -3,7 +3,7 @@
 ghost use Prim.Native.Nat.{ℕ};
 ghost use mathlib.Core.Path.{_≡_};
 ghost use Rattle.chain.specs.Chain.{endOf};
-ghost use Rattle.rules.specs.Kinds.{freeKind, kindAt, liveKind, ordinaryKind};
+ghost use Rattle.rules.specs.Kinds.{freeKind, kindAt, ordinaryKind};
 ghost use Rattle.rules.specs.Shape.{entry};
 use record::kinds::Kind;
 use region::Chunk;
