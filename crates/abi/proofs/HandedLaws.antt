@@ -1,0 +1,65 @@
+-- What a call leaves to C, from what its steps ensure: the reply's words, and the rule's outcome. Assumes nothing.
+use mathlib.Core.Path.{_≡_, refl, sym, ap, _∙_}
+use mathlib.Core.List.{List}
+use Prim.Native.Nat.{ℕ, _<_, _≤_}
+use lib.ListN.{getD}
+use borrow.Author.Tests.{eq-eqb, ne-eqb, le-leb, lt-leb}
+use Rattle.record.specs.declared.answers.Answer.{Answer}
+use Rattle.record.specs.declared.answers.Answer.the-variants.{Done, Granted, Returned, Told, Counted, Refused}
+use Rattle.record.specs.declared.answers.Refusal.the-variants.{HeapFails}
+use Rattle.record.specs.declared.answers.Reply.{Reply}
+use Rattle.record.specs.declared.heap.Heap.{Heap}
+use Rattle.rules.specs.Outcome.{Outcome}
+use Rattle.rules.specs.Statements.{Left, Meets}
+use Rattle.abi.specs.Flat.{mergePlace, recordIn, recordOut, answerOut, refusalOut}
+use Rattle.abi.specs.Handed.{handed, handedBy, openedBy, flatAfter}
+
+-- the first word is what the call returns
+pub refusal-first : (a : Answer) → getD (answerOut a) 0 0 ≡ refusalOut a
+unfolding answerOut
+refusal-first Done = refl
+refusal-first (Granted block change) = refl
+refusal-first (Returned change) = refl
+refusal-first (Told value) = refl
+refusal-first (Counted counts) = refl
+refusal-first (Refused refusal) = refl
+
+-- what is handed back to the caller of a call: its number, the answer's words and the record's
+abbrev pub HandsBack : List ℕ → Answer → Heap → ℕ → List ℕ → List ℕ → Type 0
+HandsBack rs a h r five after = (r ≡ refusalOut a) × ((five ≡ answerOut a) × (after ≡ flatAfter rs a h))
+
+module _ (rs five : List ℕ) (a : Answer) (h : Heap) (e : five ≡ answerOut a) where
+  first-is : getD five 0 0 ≡ refusalOut a
+  first-is = ap (λ (ws : List ℕ). getD ws 0 0) e ∙ refusal-first a
+
+  pub refusal-keeps : (getD five 0 0 ≡ 0 → ⊥) → HandsBack rs a h (getD five 0 0) five rs
+  unfolding flatAfter
+  refusal-keeps n = (first-is, (e, rw (ne-eqb (refusalOut a) 0 (λ z. n (first-is ∙ z))) refl))
+
+  pub acceptance-packs : (after : List ℕ) → getD five 0 0 ≡ 0 → after ≡ recordOut h → HandsBack rs a h (getD five 0 0) five after
+  unfolding flatAfter
+  acceptance-packs after z p = (first-is, (e, rw (eq-eqb (refusalOut a) 0 (sym first-is ∙ z)) p))
+
+module _ (ws rs : List ℕ) where
+  -- a damaged merge word
+  pub refuses : (o : Outcome) (r : ℕ) (five : List ℕ) → 1 < getD rs mergePlace 0 → (r ≡ 4) × (five ≡ answerOut (Refused HeapFails))
+      → handed r five rs ws ≡ handedBy ws rs o
+  unfolding handedBy
+  refuses o r five l (n, e) = rw (lt-leb _ _ l, n, e) refl
+
+  -- a call on the record that the words say
+  pub answers : (call : Heap → Outcome) (heap : Heap) (reply : Reply) (after : List ℕ) (r : ℕ) (five state : List ℕ)
+      → getD rs mergePlace 0 ≤ 1 → heap ≡ recordIn rs → Meets ws (call heap) reply after
+      → HandsBack rs (reply .answer) (reply .heap) r five state
+      → handed r five state after ≡ handedBy ws rs (call (recordIn rs))
+  unfolding handedBy
+  answers call heap reply after r five state l q m (n, (e, p)) =
+      rw (le-leb _ _ l, sym q, sym (ap (λ (x : Left). x .answer) m), sym (ap (λ (x : Left). x .heap) m), sym (ap (λ (x : Left). x .words) m), n, e, p) refl
+
+-- setup
+pub opens : (ws : List ℕ) (o : Outcome) (reply : Reply) (after five state : List ℕ) → Meets ws o reply after
+    → five ≡ answerOut (reply .answer) → state ≡ recordOut (reply .heap)
+    → handed (getD five 0 0) five state after ≡ openedBy ws o
+unfolding openedBy
+opens ws o reply after five state m e p =
+    rw (sym (ap (λ (x : Left). x .answer) m), sym (ap (λ (x : Left). x .heap) m), sym (ap (λ (x : Left). x .words) m), e, p, refusal-first (reply .answer)) refl

@@ -1,0 +1,49 @@
+-- `flat::unpack` reads the record that the words say. Assumes nothing.
+use native.Mathlib.Omega.{arith}
+use mathlib.Core.Path.{_≡_, refl, _∙_}
+use lib.ListN.{length, take, drop, replicate}
+use borrow.Author.Needs.{needs}
+use Rattle.abi.specs.Flat.{recordIn}
+use Rattle.abi.proofs.FlatLaws.{fills, part-length}
+use Rattle.abi.proofs.flat.unpack.Statement.{statement}
+use Rattle.abi.proofs.flat.unpack.Tie as tie
+
+whole : (c : tie.Start) → length (c .args .t1) ≡ 102
+whole c = search needs
+
+returns : tie.Need-returns
+unfolding recordIn
+returns c =
+    let s = c .before .before .before .before .before .before .before .before .before .before .before .before .before .before .before in
+    rw (
+      c .before .copy3 .ensures ∙ fills (replicate 32 0) (take 32 (drop 70 (s .args .t1))) refl (part-length (s .args .t1) 70 (whole s) (omega arith)),
+      c .before .before .before .before .before .before .copy2 .ensures ∙ fills (replicate 32 0) (take 32 (drop 38 (s .args .t1))) refl (part-length (s .args .t1) 38 (whole s) (omega arith)),
+      c .before .before .before .before .before .before .before .before .before .before .before .copy .ensures ∙ fills (replicate 32 0) (take 32 (drop 6 (s .args .t1))) refl (part-length (s .args .t1) 6 (whole s) (omega arith)),
+    )
+
+pub unpack-spec : {M : Type 1} → statement M
+unpack-spec =
+    tie.close
+    (tie.spec
+    (λ c. search needs)
+    (λ c. search needs)
+    (λ c. search needs)
+    (λ c. search needs)
+    (λ c κs. search needs)
+    (λ c. search needs)
+    (λ c. search needs)
+    (λ c. search needs)
+    (λ c. search needs)
+    (λ c κs. search needs)
+    (λ c. search needs)
+    (λ c. search needs)
+    (λ c. search needs)
+    (λ c. search needs)
+    (λ c κs. search needs)
+    (λ c. search needs)
+    (λ c. search needs)
+    (λ c. search needs)
+    (λ c. search needs)
+    (λ c. search needs)
+    (λ c. search needs)
+    returns)

@@ -1,0 +1,27 @@
+-- `abi::kz_ask_bin` answers a question about a bin, on the record that the words say. Assumes nothing.
+use borrow.Author.Needs.{needs}
+use Rattle.rules.specs.Ask.{askBin}
+use Rattle.abi.proofs.HandedLaws.{refuses, answers}
+use Rattle.abi.proofs.kz_ask_bin.Statement.{statement}
+use Rattle.abi.proofs.kz_ask_bin.Tie as tie
+
+returns : tie.Need-returns
+returns c = refuses _ _ _ _ _ (c .before .before .if1 .taken) (c .refuse-record .ensures)
+
+returns-2 : tie.Need-returns-2
+returns-2 c =
+    let a = c .before .before .before .before .before .before .before .before .before .before .before .before .args in
+    answers _ _ (λ h. askBin (a .region .now) h (a .question) (a .bin)) _ _ _ _ _ _ (c .before .before .before .before .before .before .before .before .before .if1 .left) (c .before .before .before .before .before .before .before .unpack .ensures) (c .before .before .before .before .before .ask-bin .ensures) (c .hand-back .ensures)
+
+pub kz-ask-bin-spec : {M : Type 1} → statement M
+kz-ask-bin-spec =
+    tie.close
+    (tie.spec
+    (λ c. search needs)
+    (λ c κs. search needs)
+    returns
+    (λ c κs. search needs)
+    (λ c κs. search needs)
+    (λ c κs. search needs)
+    (λ c. search needs)
+    returns-2)

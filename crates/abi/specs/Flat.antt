@@ -1,0 +1,64 @@
+-- The record and the answer as C has them: 102 words and 5 words. A place of the record is a number of a word.
+use Prim.Native.Nat.{ℕ, suc, _-_, _%_, _^_}
+use mathlib.Core.Bool.{cond}
+use mathlib.Core.List.{List, [], _∷_, _++_}
+use lib.Dec.{eqb}
+use lib.IntN.{ℤ, pos, negsuc}
+use lib.ListN.{getD, take, drop}
+use Rattle.record.specs.Answers.{Figures, figuresOf}
+use Rattle.record.specs.Heap.{at, places}
+use Rattle.record.specs.declared.answers.Answer.{Answer}
+use Rattle.record.specs.declared.answers.Answer.the-variants.{Done, Granted, Returned, Told, Counted, Refused}
+use Rattle.record.specs.declared.heap.Heap.{Heap}
+
+-- where the merge word stands
+abbrev pub mergePlace : ℕ
+mergePlace = 4
+
+-- the record that 102 words say; a merge word of 1 is on
+unfoldable pub recordIn : List ℕ → Heap
+recordIn rs =
+    record {
+      bytes = getD rs 0 0;
+      bins = getD rs 1 0;
+      sizes = take places (drop 6 rs);
+      heads = take places (drop 38 rs);
+      tails = take places (drop 70 rs);
+      donor = at (getD rs 2 0);
+      top = at (getD rs 3 0);
+      merge = eqb (getD rs mergePlace 0) 1;
+      used = getD rs 5 0;
+    }
+
+-- the words that say a record
+unfoldable pub recordOut : Heap → List ℕ
+recordOut h =
+    h .bytes ∷ h .bins ∷ h .donor .0 ∷ h .top .0 ∷ cond (h .merge) 1 0 ∷ h .used
+    ∷ (h .sizes ++ (h .heads ++ h .tails))
+
+-- a signed number in two's complement of 32 bits: modulo 2 ^ 32
+unfoldable pub complement : ℤ → ℕ
+complement (pos n) = n % 2 ^ 32
+complement (negsuc n) = (2 ^ 32 - suc n % 2 ^ 32) % 2 ^ 32
+
+-- the five words of an answer to any call but the check
+abbrev pub callWords : Figures → List ℕ
+callWords f = f .refusal ∷ f .offset ∷ f .value ∷ complement (f .change) ∷ 0 ∷ []
+
+-- the five words of the check's figures
+abbrev pub checkWords : Figures → List ℕ
+checkWords f =
+    f .refusal ∷ f .counts .chunks ∷ f .counts .ordinary ∷ f .counts .used ∷ f .counts .free ∷ []
+
+-- a refusal is its number and four zeros, whatever call gives it
+unfoldable pub answerOut : Answer → List ℕ
+answerOut Done = callWords (figuresOf Done)
+answerOut (Granted block change) = callWords (figuresOf (Granted block change))
+answerOut (Returned change) = callWords (figuresOf (Returned change))
+answerOut (Told value) = callWords (figuresOf (Told value))
+answerOut (Counted counts) = checkWords (figuresOf (Counted counts))
+answerOut (Refused refusal) = callWords (figuresOf (Refused refusal))
+
+-- what the call returns beside: the refusal's number, 0 for none
+abbrev pub refusalOut : Answer → ℕ
+refusalOut a = figuresOf a .refusal

@@ -1,0 +1,175 @@
+// The calls for C, each with the record and the answer as flat words: include/kruzhvela.h declares them.
+// What a call does is in the crate heap, and how words say a record in flat.
+ghost use mathlib.Core.Path.{_≡_};
+ghost use Rattle.abi.specs.Flat.{recordIn};
+ghost use Rattle.abi.specs.Handed.{handed, handedBy, openedBy};
+ghost use Rattle.rules.specs.Allocate.{allocate, allocateCleared};
+ghost use Rattle.rules.specs.Ask.{askBin, askChunk};
+ghost use Rattle.rules.specs.Free.{free};
+ghost use Rattle.rules.specs.Merge.{check, setMerge};
+ghost use Rattle.rules.specs.Reallocate.{reallocate};
+ghost use Rattle.rules.specs.Setup.{setup};
+use crate::flat::answer_words;
+use crate::flat::hand_back;
+use crate::flat::pack;
+use crate::flat::refuse_record;
+use crate::flat::unpack;
+use region::Block;
+
+mod flat;
+
+// What the record was before is not read.
+#[no_mangle]
+pub extern "C" fn kz_setup(
+    region: &mut [u32],
+    table: &[u32],
+    donor: u32,
+    merge: bool,
+    state: &mut [u32; 102],
+    answer: &mut [u32; 5],
+) -> u32
+    ensures { λ r. ⌜ handed r (now (answer .exit)) (now (state .exit)) (now (region .exit)) ≡ openedBy (now (region .entry)) (setup (now (region .entry)) (now (table .entry)) donor merge) ⌝ }
+{
+    let reply = heap::setup(region, table, donor, merge);
+    let after = reply.heap;
+    let said = reply.answer;
+    let words = answer_words(said);
+    *state = pack(after);
+    *answer = words;
+    words[0]
+}
+
+#[no_mangle]
+pub extern "C" fn kz_allocate(
+    region: &mut [u32],
+    state: &mut [u32; 102],
+    z: u32,
+    answer: &mut [u32; 5],
+) -> u32
+    ensures { λ r. ⌜ handed r (now (answer .exit)) (now (state .exit)) (now (region .exit)) ≡ handedBy (now (region .entry)) (now (state .entry)) (allocate (now (region .entry)) (recordIn (now (state .entry))) z) ⌝ }
+{
+    if state[4] > 1 {
+        return refuse_record(answer);
+    }
+    let heap = unpack(*state);
+    let reply = heap::allocate(region, heap, z);
+    hand_back(reply, state, answer)
+}
+
+#[no_mangle]
+pub extern "C" fn kz_allocate_cleared(
+    region: &mut [u32],
+    state: &mut [u32; 102],
+    count: u32,
+    size: u32,
+    answer: &mut [u32; 5],
+) -> u32
+    ensures { λ r. ⌜ handed r (now (answer .exit)) (now (state .exit)) (now (region .exit)) ≡ handedBy (now (region .entry)) (now (state .entry)) (allocateCleared (now (region .entry)) (recordIn (now (state .entry))) count size) ⌝ }
+{
+    if state[4] > 1 {
+        return refuse_record(answer);
+    }
+    let heap = unpack(*state);
+    let reply = heap::allocate_cleared(region, heap, count, size);
+    hand_back(reply, state, answer)
+}
+
+#[no_mangle]
+pub extern "C" fn kz_free(
+    region: &mut [u32],
+    state: &mut [u32; 102],
+    block: u32,
+    answer: &mut [u32; 5],
+) -> u32
+    ensures { λ r. ⌜ handed r (now (answer .exit)) (now (state .exit)) (now (region .exit)) ≡ handedBy (now (region .entry)) (now (state .entry)) (free (now (region .entry)) (recordIn (now (state .entry))) block) ⌝ }
+{
+    if state[4] > 1 {
+        return refuse_record(answer);
+    }
+    let heap = unpack(*state);
+    let reply = heap::free(region, heap, Block(block));
+    hand_back(reply, state, answer)
+}
+
+#[no_mangle]
+pub extern "C" fn kz_reallocate(
+    region: &mut [u32],
+    state: &mut [u32; 102],
+    block: u32,
+    z: u32,
+    answer: &mut [u32; 5],
+) -> u32
+    ensures { λ r. ⌜ handed r (now (answer .exit)) (now (state .exit)) (now (region .exit)) ≡ handedBy (now (region .entry)) (now (state .entry)) (reallocate (now (region .entry)) (recordIn (now (state .entry))) block z) ⌝ }
+{
+    if state[4] > 1 {
+        return refuse_record(answer);
+    }
+    let heap = unpack(*state);
+    let reply = heap::reallocate(region, heap, Block(block), z);
+    hand_back(reply, state, answer)
+}
+
+#[no_mangle]
+pub extern "C" fn kz_set_merge(
+    region: &mut [u32],
+    state: &mut [u32; 102],
+    on: bool,
+    answer: &mut [u32; 5],
+) -> u32
+    ensures { λ r. ⌜ handed r (now (answer .exit)) (now (state .exit)) (now (region .exit)) ≡ handedBy (now (region .entry)) (now (state .entry)) (setMerge (now (region .entry)) (recordIn (now (state .entry))) on) ⌝ }
+{
+    if state[4] > 1 {
+        return refuse_record(answer);
+    }
+    let heap = unpack(*state);
+    let reply = heap::set_merge(region, heap, on);
+    hand_back(reply, state, answer)
+}
+
+#[no_mangle]
+pub extern "C" fn kz_check(region: &mut [u32], state: &mut [u32; 102], answer: &mut [u32; 5]) -> u32
+    ensures { λ r. ⌜ handed r (now (answer .exit)) (now (state .exit)) (now (region .exit)) ≡ handedBy (now (region .entry)) (now (state .entry)) (check (now (region .entry)) (recordIn (now (state .entry)))) ⌝ }
+{
+    if state[4] > 1 {
+        return refuse_record(answer);
+    }
+    let heap = unpack(*state);
+    let reply = heap::check(region, heap);
+    hand_back(reply, state, answer)
+}
+
+#[no_mangle]
+pub extern "C" fn kz_ask_chunk(
+    region: &mut [u32],
+    state: &mut [u32; 102],
+    question: u32,
+    place: u32,
+    answer: &mut [u32; 5],
+) -> u32
+    ensures { λ r. ⌜ handed r (now (answer .exit)) (now (state .exit)) (now (region .exit)) ≡ handedBy (now (region .entry)) (now (state .entry)) (askChunk (now (region .entry)) (recordIn (now (state .entry))) question place) ⌝ }
+{
+    if state[4] > 1 {
+        return refuse_record(answer);
+    }
+    let heap = unpack(*state);
+    let reply = heap::ask_chunk(region, heap, question, place);
+    hand_back(reply, state, answer)
+}
+
+#[no_mangle]
+pub extern "C" fn kz_ask_bin(
+    region: &mut [u32],
+    state: &mut [u32; 102],
+    question: u32,
+    bin: u32,
+    answer: &mut [u32; 5],
+) -> u32
+    ensures { λ r. ⌜ handed r (now (answer .exit)) (now (state .exit)) (now (region .exit)) ≡ handedBy (now (region .entry)) (now (state .entry)) (askBin (now (region .entry)) (recordIn (now (state .entry))) question bin) ⌝ }
+{
+    if state[4] > 1 {
+        return refuse_record(answer);
+    }
+    let heap = unpack(*state);
+    let reply = heap::ask_bin(region, heap, question, bin);
+    hand_back(reply, state, answer)
+}
