@@ -1,5 +1,6 @@
 // The calls for C, each with the record and the answer as flat words: include/kruzhvela.h declares them.
-// What a call does is in the crate heap, and how words say a record in flat.
+// What a call does is in the crate heap, and how words say a record in flat. The record's words are called `state` here:
+// `record` is a word of the language of the proofs.
 ghost use mathlib.Core.Path.{_≡_};
 ghost use Rattle.abi.specs.Flat.{recordIn};
 ghost use Rattle.abi.specs.Handed.{handed, handedBy, openedBy};

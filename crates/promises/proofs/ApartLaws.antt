@@ -2,18 +2,17 @@
 -- that is not given back or resized keeps its place, its length and its words. Assumes nothing.
 use mathlib.Core.Path.{_≡_, refl, sym, ap, subst, _∙_}
 use mathlib.Core.Logic.{_≢_, _⊎_, inl, inr}
-use mathlib.Core.Bool.{Bool, true, false, not, cond, _&&_, true≢false, false≢true}
+use mathlib.Core.Bool.{Bool, true, false, cond, true≢false, false≢true}
 use mathlib.Core.List.{List, [], _∷_}
 use Prim.Native.Nat.{ℕ, _+_, _*_, _≤_, _<_}
 use native.Mathlib.Decide.{ℕ-discrete}
 use native.Mathlib.Omega.{arith}
-use lib.Dec.{leb, ltb}
+use lib.Dec.{leb}
 use lib.IntN.{ℤ}
 use borrow.Author.Tests.{ne-eqb, lt-ltb, le-ltb, leb-true}
 use Rattle.grant.proofs.NeedLaws.{need-large, need-eight}
 use Rattle.record.specs.declared.answers.Answer.{Answer}
 use Rattle.record.specs.declared.answers.Answer.the-variants.{Done, Granted, Returned}
-use Rattle.record.specs.declared.answers.Refusal.the-variants.{BlockSize, NotLive, NoRoom, NoBinTakes}
 use Rattle.record.specs.declared.heap.Heap.{Heap}
 use Rattle.record.specs.Answers.{figuresOf}
 use Rattle.region.specs.declared.Block.{Block}
@@ -26,12 +25,12 @@ use Rattle.rules.specs.Shape.{Entry, shape}
 use Rattle.rules.specs.Kinds.{live, overhead, blockOf, blockWords}
 use Rattle.rules.specs.Check.{Passes}
 use Rattle.rules.specs.Draft.{asRead, alsoWrites}
-use Rattle.rules.specs.Serve.{need, permitted, nowhere}
+use Rattle.rules.specs.Serve.{need, nowhere}
 use Rattle.rules.specs.Cut.{Grant}
 use Rattle.rules.specs.Outcome.{Outcome, Refusals, judged, heapFails, unchanged, made, grants, changeOf}
-use Rattle.rules.specs.Allocate.{sourceOf, grant, asFound, cleared, allocateWith, allocate, allocateCleared}
+use Rattle.rules.specs.Allocate.{sourceOf, grant, asFound, cleared, allocateWith, allocate, allocateCleared, allocateRefusals}
 use Rattle.rules.specs.Free.{isLive, blockSpot, freeBlock, free}
-use Rattle.rules.specs.Reallocate.{shrunk, moved, resized, resize, reallocate}
+use Rattle.rules.specs.Reallocate.{shrunk, moved, resized, resize, reallocate, resizeRefusals}
 use Rattle.rules.specs.Merge.{setMerge, check}
 use Rattle.rules.specs.Ask.{askChunk, askBin}
 use Rattle.rules.specs.Statements.{Left, leftBy}
@@ -43,7 +42,7 @@ use Rattle.promises.specs.Ways.{ours}
 use Rattle.promises.specs.Room.{OnChain, HoldsBlock}
 use Rattle.promises.specs.Refused.{isSetup, recordOf}
 use Rattle.promises.specs.Apart.{SameWords, Keeps, KeepsAll, KeepsOthers, Gone, NoneNew, NoneNewBut, New, Clear, Stays, onlyLooks, Apart}
-use Rattle.promises.proofs.RefusedLaws.{allocating, live-iff, one-block, here-holds, refusing}
+use Rattle.promises.proofs.RefusedLaws.{live-iff, one-block, here-holds, refusing}
 use Rattle.promises.proofs.GrantedLaws.{kept-still, new-apart, new-clear, cleared-within, others-kept, none-others, moved-apart}
 use Rattle.promises.proofs.OddLaws.{Failed}
 
@@ -67,8 +66,8 @@ module _ (ws : List ℕ) (h : Heap) (p : Passes ws h) (block : Block) (change : 
     abbrev made-of : Outcome
     made-of = made (grants 0 (grant n (asRead ws h) .granted)) (alsoWrites (fill (grant n (asRead ws h) .granted)) (grant n (asRead ws h) .draft))
 
-    taken : Failed (allocating ws h z) × (allocateWith fill ws h z ≡ made-of)
-    taken = accepted h made-of block change (allocating ws h z) q
+    taken : Failed (allocateRefusals (heapFails ws h) (asRead ws h) z) × (allocateWith fill ws h z ≡ made-of)
+    taken = accepted h made-of block change (allocateRefusals (heapFails ws h) (asRead ws h) z) q
 
     block-is : blockOf (grant n (asRead ws h) .granted) ≡ block .0
     block-is = block-of 0 (grant n (asRead ws h) .granted) block change (sym (ap (λ (o : Outcome). o .answer) (taken .1)) ∙ q)
@@ -119,13 +118,7 @@ module _ (ws : List ℕ) (h : Heap) (p : Passes ws h) (b : ℕ) (e : Entry) (k :
     outcome = made (grants (old .size) (result .granted)) (result .draft)
 
     abbrev tests : Refusals
-    tests =
-        heapFails ws h
-        ∷ (not (permitted z), BlockSize)
-        ∷ (not (isLive (asRead ws h) b), NotLive)
-        ∷ (ltb (old .size) large && nowhere (sourceOf large (asRead ws h)), NoRoom)
-        ∷ (result .draft .homeless, NoBinTakes)
-        ∷ []
+    tests = resizeRefusals (heapFails ws h) ws (asRead ws h) b z
 
     resize-left : ours (Reallocate b z) ws h ≡ leftBy ws (judged h tests outcome)
     unfolding ours step reallocate resize

@@ -2,7 +2,7 @@
 -- Assumes nothing.
 use mathlib.Core.Path.{_≡_, refl, sym, _∙_}
 use mathlib.Core.Logic.{inl, inr}
-use mathlib.Core.Bool.{Bool, true, false, not, cond, _&&_, _||_, false≢true}
+use mathlib.Core.Bool.{Bool, true, false, not, cond, _&&_, false≢true}
 use mathlib.Core.List.{List, [], _∷_, _++_}
 use Prim.Native.Nat.{ℕ, _+_, _*_, _%_, _≤_, _<_}
 use native.Mathlib.Omega.{arith}
@@ -13,7 +13,6 @@ use Rattle.grant.proofs.NeedLaws.{need-large, need-eight}
 use Rattle.lists.proofs.ListsLaws.{less, or-else}
 use Rattle.record.specs.declared.answers.Answer.{Answer}
 use Rattle.record.specs.declared.answers.Answer.the-variants.{Done, Granted, Returned, Told, Counted, Refused}
-use Rattle.record.specs.declared.answers.Refusal.the-variants.{RegionLength, BadTable, DonorSize, BlockSize, NotLive, NoRoom, NotThere, NoBinTakes}
 use Rattle.record.specs.declared.heap.Heap.{Heap}
 use Rattle.record.specs.Heap.{empty, withMerge}
 use Rattle.record.specs.Table.{validTable}
@@ -24,15 +23,15 @@ use Rattle.release.proofs.ShrinkKept.{shrink-kept}
 use Rattle.rules.specs.Shape.{Entry, shape, heapBytes}
 use Rattle.rules.specs.Kinds.{overhead, blockWords, blockOf}
 use Rattle.rules.specs.Check.{Passes}
-use Rattle.rules.specs.Draft.{Draft, asRead, alsoWrites}
-use Rattle.rules.specs.Serve.{need, permitted, nowhere}
-use Rattle.rules.specs.Outcome.{Outcome, Refusals, judged, heapFails, unchanged, made, grants, changeOf}
-use Rattle.rules.specs.Setup.{setup, donorFits, fresh, firstHeaders}
-use Rattle.rules.specs.Allocate.{sourceOf, grant, asFound, cleared, allocateWith, allocate, allocateCleared}
-use Rattle.rules.specs.Free.{isLive, blockSpot, freeBlock, free}
-use Rattle.rules.specs.Reallocate.{shrunk, moved, resized, resize, reallocate}
+use Rattle.rules.specs.Draft.{Draft, asRead}
+use Rattle.rules.specs.Serve.{need, nowhere}
+use Rattle.rules.specs.Outcome.{Outcome, Refusals, judged, heapFails, unchanged}
+use Rattle.rules.specs.Setup.{setup, donorFits, fresh, firstHeaders, setupRefusals, opened}
+use Rattle.rules.specs.Allocate.{sourceOf, grant, asFound, cleared, allocateWith, allocate, allocateCleared, allocateRefusals, allocated}
+use Rattle.rules.specs.Free.{isLive, blockSpot, freeBlock, free, freeRefusals, freed}
+use Rattle.rules.specs.Reallocate.{shrunk, moved, resized, resize, reallocate, resizeRefusals, resizedTo}
 use Rattle.rules.specs.Merge.{setMerge, checked, check}
-use Rattle.rules.specs.Ask.{askChunk, askBin, chunkAnswers, askedSpot, isAsked, isThere, answerTo, binAnswers}
+use Rattle.rules.specs.Ask.{askChunk, askBin, chunkAnswers, askedSpot, isThere, binAnswers, askRefusals, asked}
 use Rattle.rules.specs.Calls.{Call, Setup, Allocate, AllocateCleared, Free, Reallocate, SetMerge, Check, AskChunk, AskBin, State, recordAfter, step}
 use Rattle.settling.proofs.FillLaws.{Within, filled-within, fills}
 use Rattle.promises.specs.Ways.{ours}
@@ -44,7 +43,7 @@ use Rattle.promises.specs.Room.{OnChain}
 use Rattle.grant.proofs.GrantedChunk.{given, filled}
 use Rattle.resize.proofs.MovedLaws.{copiedWords, copiedHeap, copied-passes, live-again, again-is, moved-words}
 use Rattle.promises.proofs.OddLaws.{Failed, not-false}
-use Rattle.promises.proofs.RefusedLaws.{allocating, fitting-iff}
+use Rattle.promises.proofs.RefusedLaws.{fitting-iff}
 
 -- what an outcome leaves for the next call
 abbrev left : List ℕ → Heap → Outcome → State
@@ -59,15 +58,8 @@ same-record h (Told v) = refl
 same-record h (Counted c) = refl
 same-record h (Refused r) = refl
 
--- the tests of setup, which fail where it is accepted
-abbrev setupTests : List ℕ → List ℕ → ℕ → Refusals
-setupTests ws table donor =
-    (ltb (length ws) 10 || ltb 16384 (length ws), RegionLength)
-    ∷ (not (validTable table), BadTable)
-    ∷ (not (donorFits (heapBytes (length ws)) donor), DonorSize)
-    ∷ []
-
-setup-passes : (ws table : List ℕ) (donor : ℕ) (merge : Bool) → Failed (setupTests ws table donor)
+-- where all tests of setup fail, what it makes passes
+setup-passes : (ws table : List ℕ) (donor : ℕ) (merge : Bool) → Failed (setupRefusals ws table donor)
     → Passes (written ws (firstHeaders (heapBytes (length ws)) donor)) (fresh (heapBytes (length ws)) table donor merge)
 setup-passes ws table donor merge (size, (t, (d, _))) =
     let wrong = or-else (less (length ws) 10) (less 16384 (length ws)) .1 in
@@ -87,8 +79,7 @@ setup-kept : (table : List ℕ) (donor : ℕ) (merge : Bool) (ws : List ℕ) (h 
 unfolding ours step setup
 setup-kept table donor merge ws h a =
     let bytes = heapBytes (length ws) in
-    let o : Outcome = record { answer = Done; heap = fresh bytes table donor merge; stores = firstHeaders bytes donor } in
-    let k = accepted-made empty o (setupTests ws table donor) a in
+    let k = accepted-made empty (opened bytes table donor merge) (setupRefusals ws table donor) a in
     rw (k .1) (setup-passes ws table donor merge (k .0))
 
 module _ (ws : List ℕ) (h : Heap) (p : Passes ws h) where
@@ -138,7 +129,7 @@ module _ (ws : List ℕ) (h : Heap) (p : Passes ws h) where
       → Passing (left ws h (allocateWith fill ws h z))
   with-passes fill z w =
       let g = grant (need overhead z) (asRead ws h) in
-      judged-passes h (made (grants 0 (g .granted)) (alsoWrites (fill (g .granted)) (g .draft))) (allocating ws h z)
+      judged-passes h (allocated fill (asRead ws h) z) (allocateRefusals (heapFails ws h) (asRead ws h) z)
       (λ (_, (_, (some, _))). granted-passes (need overhead z) (need-large z) (need-eight z) some (fill (g .granted)) (w some))
 
   allocate-passes : (z : ℕ) → Passing (left ws h (allocate ws h z))
@@ -156,12 +147,7 @@ module _ (ws : List ℕ) (h : Heap) (p : Passes ws h) where
   free-passes : (b : ℕ) → Passing (left ws h (free ws h b))
   unfolding free asRead
   free-passes b =
-      let before = asRead ws h in
-      let none = eqb b 0 in
-      let after = cond none before (freeBlock b before) in
-      judged-passes h (made (Returned (changeOf (cond none 0 (blockSpot before b .here .size)) 0)) after)
-      (heapFails ws h ∷ (not none && not (isLive before b), NotLive) ∷ (after .homeless, NoBinTakes) ∷ [])
-      (λ (_, (l, _)). go none l)
+      judged-passes h (freed (asRead ws h) b) (freeRefusals (heapFails ws h) (asRead ws h) b) (λ (_, (l, _)). go (eqb b 0) l)
     where
       go : (t : Bool) → (not t && not (isLive (asRead ws h) b)) ≡ false
           → let d = cond t (asRead ws h) (freeBlock b (asRead ws h)) in Passes (written ws (d .stores)) (d .heap)
@@ -171,18 +157,8 @@ module _ (ws : List ℕ) (h : Heap) (p : Passes ws h) where
   resize-passes : (b z : ℕ) → Passing (left ws h (resize ws h b z))
   unfolding resize
   resize-passes b z =
-      let n = need overhead z in
-      let before = asRead ws h in
-      let s = blockSpot before b in
-      let g = resized ws s n before in
-      judged-passes h (made (grants (s .here .size) (g .granted)) (g .draft))
-      (heapFails ws h
-      ∷ (not (permitted z), BlockSize)
-      ∷ (not (isLive before b), NotLive)
-      ∷ (ltb (s .here .size) n && nowhere (sourceOf n before), NoRoom)
-      ∷ (g .draft .homeless, NoBinTakes)
-      ∷ [])
-      (λ (_, (_, (l, (room, _)))). resized-passes n (need-large z) (need-eight z) b (not-false (isLive before b) l) room)
+      judged-passes h (resizedTo ws (asRead ws h) b z) (resizeRefusals (heapFails ws h) ws (asRead ws h) b z)
+      (λ (_, (_, (l, (room, _)))). resized-passes (need overhead z) (need-large z) (need-eight z) b (not-false (isLive (asRead ws h) b) l) room)
 
   reallocate-passes : (b z : ℕ) → Passing (left ws h (reallocate ws h b z))
   unfolding reallocate
@@ -235,8 +211,8 @@ module _ (ws : List ℕ) (h : Heap) (p : Passes ws h) where
   unfolding step setup check askChunk askBin
   step-passes (Setup table donor merge) =
       let bytes = heapBytes (length ws) in
-      judged-passes empty (record { answer = Done; heap = fresh bytes table donor merge; stores = firstHeaders bytes donor })
-      (setupTests ws table donor) (setup-passes ws table donor merge)
+      judged-passes empty (opened bytes table donor merge)
+      (setupRefusals ws table donor) (setup-passes ws table donor merge)
   step-passes (Allocate z) = allocate-passes z
   step-passes (AllocateCleared count size) = cleared-passes count size
   step-passes (Free b) = free-passes b
@@ -246,12 +222,10 @@ module _ (ws : List ℕ) (h : Heap) (p : Passes ws h) where
   step-passes (AskChunk q c) =
       let d = asRead ws h in
       let answers = chunkAnswers d (askedSpot d q c) in
-      judged-passes h (unchanged h (Told (answerTo q answers)))
-      (heapFails ws h ∷ (not (isAsked q answers) || not (isThere d q c), NotThere) ∷ []) (λ _. p)
+      judged-passes h (asked h q answers) (askRefusals (heapFails ws h) q answers (isThere d q c)) (λ _. p)
   step-passes (AskBin q i) =
       let answers = binAnswers (asRead ws h .lists i) in
-      judged-passes h (unchanged h (Told (answerTo q answers)))
-      (heapFails ws h ∷ (not (isAsked q answers) || not (ltb i (h .bins)), NotThere) ∷ []) (λ _. p)
+      judged-passes h (asked h q answers) (askRefusals (heapFails ws h) q answers (ltb i (h .bins))) (λ _. p)
 
 -- a store into a live block leaves the heap as it is read, so the next store falls into a live block too
 stores-pass : (ss : List Store) (s : State) → Passing s → OnLiveBlocks s ss → Passing (afterStores ss s)

@@ -9,5 +9,6 @@ pub mod OddLaws
 pub mod FreshLaws
 pub mod KeptLaws
 pub mod ApartLaws
+pub mod NineLaws
 pub mod RunsLaws
 pub mod WrongLaws

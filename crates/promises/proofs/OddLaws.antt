@@ -14,11 +14,10 @@ use Rattle.lists.proofs.ListsLaws.{Decides, less, or-else}
 use Rattle.lists.proofs.MembersLaws.{kept-from}
 use Rattle.opening.proofs.LayoutLaws.{first-below}
 use Rattle.record.specs.declared.answers.Answer.{Answer}
-use Rattle.record.specs.declared.answers.Answer.the-variants.{Done, Returned, Told, Counted, Refused}
-use Rattle.record.specs.declared.answers.Refusal.the-variants.{RegionLength, BadTable, DonorSize, HeapFails, BlockSize, NotLive, NoRoom, NotThere, NoBinTakes}
+use Rattle.record.specs.declared.answers.Answer.the-variants.{Done, Told, Counted, Refused}
+use Rattle.record.specs.declared.answers.Refusal.the-variants.{HeapFails, NotThere}
 use Rattle.record.specs.declared.heap.Heap.{Heap}
 use Rattle.record.specs.Heap.{empty, withMerge}
-use Rattle.record.specs.Table.{validTable}
 use Rattle.region.specs.Words.{Store, put, word, written}
 use Rattle.region.proofs.WordsLaws.{length-written}
 use Rattle.region.proofs.PrefixLaws.{Below, written-prefix}
@@ -27,21 +26,21 @@ use Rattle.rules.specs.Shape.{Entry, shape, heapBytes}
 use Rattle.rules.specs.Kinds.{overhead, blockOf, blockEnd, blockWords, outside, holdsBlock}
 use Rattle.rules.specs.Check.{Fits, Passes, passes, countsOf}
 use Rattle.rules.specs.Draft.{Draft, asRead, alsoWrites}
-use Rattle.rules.specs.Serve.{need, permitted, nowhere}
-use Rattle.rules.specs.Outcome.{Outcome, Refusals, judged, heapFails, unchanged, made, grants, changeOf}
-use Rattle.rules.specs.Setup.{setup, donorFits, fresh, firstHeaders}
-use Rattle.rules.specs.Allocate.{sourceOf, grant, asFound, cleared, allocateWith, allocate, allocateCleared}
-use Rattle.rules.specs.Free.{isLive, blockSpot, freeBlock, free}
-use Rattle.rules.specs.Reallocate.{copied, resized, resize, reallocate}
+use Rattle.rules.specs.Serve.{need, nowhere}
+use Rattle.rules.specs.Outcome.{Outcome, Refusals, judged, heapFails, unchanged}
+use Rattle.rules.specs.Setup.{setup, donorFits, setupRefusals, opened}
+use Rattle.rules.specs.Allocate.{sourceOf, grant, asFound, cleared, allocateWith, allocate, allocateCleared, allocateRefusals, allocated}
+use Rattle.rules.specs.Free.{isLive, blockSpot, freeBlock, free, freeRefusals, freed}
+use Rattle.rules.specs.Reallocate.{copied, resized, resize, reallocate, resizeRefusals, resizedTo}
 use Rattle.rules.specs.Merge.{setMerge, checked, check}
-use Rattle.rules.specs.Ask.{askChunk, askBin, chunkAnswers, askedSpot, isAsked, isThere, answerTo, binAnswers}
+use Rattle.rules.specs.Ask.{askChunk, askBin, chunkAnswers, askedSpot, isAsked, isThere, answerTo, binAnswers, askRefusals, asked}
 use Rattle.rules.specs.Calls.{Call, Setup, Allocate, AllocateCleared, Free, Reallocate, SetMerge, Check, AskChunk, AskBin, step}
 use Rattle.rules.proofs.CheckLaws.{passes-iff}
 use Rattle.rules.proofs.EvenLaws.{Agree, same-passes, same-read}
 use Rattle.rules.proofs.SpotLaws.{inside}
 use Rattle.promises.specs.Ways.{ours}
 use Rattle.promises.specs.Odd.{evenWords, oddWord, AlikeButOdd, OddApart}
-use Rattle.promises.proofs.RefusedLaws.{Fitting, fitting-iff, allocating}
+use Rattle.promises.proofs.RefusedLaws.{Fitting, fitting-iff}
 use Rattle.promises.proofs.InsideLaws.{found-below, cleared-below, resized-below}
 
 -- the tests before an acceptance have failed
@@ -76,8 +75,7 @@ module _ (ws : List ℕ) (h : Heap) where
       → let g = grant (need overhead z) (asRead ws h) in Below (h .bytes / 4) (alsoWrites (fill (g .granted)) (g .draft) .stores))
       → Below even (allocateWith fill ws h z .stores)
   with-below fill z b =
-      let g = grant (need overhead z) (asRead ws h) in
-      judged-below even h (made (grants 0 (g .granted)) (alsoWrites (fill (g .granted)) (g .draft))) (allocating ws h z)
+      judged-below even h (allocated fill (asRead ws h) z) (allocateRefusals (heapFails ws h) (asRead ws h) z)
       (λ (f, (_, (some, _))). let p = passing f in rw (← heap-even p) (b p some))
 
   allocate-below : (z : ℕ) → Below even (allocate ws h z .stores)
@@ -91,12 +89,7 @@ module _ (ws : List ℕ) (h : Heap) where
   free-all-below : (b : ℕ) → Below even (free ws h b .stores)
   unfolding free asRead
   free-all-below b =
-      let before = asRead ws h in
-      let none = eqb b 0 in
-      let after = cond none before (freeBlock b before) in
-      judged-below even h (made (Returned (changeOf (cond none 0 (blockSpot before b .here .size)) 0)) after)
-      (heapFails ws h ∷ (not none && not (isLive before b), NotLive) ∷ (after .homeless, NoBinTakes) ∷ [])
-      (λ (f, (l, _)). go (passing f) none l)
+      judged-below even h (freed (asRead ws h) b) (freeRefusals (heapFails ws h) (asRead ws h) b) (λ (f, (l, _)). go (passing f) (eqb b 0) l)
     where
       go : Passes ws h → (t : Bool) → (not t && not (isLive (asRead ws h) b)) ≡ false
           → Below even (cond t (asRead ws h) (freeBlock b (asRead ws h)) .stores)
@@ -106,20 +99,10 @@ module _ (ws : List ℕ) (h : Heap) where
   resize-below : (b z : ℕ) → Below even (resize ws h b z .stores)
   unfolding resize
   resize-below b z =
-      let n = need overhead z in
-      let before = asRead ws h in
-      let s = blockSpot before b in
-      let g = resized ws s n before in
-      judged-below even h (made (grants (s .here .size) (g .granted)) (g .draft))
-      (heapFails ws h
-      ∷ (not (permitted z), BlockSize)
-      ∷ (not (isLive before b), NotLive)
-      ∷ (ltb (s .here .size) n && nowhere (sourceOf n before), NoRoom)
-      ∷ (g .draft .homeless, NoBinTakes)
-      ∷ [])
+      judged-below even h (resizedTo ws (asRead ws h) b z) (resizeRefusals (heapFails ws h) ws (asRead ws h) b z)
       (λ (f, (_, (l, (room, _)))).
       let p = passing f in
-      rw (← heap-even p) (resized-below ws h p n (need-large z) (need-eight z) b (not-false (isLive before b) l) room))
+      rw (← heap-even p) (resized-below ws h p (need overhead z) (need-large z) (need-eight z) b (not-false (isLive (asRead ws h) b) l) room))
 
   reallocate-below : (b z : ℕ) → Below even (reallocate ws h b z .stores)
   unfolding reallocate
@@ -133,11 +116,7 @@ module _ (ws : List ℕ) (h : Heap) where
   unfolding setup
   setup-below table donor merge =
       let bytes = heapBytes (length ws) in
-      judged-below even empty (record { answer = Done; heap = fresh bytes table donor merge; stores = firstHeaders bytes donor })
-      ((ltb (length ws) 10 || ltb 16384 (length ws), RegionLength)
-      ∷ (not (validTable table), BadTable)
-      ∷ (not (donorFits bytes donor), DonorSize)
-      ∷ [])
+      judged-below even empty (opened bytes table donor merge) (setupRefusals ws table donor)
       (λ (size, (_, (fits, _))).
       let some : length ws < 10 → ⊥ = λ l. false≢true (sym size ∙ length-iff .1 (inl l)) in
       let few : 16384 < length ws → ⊥ = λ l. false≢true (sym size ∙ length-iff .1 (inr l)) in
@@ -244,14 +223,7 @@ module _ (us vs : List ℕ) (h : Heap) (a : AlikeButOdd us vs) where
         go false q = rw (← test-same, q) (fails (asRead us h) (asRead vs h))
 
   with-same : (fill : Entry → List Store) (z : ℕ) → allocateWith fill us h z ≡ allocateWith fill vs h z
-  with-same fill z =
-      let n = need overhead z in
-      by-reading
-      (λ t d.
-      judged h
-      ((not t, HeapFails) ∷ (not (permitted z), BlockSize) ∷ (nowhere (sourceOf n d), NoRoom) ∷ (grant n d .draft .homeless, NoBinTakes) ∷ [])
-      (made (grants 0 (grant n d .granted)) (alsoWrites (fill (grant n d .granted)) (grant n d .draft))))
-      (λ d e. refl)
+  with-same fill z = by-reading (λ t d. judged h (allocateRefusals (not t, HeapFails) d z) (allocated fill d z)) (λ d e. refl)
 
   allocate-same : (z : ℕ) → allocate us h z ≡ allocate vs h z
   unfolding allocate
@@ -263,14 +235,7 @@ module _ (us vs : List ℕ) (h : Heap) (a : AlikeButOdd us vs) where
 
   free-same : (b : ℕ) → free us h b ≡ free vs h b
   unfolding free
-  free-same b =
-      let none = eqb b 0 in
-      by-reading
-      (λ t d.
-      judged h
-      ((not t, HeapFails) ∷ (not none && not (isLive d b), NotLive) ∷ (cond none d (freeBlock b d) .homeless, NoBinTakes) ∷ [])
-      (made (Returned (changeOf (cond none 0 (blockSpot d b .here .size)) 0)) (cond none d (freeBlock b d))))
-      (λ d e. refl)
+  free-same b = by-reading (λ t d. judged h (freeRefusals (not t, HeapFails) d b) (freed d b)) (λ d e. refl)
 
   -- a block that is moved is copied from the same words
   resized-same : Passes us h → (b n : ℕ) → let d = asRead us h in resized us (blockSpot d b) n d ≡ resized vs (blockSpot d b) n d
@@ -288,18 +253,7 @@ module _ (us vs : List ℕ) (h : Heap) (a : AlikeButOdd us vs) where
   resize-same b z = go (passes us h) refl ∙ by-reading (by vs) (λ d e. refl)
     where
       by : List ℕ → Bool → Draft → Outcome
-      by ws t d =
-          let n = need overhead z in
-          let s = blockSpot d b in
-          let g = resized ws s n d in
-          judged h
-          ((not t, HeapFails)
-          ∷ (not (permitted z), BlockSize)
-          ∷ (not (isLive d b), NotLive)
-          ∷ (ltb (s .here .size) n && nowhere (sourceOf n d), NoRoom)
-          ∷ (g .draft .homeless, NoBinTakes)
-          ∷ [])
-          (made (grants (s .here .size) (g .granted)) (g .draft))
+      by ws t d = judged h (resizeRefusals (not t, HeapFails) ws d b z) (resizedTo ws d b z)
 
       go : (t : Bool) → passes us h ≡ t → by us (passes us h) (asRead us h) ≡ by vs (passes us h) (asRead us h)
       go true q = rw (resized-same (passes-iff us h .0 q) b (need overhead z))
@@ -323,7 +277,7 @@ module _ (us vs : List ℕ) (h : Heap) (a : AlikeButOdd us vs) where
       by-reading
       (λ t d.
       let answers = chunkAnswers d (askedSpot d q p) in
-      judged h ((not t, HeapFails) ∷ (not (isAsked q answers) || not (isThere d q p), NotThere) ∷ []) (unchanged h (Told (answerTo q answers))))
+      judged h (askRefusals (not t, HeapFails) q answers (isThere d q p)) (asked h q answers))
       (λ d e. refl)
 
   bin-same : (q i : ℕ) → askBin us h q i ≡ askBin vs h q i
@@ -332,7 +286,7 @@ module _ (us vs : List ℕ) (h : Heap) (a : AlikeButOdd us vs) where
       by-reading
       (λ t d.
       let answers = binAnswers (d .lists i) in
-      judged h ((not t, HeapFails) ∷ (not (isAsked q answers) || not (ltb i (h .bins)), NotThere) ∷ []) (unchanged h (Told (answerTo q answers))))
+      judged h (askRefusals (not t, HeapFails) q answers (ltb i (h .bins))) (asked h q answers))
       (λ d e. refl)
 
   setup-same : (table : List ℕ) (donor : ℕ) (merge : Bool) → setup us table donor merge ≡ setup vs table donor merge

@@ -11,7 +11,7 @@ use lib.ListN.{length}
 use borrow.Author.Tests.{eq-eqb, ne-eqb}
 use Rattle.lists.specs.Lists.{Mem}
 use Rattle.lists.proofs.ListsLaws.{Decides, number-is, at-most, less, meaning, both, or-else, denied, for-some}
-use Rattle.record.specs.declared.answers.Answer.the-variants.{Done, Returned, Told, Counted, Refused}
+use Rattle.record.specs.declared.answers.Answer.the-variants.{Done, Counted, Refused}
 use Rattle.record.specs.declared.answers.Refusal.{Refusal}
 use Rattle.record.specs.declared.answers.Refusal.the-variants.{RegionLength, BadTable, DonorSize, HeapFails, BlockSize, NotLive, NoRoom, NotThere, NoBinTakes}
 use Rattle.record.specs.declared.heap.Heap.{Heap}
@@ -23,15 +23,15 @@ use Rattle.region.specs.Words.{written}
 use Rattle.rules.specs.Shape.{Entry, shape, heapBytes}
 use Rattle.rules.specs.Kinds.{live, overhead, blockOf, holdsBlock}
 use Rattle.rules.specs.Check.{Passes, passes, countsOf}
-use Rattle.rules.specs.Draft.{asRead, alsoWrites}
+use Rattle.rules.specs.Draft.{asRead}
 use Rattle.rules.specs.Serve.{mostBytes, need, permitted, nowhere}
-use Rattle.rules.specs.Outcome.{Outcome, Refusals, unchanged, judged, heapFails, made, grants, changeOf}
-use Rattle.rules.specs.Setup.{setup, donorFits, fresh, firstHeaders}
-use Rattle.rules.specs.Allocate.{sourceOf, grant, asFound, cleared, allocate, allocateCleared}
-use Rattle.rules.specs.Free.{isLive, blockSpot, freeBlock, free}
-use Rattle.rules.specs.Reallocate.{resized, resize, reallocate}
+use Rattle.rules.specs.Outcome.{Outcome, Refusals, unchanged, judged, heapFails, made, grants}
+use Rattle.rules.specs.Setup.{setup, donorFits, setupRefusals, opened}
+use Rattle.rules.specs.Allocate.{sourceOf, grant, asFound, cleared, allocate, allocateCleared, allocateRefusals, allocated}
+use Rattle.rules.specs.Free.{isLive, blockSpot, freeBlock, free, freeRefusals, freed}
+use Rattle.rules.specs.Reallocate.{resized, resize, reallocate, resizeRefusals, resizedTo}
 use Rattle.rules.specs.Merge.{setMerge, checked, check}
-use Rattle.rules.specs.Ask.{askChunk, askBin, chunkAnswers, askedSpot, isAsked, isThere, answerTo, binAnswers}
+use Rattle.rules.specs.Ask.{askChunk, askBin, chunkAnswers, askedSpot, isThere, binAnswers, askRefusals, asked}
 use Rattle.rules.specs.Calls.{Call, Setup, Allocate, AllocateCleared, Free, Reallocate, SetMerge, Check, AskChunk, AskBin, step}
 use Rattle.rules.proofs.CheckLaws.{passes-iff}
 use Rattle.rules.proofs.SpotLaws.{one-chunk, spot-splits, spot-member}
@@ -107,7 +107,7 @@ record Judging (call : Call) (ws : List ℕ) (h : Heap) : Type 0 where
   decided : Decided (Because ws h call) tests
 
 -- 4
-passes? : (ws : List ℕ) (h : Heap) → ((Passes ws h → ⊥) → ⊥) → Passes ws h
+pub passes? : (ws : List ℕ) (h : Heap) → ((Passes ws h → ⊥) → ⊥) → Passes ws h
 passes? ws h n = go (passes ws h) refl
   where
     go : (t : Bool) → passes ws h ≡ t → Passes ws h
@@ -142,11 +142,9 @@ range-iff most z =
     inside (inl e) k = omega (arith, k .0)
     inside (inr l) k = omega (arith, k .1)
 
--- the tests of a call that grants a block of z bytes
-abbrev pub allocating : List ℕ → Heap → ℕ → Refusals
-allocating ws h z =
-    heapFails ws h ∷ (not (permitted z), BlockSize) ∷ (nowhere (sourceOf (need overhead z) (asRead ws h)), NoRoom)
-    ∷ (grant (need overhead z) (asRead ws h) .draft .homeless, NoBinTakes) ∷ []
+-- the refusals of a call that grants a block of z bytes
+abbrev allocating : List ℕ → Heap → ℕ → Refusals
+allocating ws h z = allocateRefusals (heapFails ws h) (asRead ws h) z
 
 module _ (ws : List ℕ) (h : Heap) (call : Call) (z : ℕ) (s : isSetup call ≡ false)
     (size : WrongSize z ↔ Because ws h call BlockSize) (room : NoneServes ws h (need overhead z) ↔ Because ws h call NoRoom)
@@ -204,7 +202,7 @@ module _ (ws : List ℕ) (h : Heap) where
       let g = grant n (asRead ws h) in
       record {
         tests = allocating ws h z;
-        made = made (grants 0 (g .granted)) (alsoWrites (asFound (g .granted)) (g .draft));
+        made = allocated asFound (asRead ws h) z;
         accepted = granted 0 (g .granted);
         is = refl;
         rising = omega arith;
@@ -242,7 +240,7 @@ module _ (ws : List ℕ) (h : Heap) where
       let g = grant (need overhead (count * size)) (asRead ws h) in
       record {
         tests = allocating ws h (count * size);
-        made = made (grants 0 (g .granted)) (alsoWrites (cleared (g .granted)) (g .draft));
+        made = allocated cleared (asRead ws h) (count * size);
         accepted = granted 0 (g .granted);
         is = refl;
         rising = omega arith;
@@ -297,12 +295,9 @@ module _ (ws : List ℕ) (h : Heap) where
   free-judged : (b : ℕ) → Judging (Free b) ws h
   unfolding step free
   free-judged b =
-      let before = asRead ws h in
-      let none = eqb b 0 in
-      let after = cond none before (freeBlock b before) in
       record {
-        tests = heapFails ws h ∷ (not none && not (isLive before b), NotLive) ∷ (after .homeless, NoBinTakes) ∷ [];
-        made = made (Returned (changeOf (cond none 0 (blockSpot before b .here .size)) 0)) after;
+        tests = freeRefusals (heapFails ws h) (asRead ws h) b;
+        made = freed (asRead ws h) b;
         accepted = λ r q. let z : _≡_ {A = ℕ} 0 1 = cc in omega arith;
         is = refl;
         rising = omega arith;
@@ -334,7 +329,7 @@ module _ (ws : List ℕ) (h : Heap) where
       let g = grant (need overhead z) (asRead ws h) in
       record {
         tests = allocating ws h z;
-        made = made (grants 0 (g .granted)) (alsoWrites (asFound (g .granted)) (g .draft));
+        made = allocated asFound (asRead ws h) z;
         accepted = granted 0 (g .granted);
         is = rw (eq-eqb b 0 e) refl;
         rising = omega arith;
@@ -396,14 +391,8 @@ module _ (ws : List ℕ) (h : Heap) where
       let s = blockSpot before b in
       let g = resized ws s n before in
       record {
-        tests =
-            heapFails ws h
-            ∷ (not (permitted z), BlockSize)
-            ∷ (not (isLive before b), NotLive)
-            ∷ (ltb (s .here .size) n && nowhere (sourceOf n before), NoRoom)
-            ∷ (g .draft .homeless, NoBinTakes)
-            ∷ [];
-        made = made (grants (s .here .size) (g .granted)) (g .draft);
+        tests = resizeRefusals (heapFails ws h) ws before b z;
+        made = resizedTo ws before b z;
         accepted = granted (s .here .size) (g .granted);
         is = rw (ne-eqb b 0 (omega arith)) refl;
         rising = omega arith;
@@ -523,17 +512,17 @@ module _ (ws : List ℕ) (h : Heap) where
       let d = asRead ws h in
       let answers = chunkAnswers d (askedSpot d q p) in
       record {
-        tests = heapFails ws h ∷ (not (isAsked q answers) || not (isThere d q p), NotThere) ∷ [];
-        made = unchanged h (Told (answerTo q answers));
+        tests = askRefusals (heapFails ws h) q answers (isThere d q p);
+        made = asked h q answers;
         accepted = λ r e. let z : _≡_ {A = ℕ} 0 1 = cc in omega arith;
         is = refl;
         rising = omega arith;
         stands = stands;
-        decided = (fails-iff ws h (AskChunk q p) refl, λ _. (asked, λ _. tt));
+        decided = (fails-iff ws h (AskChunk q p) refl, λ _. (misses, λ _. tt));
       }
     where
-      asked : Decides (not (leb 1 q && leb q 9) || not (isThere (asRead ws h) q p)) (Because ws h (AskChunk q p) NotThere)
-      asked =
+      misses : Decides (not (leb 1 q && leb q 9) || not (isThere (asRead ws h) q p)) (Because ws h (AskChunk q p) NotThere)
+      misses =
           meaning
           (or-else (range-iff 9 q) (meaning (denied (there-iff q p)) (λ n e k. n (e, k)) (λ f (e, k). f e k)))
           (λ w. askNoChunk w) of
@@ -550,17 +539,17 @@ module _ (ws : List ℕ) (h : Heap) where
   bin-judged q i =
       let answers = binAnswers (asRead ws h .lists i) in
       record {
-        tests = heapFails ws h ∷ (not (isAsked q answers) || not (ltb i (h .bins)), NotThere) ∷ [];
-        made = unchanged h (Told (answerTo q answers));
+        tests = askRefusals (heapFails ws h) q answers (ltb i (h .bins));
+        made = asked h q answers;
         accepted = λ r e. let z : _≡_ {A = ℕ} 0 1 = cc in omega arith;
         is = refl;
         rising = omega arith;
         stands = stands;
-        decided = (fails-iff ws h (AskBin q i) refl, λ _. (asked, λ _. tt));
+        decided = (fails-iff ws h (AskBin q i) refl, λ _. (misses, λ _. tt));
       }
     where
-      asked : Decides (not (leb 1 q && leb q 3) || not (ltb i (h .bins))) (Because ws h (AskBin q i) NotThere)
-      asked =
+      misses : Decides (not (leb 1 q && leb q 3) || not (ltb i (h .bins))) (Because ws h (AskBin q i) NotThere)
+      misses =
           meaning
           (or-else (range-iff 3 q) (meaning (denied (less i (h .bins))) (λ n. omega arith) (λ l k. omega arith)))
           (λ w. askNoBin w) of
@@ -596,14 +585,9 @@ module _ (ws : List ℕ) (h : Heap) where
   setup-judged : (table : List ℕ) (donor : ℕ) (merge : Bool) → Judging (Setup table donor merge) ws h
   unfolding step setup
   setup-judged table donor merge =
-      let bytes = heapBytes (length ws) in
       record {
-        tests =
-            (ltb (length ws) 10 || ltb 16384 (length ws), RegionLength)
-            ∷ (not (validTable table), BadTable)
-            ∷ (not (donorFits bytes donor), DonorSize)
-            ∷ [];
-        made = record { answer = Done; heap = fresh bytes table donor merge; stores = firstHeaders bytes donor };
+        tests = setupRefusals ws table donor;
+        made = opened (heapBytes (length ws)) table donor merge;
         accepted = λ r e. let z : _≡_ {A = ℕ} 0 1 = cc in omega arith;
         is = refl;
         rising = omega arith;

@@ -135,3 +135,7 @@ pub record Refusing (way : Way) : Type 0 where
       → way call ws h .heap ≡ recordOf call h
   pub words : (call : Call) (ws : List ℕ) (h : Heap) (r : Refusal) → way call ws h .answer ≡ Refused r
       → way call ws h .words ≡ ws
+
+-- number 9 is never given: a valid table has a bin for every size that a chunk can have
+abbrev pub NeverNine : Way → Type 0
+NeverNine way = (call : Call) (ws : List ℕ) (h : Heap) → way call ws h .answer ≡ Refused NoBinTakes → ⊥

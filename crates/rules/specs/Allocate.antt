@@ -1,8 +1,9 @@
 -- Allocate and cleared allocate (document 01, "The calls"); refusals 4, 5, 7, 9.
-use mathlib.Core.Bool.{not}
+use mathlib.Core.Bool.{Bool, not}
 use mathlib.Core.List.{List, [], _∷_, map}
 use Prim.Native.Nat.{ℕ, _*_}
 use Rattle.lists.specs.Lists.{numbersFrom}
+use Rattle.record.specs.declared.answers.Refusal.{Refusal}
 use Rattle.record.specs.declared.answers.Refusal.the-variants.{BlockSize, NoRoom, NoBinTakes}
 use Rattle.record.specs.declared.heap.Heap.{Heap}
 use Rattle.record.specs.declared.sources.Source.{Source}
@@ -12,7 +13,7 @@ use Rattle.rules.specs.Kinds.{overhead, blockOf, blockWords}
 use Rattle.rules.specs.Serve.{need, permitted, chosen, nowhere}
 use Rattle.rules.specs.Draft.{Draft, asRead, alsoWrites}
 use Rattle.rules.specs.Cut.{Grant, grantFrom}
-use Rattle.rules.specs.Outcome.{Outcome, judged, heapFails, made, grants}
+use Rattle.rules.specs.Outcome.{Outcome, Refusals, judged, heapFails, made, grants}
 
 abbrev pub sourceOf : ℕ → Draft → Source
 sourceOf n d = chosen (d .heap) (d .chain) (d .lists) n
@@ -28,18 +29,26 @@ asFound e = []
 abbrev pub cleared : Entry → List Store
 cleared e = map (λ k. put (blockOf e) k 0) (numbersFrom 0 (blockWords e))
 
+-- the refusals in their order, after the one for a heap that fails
+abbrev pub allocateRefusals : Bool × Refusal → Draft → ℕ → Refusals
+allocateRefusals fails d z =
+    let n = need overhead z in
+    fails
+    ∷ (not (permitted z), BlockSize)
+    ∷ (nowhere (sourceOf n d), NoRoom)
+    ∷ (grant n d .draft .homeless, NoBinTakes)
+    ∷ []
+
+-- the block granted and filled
+abbrev pub allocated : (Entry → List Store) → Draft → ℕ → Outcome
+allocated fill d z =
+    let g = grant (need overhead z) d in
+    made (grants 0 (g .granted)) (alsoWrites (fill (g .granted)) (g .draft))
+
 abbrev pub allocateWith : (Entry → List Store) → List ℕ → Heap → ℕ → Outcome
 allocateWith fill ws h z =
-    let n = need overhead z in
     let before = asRead ws h in
-    let g = grant n before in
-    judged h
-    (heapFails ws h
-    ∷ (not (permitted z), BlockSize)
-    ∷ (nowhere (sourceOf n before), NoRoom)
-    ∷ (g .draft .homeless, NoBinTakes)
-    ∷ [])
-    (made (grants 0 (g .granted)) (alsoWrites (fill (g .granted)) (g .draft)))
+    judged h (allocateRefusals (heapFails ws h) before z) (allocated fill before z)
 
 unfoldable pub allocate : List ℕ → Heap → ℕ → Outcome
 allocate ws h z = allocateWith asFound ws h z

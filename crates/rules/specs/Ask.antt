@@ -7,6 +7,7 @@ use lib.Dec.{eqb, leb, ltb}
 use lib.ListN.{length, getD}
 use Rattle.lists.specs.Lists.{lastOr, any, upTo, past}
 use Rattle.record.specs.declared.answers.Answer.the-variants.{Told}
+use Rattle.record.specs.declared.answers.Refusal.{Refusal}
 use Rattle.record.specs.declared.answers.Refusal.the-variants.{NotThere}
 use Rattle.record.specs.declared.heap.Heap.{Heap}
 use Rattle.record.specs.declared.table.Binned.{Binned}
@@ -16,7 +17,7 @@ use Rattle.record.specs.Table.{binOf}
 use Rattle.rules.specs.Shape.{Entry}
 use Rattle.rules.specs.Kinds.{ordinary, live, blockOf, isAt}
 use Rattle.rules.specs.Draft.{Draft, asRead, Spot, spot}
-use Rattle.rules.specs.Outcome.{Outcome, judged, heapFails, unchanged}
+use Rattle.rules.specs.Outcome.{Outcome, Refusals, judged, heapFails, unchanged}
 use Rattle.rules.specs.Free.{isLive, blockSpot}
 
 -- none is shown as 0
@@ -92,17 +93,21 @@ isAsked q answers = leb 1 q && leb q (length answers)
 abbrev pub answerTo : ℕ → List (Option ℕ) → ℕ
 answerTo q answers = shown (getD answers (q - 1) none)
 
--- question q of something that is there or is not: its answer, and the heap stays as it is
-abbrev pub asked : List ℕ → Heap → ℕ → List (Option ℕ) → Bool → Outcome
-asked ws h q answers there =
-    judged h
-    (heapFails ws h ∷ (not (isAsked q answers) || not there, NotThere) ∷ [])
-    (unchanged h (Told (answerTo q answers)))
+-- the refusals in their order, after the one for a heap that fails; what is asked about is there or is not
+abbrev pub askRefusals : Bool × Refusal → ℕ → List (Option ℕ) → Bool → Refusals
+askRefusals fails q answers there = fails ∷ (not (isAsked q answers) || not there, NotThere) ∷ []
+
+-- the answer, and the heap stays as it is
+abbrev pub asked : Heap → ℕ → List (Option ℕ) → Outcome
+asked h q answers = unchanged h (Told (answerTo q answers))
 
 unfoldable pub askChunk : List ℕ → Heap → ℕ → ℕ → Outcome
 askChunk ws h q p =
     let d = asRead ws h in
-    asked ws h q (chunkAnswers d (askedSpot d q p)) (isThere d q p)
+    let answers = chunkAnswers d (askedSpot d q p) in
+    judged h (askRefusals (heapFails ws h) q answers (isThere d q p)) (asked h q answers)
 
 unfoldable pub askBin : List ℕ → Heap → ℕ → ℕ → Outcome
-askBin ws h q i = asked ws h q (binAnswers (asRead ws h .lists i)) (ltb i (h .bins))
+askBin ws h q i =
+    let answers = binAnswers (asRead ws h .lists i) in
+    judged h (askRefusals (heapFails ws h) q answers (ltb i (h .bins))) (asked h q answers)

@@ -5,12 +5,13 @@ use Prim.Native.Nat.{ℕ}
 use lib.Dec.{eqb}
 use Rattle.lists.specs.Lists.{any}
 use Rattle.record.specs.declared.answers.Answer.the-variants.{Returned}
+use Rattle.record.specs.declared.answers.Refusal.{Refusal}
 use Rattle.record.specs.declared.answers.Refusal.the-variants.{NotLive, NoBinTakes}
 use Rattle.record.specs.declared.heap.Heap.{Heap}
 use Rattle.rules.specs.Kinds.{holdsBlock}
 use Rattle.rules.specs.Draft.{Draft, asRead, Spot, spot, nowUses}
 use Rattle.rules.specs.Join.{release}
-use Rattle.rules.specs.Outcome.{Outcome, judged, heapFails, made, changeOf}
+use Rattle.rules.specs.Outcome.{Outcome, Refusals, judged, heapFails, made, changeOf}
 
 -- there is a live block at b: it is found on the chain, and no word before it is believed
 abbrev pub isLive : Draft → ℕ → Bool
@@ -26,15 +27,21 @@ freeBlock b d =
     nowUses (s .here .size) 0 (release (s .low) (s .here) (s .high) d)
 
 -- block 0 is accepted and nothing is done
+abbrev pub freedFrom : Draft → ℕ → Draft
+freedFrom d b = cond (eqb b 0) d (freeBlock b d)
+
+-- the refusals in their order, after the one for a heap that fails
+abbrev pub freeRefusals : Bool × Refusal → Draft → ℕ → Refusals
+freeRefusals fails d b =
+    fails
+    ∷ (not (eqb b 0) && not (isLive d b), NotLive)
+    ∷ (freedFrom d b .homeless, NoBinTakes)
+    ∷ []
+
+abbrev pub freed : Draft → ℕ → Outcome
+freed d b = made (Returned (changeOf (cond (eqb b 0) 0 (blockSpot d b .here .size)) 0)) (freedFrom d b)
+
 unfoldable pub free : List ℕ → Heap → ℕ → Outcome
 free ws h b =
     let before = asRead ws h in
-    let none = eqb b 0 in
-    let after = cond none before (freeBlock b before) in
-    let gone = cond none 0 (blockSpot before b .here .size) in
-    judged h
-    (heapFails ws h
-    ∷ (not none && not (isLive before b), NotLive)
-    ∷ (after .homeless, NoBinTakes)
-    ∷ [])
-    (made (Returned (changeOf gone 0)) after)
+    judged h (freeRefusals (heapFails ws h) before b) (freed before b)

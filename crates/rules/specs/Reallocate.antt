@@ -1,9 +1,10 @@
 -- Reallocate (document 01, "The calls"); refusals 4, 5, 6, 7, 9.
-use mathlib.Core.Bool.{not, cond, _&&_}
+use mathlib.Core.Bool.{Bool, not, cond, _&&_}
 use mathlib.Core.List.{List, [], _∷_, _++_, map}
 use Prim.Native.Nat.{ℕ, _+_, _-_}
 use lib.Dec.{eqb, leb, ltb}
 use Rattle.lists.specs.Lists.{numbersFrom}
+use Rattle.record.specs.declared.answers.Refusal.{Refusal}
 use Rattle.record.specs.declared.answers.Refusal.the-variants.{BlockSize, NotLive, NoRoom, NoBinTakes}
 use Rattle.record.specs.declared.heap.Heap.{Heap}
 use Rattle.record.specs.Table.{least}
@@ -14,7 +15,7 @@ use Rattle.rules.specs.Serve.{need, permitted, nowhere}
 use Rattle.rules.specs.Draft.{Draft, asRead, alsoWrites, Spot, nowUses}
 use Rattle.rules.specs.Cut.{Grant}
 use Rattle.rules.specs.Join.{release}
-use Rattle.rules.specs.Outcome.{Outcome, judged, heapFails, made, grants}
+use Rattle.rules.specs.Outcome.{Outcome, Refusals, judged, heapFails, made, grants}
 use Rattle.rules.specs.Allocate.{allocate, sourceOf, grant}
 use Rattle.rules.specs.Free.{isLive, blockSpot, freeBlock}
 
@@ -50,20 +51,30 @@ resized ws s n d =
     cond (ltb (s .here .size) n) (moved ws s n d)
     (cond (leb (n + least) (s .here .size)) (shrunk s n d) (record { granted = s .here; draft = d }))
 
+-- the live block at b gets z bytes
+abbrev pub resizing : List ℕ → Draft → ℕ → ℕ → Grant
+resizing ws d b z = resized ws (blockSpot d b) (need overhead z) d
+
+-- the refusals in their order, after the one for a heap that fails
+abbrev pub resizeRefusals : Bool × Refusal → List ℕ → Draft → ℕ → ℕ → Refusals
+resizeRefusals fails ws d b z =
+    let n = need overhead z in
+    fails
+    ∷ (not (permitted z), BlockSize)
+    ∷ (not (isLive d b), NotLive)
+    ∷ (ltb (blockSpot d b .here .size) n && nowhere (sourceOf n d), NoRoom)
+    ∷ (resizing ws d b z .draft .homeless, NoBinTakes)
+    ∷ []
+
+abbrev pub resizedTo : List ℕ → Draft → ℕ → ℕ → Outcome
+resizedTo ws d b z =
+    let g = resizing ws d b z in
+    made (grants (blockSpot d b .here .size) (g .granted)) (g .draft)
+
 unfoldable pub resize : List ℕ → Heap → ℕ → ℕ → Outcome
 resize ws h b z =
-    let n = need overhead z in
     let before = asRead ws h in
-    let s = blockSpot before b in
-    let g = resized ws s n before in
-    judged h
-    (heapFails ws h
-    ∷ (not (permitted z), BlockSize)
-    ∷ (not (isLive before b), NotLive)
-    ∷ (ltb (s .here .size) n && nowhere (sourceOf n before), NoRoom)
-    ∷ (g .draft .homeless, NoBinTakes)
-    ∷ [])
-    (made (grants (s .here .size) (g .granted)) (g .draft))
+    judged h (resizeRefusals (heapFails ws h) ws before b z) (resizedTo ws before b z)
 
 -- block 0: as allocate
 unfoldable pub reallocate : List ℕ → Heap → ℕ → ℕ → Outcome

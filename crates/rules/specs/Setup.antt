@@ -14,7 +14,7 @@ use Rattle.rules.specs.Shape.{Entry, entry, heapBytes}
 use Rattle.rules.specs.Kinds.{unused, used, endSize}
 use Rattle.rules.specs.Check.{fewestWords, mostWords}
 use Rattle.rules.specs.Draft.{headers, noBinWords}
-use Rattle.rules.specs.Outcome.{Outcome, judged}
+use Rattle.rules.specs.Outcome.{Outcome, Refusals, judged}
 
 -- bytes that are no donor's: the ends and a top chunk of the least size
 abbrev pub kept : ℕ
@@ -59,12 +59,19 @@ firstHeaders bytes donor =
     ++ donorBinWords donor ++ noBinWords top
     ++ put end forward 0 ∷ put end backward (top + used) ∷ []
 
+-- its refusals, in their order
+abbrev pub setupRefusals : List ℕ → List ℕ → ℕ → Refusals
+setupRefusals ws table donor =
+    (ltb (length ws) fewestWords || ltb mostWords (length ws), RegionLength)
+    ∷ (not (validTable table), BadTable)
+    ∷ (not (donorFits (heapBytes (length ws)) donor), DonorSize)
+    ∷ []
+
+-- what an accepted one makes of a region with so many heap bytes
+abbrev pub opened : ℕ → List ℕ → ℕ → Bool → Outcome
+opened bytes table donor merge =
+    record { answer = Done; heap = fresh bytes table donor merge; stores = firstHeaders bytes donor }
+
 unfoldable pub setup : List ℕ → List ℕ → ℕ → Bool → Outcome
 setup ws table donor merge =
-    let bytes = heapBytes (length ws) in
-    judged empty
-    ((ltb (length ws) fewestWords || ltb mostWords (length ws), RegionLength)
-    ∷ (not (validTable table), BadTable)
-    ∷ (not (donorFits bytes donor), DonorSize)
-    ∷ [])
-    (record { answer = Done; heap = fresh bytes table donor merge; stores = firstHeaders bytes donor })
+    judged empty (setupRefusals ws table donor) (opened (heapBytes (length ws)) table donor merge)

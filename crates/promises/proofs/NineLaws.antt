@@ -1,0 +1,108 @@
+-- Number 9 is never given (`never-nine`): where a call comes to put a chunk, the heap passes, and then a bin takes every size. Assumes nothing.
+use mathlib.Core.Path.{_≡_, refl, sym, _∙_}
+use mathlib.Core.Bool.{Bool, true, false, cond, false≢true}
+use mathlib.Core.List.{List}
+use Prim.Native.Nat.{ℕ, _+_, _*_, _<_}
+use native.Mathlib.Omega.{arith}
+use lib.Dec.{leb, ltb}
+use borrow.Author.Tests.{ltb-true, leb-true}
+use Rattle.record.specs.declared.answers.Refusal.{Refusal}
+use Rattle.record.specs.declared.answers.Refusal.the-variants.{HeapFails, NotLive, NoRoom, NoBinTakes}
+use Rattle.record.specs.declared.heap.Heap.{Heap}
+use Rattle.record.specs.Answers.{numberOf}
+use Rattle.rules.specs.Allocate.{sourceOf, grant}
+use Rattle.rules.specs.Calls.{Call, Allocate, AllocateCleared, Free, Reallocate}
+use Rattle.rules.specs.Check.{Passes}
+use Rattle.rules.specs.Draft.{Draft, asRead, Spot}
+use Rattle.rules.specs.Free.{isLive, blockSpot, freeBlock}
+use Rattle.rules.specs.Kinds.{overhead}
+use Rattle.rules.specs.Reallocate.{moved, shrunk, resized}
+use Rattle.rules.specs.Serve.{need, nowhere}
+use Rattle.rules.specs.Shape.{Entry}
+use Rattle.rules.proofs.SpotLaws.{in-split}
+use Rattle.grant.proofs.NeedLaws.{need-large, need-eight}
+use Rattle.grant.proofs.GrantKept.{grant-kept}
+use Rattle.release.proofs.ReleaseKept.{free-kept}
+use Rattle.release.proofs.ReleaseMeaning.{splits}
+use Rattle.release.proofs.ShrinkKept.{shrink-kept}
+use Rattle.resize.proofs.MoveMeaning.{move-housed}
+use Rattle.promises.specs.Ways.{ours}
+use Rattle.promises.specs.Room.{HoldsBlock, NoneServes}
+use Rattle.promises.specs.Refused.{NoBlock, Because, fails, freeNotLive, reallocateNotLive, allocateRoom, clearedRoom, reallocateRoom, allocateBin, clearedBin, freeBin, reallocateNewBin, reallocateBin, isSetup, NeverNine}
+use Rattle.promises.proofs.ServeLaws.{room-iff}
+use Rattle.promises.proofs.RefusedLaws.{passes?, live-iff, here, here-holds, one-block, refusing}
+
+-- the call is refused for no number below 9
+abbrev NoneBefore : List ℕ → Heap → Call → Type 0
+NoneBefore ws h call = (q : Refusal) → numberOf q < 9 → Because ws h call q → ⊥
+
+module _ (ws : List ℕ) (h : Heap) (p : Passes ws h) where
+  abbrev before : Draft
+  before = asRead ws h
+
+  -- a source is found, unless nothing serves
+  found : (z : ℕ) → (NoneServes ws h (need overhead z) → ⊥) → nowhere (sourceOf (need overhead z) before) ≡ false
+  found z f = go (nowhere (sourceOf (need overhead z) before)) refl
+    where
+      go : (t : Bool) → nowhere (sourceOf (need overhead z) before) ≡ t → nowhere (sourceOf (need overhead z) before) ≡ false
+      go true e = absurd (f (room-iff ws h p (need overhead z) (need-large z) .0 e))
+      go false e = e
+
+  granted-housed : (z : ℕ) → (NoneServes ws h (need overhead z) → ⊥) → grant (need overhead z) before .draft .homeless ≡ false
+  granted-housed z f = grant-kept ws h p (need overhead z) (need-large z) (need-eight z) (found z f) .housed
+
+  is-live : (b : ℕ) → 0 < b → (NoBlock ws h b → ⊥) → isLive before b ≡ true
+  is-live b l f = go (isLive before b) refl
+    where
+      go : (t : Bool) → isLive before b ≡ t → isLive before b ≡ true
+      go true e = e
+      go false e = absurd (f (l, λ c k. false≢true (sym e ∙ live-iff ws h b .1 (c, k))))
+
+  module _ (b z : ℕ) (l : isLive before b ≡ true) where
+    abbrev n : ℕ
+    n = need overhead z
+
+    abbrev s : Spot
+    s = blockSpot before b
+
+    moved-housed : nowhere (sourceOf n before) ≡ false → s .here .size < n → moved ws s n before .draft .homeless ≡ false
+    moved-housed some less =
+        let (q, v, _) = splits ws h p b l in
+        move-housed ws h p n (need-large z) (need-eight z) some (s .here) (in-split (s .low) (s .here) (s .high) q) v less
+
+    resized-housed : (s .here .size < n → NoneServes ws h n → ⊥) → resized ws s n before .draft .homeless ≡ false
+    unfolding resized asRead
+    resized-housed f = go (ltb (s .here .size) n) refl (leb (n + 24) (s .here .size)) refl
+      where
+        go : (t : Bool) → ltb (s .here .size) n ≡ t → (u : Bool) → leb (n + 24) (s .here .size) ≡ u
+            → cond t (moved ws s n before) (cond u (shrunk s n before) (record { granted = s .here; draft = before })) .draft .homeless ≡ false
+        go true e u g = let less = ltb-true (s .here .size) n e in moved-housed (found z (f less)) less
+        go false e true g = shrink-kept ws h p b l n (need-large z) (need-eight z) (leb-true (n + 24) (s .here .size) g) .housed
+        go false e false g = refl
+
+module _ (ws : List ℕ) (h : Heap) where
+  passing : (call : Call) → isSetup call ≡ false → NoneBefore ws h call → Passes ws h
+  passing call s u = passes? ws h (λ n. u HeapFails (omega arith) (fails s n))
+
+  none-bins : (call : Call) → Because ws h call NoBinTakes → NoneBefore ws h call → ⊥
+  none-bins (Allocate z) (allocateBin w) u =
+      let p = passing (Allocate z) refl u in
+      false≢true (sym (granted-housed ws h p z (λ n. u NoRoom (omega arith) (allocateRoom n))) ∙ w)
+  none-bins (AllocateCleared count size) (clearedBin w) u =
+      let p = passing (AllocateCleared count size) refl u in
+      false≢true (sym (granted-housed ws h p (count * size) (λ n. u NoRoom (omega arith) (clearedRoom n))) ∙ w)
+  none-bins (Free b) (freeBin l w) u =
+      let p = passing (Free b) refl u in
+      false≢true (sym (free-kept ws h p b (is-live ws h p b l (λ n. u NotLive (omega arith) (freeNotLive n))) .housed) ∙ w)
+  none-bins (Reallocate b z) (reallocateNewBin q w) u =
+      let p = passing (Reallocate b z) refl u in
+      let none : (e : Entry) → HoldsBlock ws h b e → e .size < need overhead z = λ e k. let a = k .block in omega arith in
+      false≢true (sym (granted-housed ws h p z (λ n. u NoRoom (omega arith) (reallocateRoom (none, n)))) ∙ w)
+  none-bins (Reallocate b z) (reallocateBin l w) u =
+      let p = passing (Reallocate b z) refl u in
+      let live = is-live ws h p b l (λ n. u NotLive (omega arith) (reallocateNotLive n)) in
+      let some = live-iff ws h b .0 live in
+      false≢true (sym (resized-housed ws h p b z live (λ less n. u NoRoom (omega arith) (reallocateRoom {z = z} (λ e k. rw (one-block ws h p b e (here ws h p b some) k (here-holds ws h p b some)) less, n)))) ∙ w)
+
+pub never-nine : NeverNine ours
+never-nine call ws h e = let f = refusing .exactly call ws h NoBinTakes .0 e in none-bins ws h call (f .because) (f .before)
