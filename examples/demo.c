@@ -1,0 +1,88 @@
+/* The demonstration, in C: a heap of 64 words, nine calls, and then the heap as it stands, chunk by chunk.
+   It prints the nine lines of crates/demo/stdout. README.md says how to build it. */
+#include <stdio.h>
+
+#include "kruzhvela.h"
+
+enum { WORDS = 64 };
+
+/* Questions of a chunk. */
+enum { BIN = 1, NEXT = 4, SIZE = 8, TYPE = 9 };
+
+typedef struct {
+    uint32_t region[WORDS];
+    uint32_t record[KZ_RECORD_WORDS];
+    uint32_t answer[KZ_ANSWER_WORDS];
+} Station;
+
+static uint32_t ask(Station *s, uint32_t question, uint32_t chunk)
+{
+    kz_ask_chunk(s->region, WORDS, s->record, question, chunk, s->answer);
+    return s->answer[KZ_ANSWER_VALUE];
+}
+
+/* The block, or 0 where it is refused. */
+static uint32_t allocate(Station *s, uint32_t z)
+{
+    kz_allocate(s->region, WORDS, s->record, z, s->answer);
+    return s->answer[KZ_ANSWER_OFFSET];
+}
+
+static uint32_t give_back(Station *s, uint32_t block)
+{
+    return kz_free(s->region, WORDS, s->record, block, s->answer);
+}
+
+static void print_kind(Station *s, uint32_t chunk)
+{
+    if (chunk == 0)
+        puts("start");
+    else if (ask(s, NEXT, chunk) == 0)
+        puts("end");
+    else if (ask(s, TYPE, chunk) == 1)
+        puts("inuse");
+    else if (chunk == s->record[KZ_RECORD_DONOR])
+        puts("donor");
+    else if (chunk == s->record[KZ_RECORD_TOP])
+        puts("top");
+    else
+        printf("free %u\n", (unsigned)ask(s, BIN, chunk));
+}
+
+static void print_heap(Station *s)
+{
+    uint32_t chunk = 0;
+    printf("%u %u %u\n", (unsigned)s->record[KZ_RECORD_BYTES], (unsigned)s->record[KZ_RECORD_BINS],
+           (unsigned)s->record[KZ_RECORD_USED]);
+    do {
+        printf("%u %u ", (unsigned)chunk, (unsigned)ask(s, SIZE, chunk));
+        print_kind(s, chunk);
+        chunk = ask(s, NEXT, chunk);
+    } while (chunk != 0);
+}
+
+/* Each call with what the demonstration says of it; 1 at the first that differs. */
+static int play(Station *s)
+{
+    const uint32_t table[] = {24, 32, 40, 128};
+    if (kz_setup(s->region, WORDS, table, sizeof table / sizeof table[0], 64, true, s->record, s->answer) != KZ_ACCEPTED)
+        return 1;
+    if (allocate(s, 16) != 16 || allocate(s, 17) != 80 || allocate(s, 40) != 112 || allocate(s, 64) != 160)
+        return 1;
+    if (allocate(s, 16) != 0 || s->answer[KZ_ANSWER_REFUSAL] != KZ_NO_ROOM)
+        return 1;
+    if (give_back(s, 80) != KZ_ACCEPTED || give_back(s, 112) != KZ_ACCEPTED || give_back(s, 112) != KZ_NOT_LIVE)
+        return 1;
+    return allocate(s, 16) != 80;
+}
+
+int main(void)
+{
+    static Station station;
+    if (play(&station) != 0) {
+        fputs("a call answered otherwise than the demonstration says\n", stderr);
+        return 1;
+    }
+    print_heap(&station);
+    return 0;
+}
