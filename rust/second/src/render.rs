@@ -1,0 +1,70 @@
+// From lists back to words. Only what is called for is written: all other words,
+// stale headers among them, stay as they were.
+
+use super::heap::{Heap, Kind};
+use super::layout::{
+    index, BACKWARD, BACKWARD_BIN, BIN, BIN_COUNT, DONOR, FORWARD, FORWARD_BIN, HEADS, HEAP_BYTES, IN_USE, MERGE, SIZE,
+    TABLE, TAILS, TOP, USED,
+};
+use super::table;
+use super::RECORD_WORDS;
+
+pub fn forward_link(heap: &Heap, region: &mut [u32], at: usize) {
+    region[index(heap.chain[at].place, FORWARD)] = heap.next(at);
+}
+
+/// The backward link with the in-use bit of that chunk.
+pub fn backward_link(heap: &Heap, region: &mut [u32], at: usize) {
+    let chunk = heap.chain[at];
+    let flag = if chunk.in_use { IN_USE } else { 0 };
+    region[index(chunk.place, BACKWARD)] = heap.previous(at) + flag;
+}
+
+/// The two words that every chunk has.
+pub fn header(heap: &Heap, region: &mut [u32], at: usize) {
+    forward_link(heap, region, at);
+    backward_link(heap, region, at);
+}
+
+/// The six words of a free chunk that is in no list, or not yet.
+pub fn free_header(heap: &Heap, region: &mut [u32], at: usize) {
+    header(heap, region, at);
+    let chunk = heap.chain[at];
+    let bin = match heap.kind(at) {
+        Kind::Ordinary => table::bin_of(&heap.table, chunk.size),
+        _ => 0,
+    };
+    region[index(chunk.place, SIZE)] = chunk.size;
+    region[index(chunk.place, FORWARD_BIN)] = 0;
+    region[index(chunk.place, BACKWARD_BIN)] = 0;
+    region[index(chunk.place, BIN)] = bin as u32 * 8;
+}
+
+/// The two bin links that meet just before position `at` of a list: the one
+/// before it gets its forward link, the one there its backward link.
+pub fn seam(list: &[u32], region: &mut [u32], at: usize) {
+    let before = at.checked_sub(1).map_or(0, |before| list[before]);
+    let after = list.get(at).copied().unwrap_or(0);
+    if before != 0 {
+        region[index(before, FORWARD_BIN)] = after;
+    }
+    if after != 0 {
+        region[index(after, BACKWARD_BIN)] = before;
+    }
+}
+
+/// The whole record, unused places included.
+pub fn record(heap: &Heap, record: &mut [u32; RECORD_WORDS]) {
+    *record = [0; RECORD_WORDS];
+    record[HEAP_BYTES] = heap.heap_bytes;
+    record[BIN_COUNT] = heap.table.len() as u32;
+    record[DONOR] = heap.donor;
+    record[TOP] = heap.top;
+    record[MERGE] = u32::from(heap.merge);
+    record[USED] = heap.used();
+    record[TABLE..TABLE + heap.table.len()].copy_from_slice(&heap.table);
+    for (bin, list) in heap.bins.iter().enumerate() {
+        record[HEADS + bin] = list.first().copied().unwrap_or(0);
+        record[TAILS + bin] = list.last().copied().unwrap_or(0);
+    }
+}

@@ -1,0 +1,164 @@
+// A heap for tests: its words and its record, and the calls as methods.
+#![allow(dead_code)]
+
+use second::{apply, Call, ANSWER_WORDS, RECORD_WORDS};
+
+pub const DEMO_TABLE: [u32; 4] = [24, 32, 40, 128];
+
+#[derive(Clone, PartialEq, Eq, Debug)]
+pub struct World {
+    pub region: Vec<u32>,
+    pub record: [u32; RECORD_WORDS],
+}
+
+impl World {
+    pub fn new(words: usize) -> World {
+        World { region: vec![0; words], record: [0; RECORD_WORDS] }
+    }
+
+    pub fn fresh(words: usize, table: &[u32], donor: u32, merge: bool) -> World {
+        let mut world = World::new(words);
+        assert_eq!(world.setup(table, donor, merge), [0; 5]);
+        world
+    }
+
+    pub fn demo() -> World {
+        World::fresh(64, &DEMO_TABLE, 64, true)
+    }
+
+    pub fn call(&mut self, call: &Call) -> [u32; ANSWER_WORDS] {
+        apply(call, &mut self.region, &mut self.record)
+    }
+
+    pub fn setup(&mut self, table: &[u32], donor: u32, merge: bool) -> [u32; 5] {
+        let table = table.to_vec();
+        self.call(&Call::Setup { table, donor, merge })
+    }
+
+    pub fn allocate(&mut self, z: u32) -> [u32; 5] {
+        self.call(&Call::Allocate { z })
+    }
+
+    pub fn cleared(&mut self, count: u32, size: u32) -> [u32; 5] {
+        self.call(&Call::AllocateCleared { count, size })
+    }
+
+    pub fn free(&mut self, block: u32) -> [u32; 5] {
+        self.call(&Call::Free { block })
+    }
+
+    pub fn reallocate(&mut self, block: u32, z: u32) -> [u32; 5] {
+        self.call(&Call::Reallocate { block, z })
+    }
+
+    pub fn set_merge(&mut self, on: bool) -> [u32; 5] {
+        self.call(&Call::SetMerge { on })
+    }
+
+    pub fn check(&mut self) -> [u32; 5] {
+        self.call(&Call::Check)
+    }
+
+    pub fn ask(&mut self, question: u32, place: u32) -> [u32; 5] {
+        self.call(&Call::AskChunk { question, place })
+    }
+
+    pub fn ask_bin(&mut self, question: u32, bin: u32) -> [u32; 5] {
+        self.call(&Call::AskBin { question, bin })
+    }
+
+    /// The value of a question that must be accepted.
+    pub fn value(&mut self, question: u32, place: u32) -> u32 {
+        let answer = self.ask(question, place);
+        assert_eq!([answer[0], answer[1], answer[3], answer[4]], [0; 4]);
+        answer[2]
+    }
+
+    pub fn bin_value(&mut self, question: u32, bin: u32) -> u32 {
+        let answer = self.ask_bin(question, bin);
+        assert_eq!([answer[0], answer[1], answer[3], answer[4]], [0; 4]);
+        answer[2]
+    }
+
+    pub fn word(&self, byte: u32) -> u32 {
+        self.region[byte as usize / 4]
+    }
+
+    pub fn words(&self, byte: u32, count: usize) -> Vec<u32> {
+        self.region[byte as usize / 4..][..count].to_vec()
+    }
+
+    pub fn donor(&self) -> u32 {
+        self.record[2]
+    }
+
+    pub fn top(&self) -> u32 {
+        self.record[3]
+    }
+
+    pub fn used(&self) -> u32 {
+        self.record[5]
+    }
+
+    /// The chain as the demonstration prints it, found by the questions.
+    pub fn print(&mut self) -> String {
+        let mut text = format!("{} {} {}\n", self.record[0], self.record[1], self.used());
+        let mut place = 0;
+        loop {
+            let size = self.value(8, place);
+            let next = self.value(4, place);
+            text += &format!("{place} {size} {}\n", self.kind(place));
+            if next == 0 {
+                return text;
+            }
+            place = next;
+        }
+    }
+
+    pub fn kind(&mut self, place: u32) -> String {
+        let name = if place == 0 {
+            "start"
+        } else if place == self.record[0] - 8 {
+            "end"
+        } else if self.value(9, place) == 1 {
+            "inuse"
+        } else if place == self.donor() {
+            "donor"
+        } else if place == self.top() {
+            "top"
+        } else {
+            return format!("free {}", self.value(1, place));
+        };
+        name.to_string()
+    }
+
+    /// A call that must be refused with this number and change nothing.
+    pub fn refuses(&mut self, number: u32, call: Call) {
+        let before = self.clone();
+        assert_eq!(self.call(&call), [number, 0, 0, 0, 0], "{call:?}");
+        assert!(*self == before, "{call:?} changed something");
+    }
+}
+
+pub fn granted(block: u32, bytes: i32) -> [u32; 5] {
+    [0, block, 0, bytes as u32, 0]
+}
+
+pub fn freed(bytes: i32) -> [u32; 5] {
+    [0, 0, 0, bytes as u32, 0]
+}
+
+/// One call of each sort, with figures that are wrong for everything but the heap.
+pub fn every_call() -> Vec<Call> {
+    let (question, place, bin) = (77, 1, 99);
+    vec![
+        Call::Allocate { z: 0 },
+        Call::AllocateCleared { count: 0, size: 0 },
+        Call::Free { block: 0 },
+        Call::Reallocate { block: 1, z: 0 },
+        Call::SetMerge { on: false },
+        Call::Check,
+        Call::AskChunk { question, place },
+        Call::AskBin { question, bin },
+    ]
+}
