@@ -1,0 +1,101 @@
+//! The calls of a case: arguments that a station would give, and arguments that it should not.
+
+use crate::random::Random;
+use crate::settings;
+use crate::view::View;
+use second::Call;
+
+/// Sizes beside which something changes, for a heap as it stands, and any others.
+fn bytes(view: &View, table: &[u32], random: &mut Random) -> u32 {
+    let near = |size: u32, random: &mut Random| size.wrapping_sub(8).wrapping_add(random.below(19)).wrapping_sub(9);
+    match random.below(24) {
+        0..=7 => random.between(1, 64),
+        8..=11 if !table.is_empty() => near(random.of(table), random),
+        12 | 13 => near(view.size_at(view.top).wrapping_sub(24), random),
+        14 => near(view.size_at(view.donor).wrapping_sub(24), random),
+        15..=17 if !view.chunks.is_empty() => near(random.of(&view.chunks).size, random),
+        18 => random.of(&[0, 1, 8, 9, 16, 17, 65_487, 65_488, 65_489, 0x7FFF_FFFF, 0xFFFF_FFF8, 0xFFFF_FFFF]),
+        19 => random.word(),
+        20 => random.between(1, 65_600),
+        _ => random.between(1, 400),
+    }
+}
+
+/// A live block, mostly; else a place that is none: one given back, a chunk's, one beside it.
+fn block(view: &View, random: &mut Random) -> u32 {
+    let live = view.live();
+    let any = if view.chunks.is_empty() { 8 } else { random.of(&view.chunks).place };
+    match random.below(20) {
+        0 => 0,
+        1 => any + 8,
+        2 => any,
+        3 => any.wrapping_add(random.of(&[4, 12, 16, 24, 0xFFFF_FFF8, 0xFFFF_FFFC])),
+        4 => random.of(&[1, 4, 8, 16, 65_528, 65_536, 0x8000_0000, 0xFFFF_FFF8, 0xFFFF_FFFF]),
+        5 => random.word(),
+        _ if live.is_empty() => any + 8,
+        _ => random.of(&live).place + 8,
+    }
+}
+
+/// A chunk or a live block, mostly.
+fn place(view: &View, random: &mut Random) -> u32 {
+    match random.below(12) {
+        0 => 0,
+        1 => view.donor,
+        2 => view.top,
+        3 => view.top.wrapping_add(view.size_at(view.top)),
+        4..=6 => block(view, random),
+        _ if view.chunks.is_empty() => random.word(),
+        _ => random.of(&view.chunks).place,
+    }
+}
+
+fn factors(product: u32, random: &mut Random) -> (u32, u32) {
+    match random.below(8) {
+        0 => (random.word(), random.word()),
+        1 => (0x1_0000, 0x1_0000),
+        2 => (random.of(&[0, 1, 0xFFFF_FFFF]), product),
+        _ => {
+            let count = random.between(1, 9);
+            (count, product / count)
+        }
+    }
+}
+
+pub fn setup(words: usize, random: &mut Random) -> Call {
+    Call::Setup { table: settings::table(random), donor: settings::donor(words, random), merge: random.bit() }
+}
+
+/// The nine calls by number, in the order of the requirements' list of them.
+pub fn numbered(number: u32, words: usize, view: &View, table: &[u32], random: &mut Random) -> Call {
+    match number {
+        0 => setup(words, random),
+        1 => Call::Allocate { z: bytes(view, table, random) },
+        2 => {
+            let (count, size) = factors(bytes(view, table, random), random);
+            Call::AllocateCleared { count, size }
+        }
+        3 => Call::Free { block: block(view, random) },
+        4 => Call::Reallocate { block: block(view, random), z: bytes(view, table, random) },
+        5 => Call::SetMerge { on: random.bit() },
+        6 => Call::Check,
+        7 => Call::AskChunk { question: random.below(11), place: place(view, random) },
+        _ => Call::AskBin { question: random.below(5), bin: random.below(table.len() as u32 + 2) },
+    }
+}
+
+/// One of the nine, as often as a run has it.
+pub fn any(words: usize, view: &View, table: &[u32], random: &mut Random) -> Call {
+    let number = match random.below(200) {
+        0 => 0,
+        1..=69 => 1,
+        70..=81 => 2,
+        82..=129 => 3,
+        130..=167 => 4,
+        168..=173 => 5,
+        174..=177 => 6,
+        178..=191 => 7,
+        _ => 8,
+    };
+    numbered(number, words, view, table, random)
+}

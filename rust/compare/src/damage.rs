@@ -1,0 +1,253 @@
+//! Damage to a heap, as stores into its words and its record: each kind is one that a fault of a station could leave,
+//! or one that would mislead a check that looks too little.
+
+use crate::random::Random;
+use crate::side::Entry;
+use crate::view::{Chunk, View};
+use kruzhvela::flat::{Record, BINS, BYTES, DONOR, HEADS, MERGE, RECORD_WORDS, SIZES, TAILS, TOP, USED};
+
+/// The words of a chunk's header.
+const FORWARD: usize = 0;
+const BACKWARD: usize = 1;
+const SIZE: usize = 2;
+const NEXT_IN_BIN: usize = 3;
+const PREVIOUS_IN_BIN: usize = 4;
+const BIN_WORD: usize = 5;
+
+/// Numbers that are no place of any heap, near where sums wrap.
+const FAR: [u32; 8] =
+    [0x7FFF_FFF8, 0x8000_0000, 0xFFFF_FF00, 0xFFFF_FFE8, 0xFFFF_FFF0, 0xFFFF_FFF8, 0xFFFF_FFFC, 0xFFFF_FFFF];
+
+/// A heap that is to be damaged.
+pub struct Victim<'a> {
+    pub region: &'a [u32],
+    pub record: &'a Record,
+    pub view: View,
+}
+
+fn header(place: u32, word: usize, value: u32) -> Entry {
+    Entry::Write { index: place as usize / 4 + word, value }
+}
+
+fn field(index: usize, value: u32) -> Entry {
+    Entry::Record { index, value }
+}
+
+impl Victim<'_> {
+    fn word(&self, place: u32, word: usize) -> u32 {
+        self.region.get(place as usize / 4 + word).copied().unwrap_or(0)
+    }
+
+    /// Any chunk between the ends; the first 24 bytes, if the chain can't be followed.
+    fn chunk(&self, random: &mut Random) -> Chunk {
+        let first = Chunk { place: 8, size: 24, in_use: false };
+        if self.view.chunks.is_empty() {
+            first
+        } else {
+            random.of(&self.view.chunks)
+        }
+    }
+
+    fn ordinary(&self, random: &mut Random) -> Chunk {
+        let ordinary = self.view.ordinary();
+        if ordinary.is_empty() {
+            self.chunk(random)
+        } else {
+            random.of(&ordinary)
+        }
+    }
+
+    fn live(&self, random: &mut Random) -> Chunk {
+        let live = self.view.live();
+        if live.is_empty() {
+            self.chunk(random)
+        } else {
+            random.of(&live)
+        }
+    }
+
+    fn bin(&self, random: &mut Random) -> usize {
+        random.below(self.record[BINS].clamp(1, 32)) as usize
+    }
+
+    fn flipped_bit(&self, random: &mut Random) -> Vec<Entry> {
+        let bit = 1 << random.below(32);
+        let place = self.chunk(random).place;
+        match random.below(4) {
+            0 => {
+                let index = random.below(RECORD_WORDS as u32) as usize;
+                vec![field(index, self.record[index] ^ bit)]
+            }
+            1 => {
+                let index = random.below(self.region.len() as u32) as usize;
+                vec![Entry::Write { index, value: self.region[index] ^ bit }]
+            }
+            _ => {
+                let word = random.below(6) as usize;
+                vec![header(place, word, self.word(place, word) ^ bit)]
+            }
+        }
+    }
+
+    /// A free chunk's header inside a live block, by itself or with the chain or a list led through it.
+    fn fake_chunk(&self, random: &mut Random) -> Vec<Entry> {
+        let chunk = self.live(random);
+        let (fake, end, bin) = (chunk.place + 8, chunk.place + chunk.size, self.bin(random));
+        let head = self.record[HEADS + bin];
+        let mut stores = vec![
+            header(fake, FORWARD, end),
+            header(fake, BACKWARD, chunk.place),
+            header(fake, SIZE, end.wrapping_sub(fake)),
+            header(fake, NEXT_IN_BIN, head),
+            header(fake, PREVIOUS_IN_BIN, 0),
+            header(fake, BIN_WORD, bin as u32 * 8),
+        ];
+        match random.below(3) {
+            0 => {}
+            1 => stores.extend([header(chunk.place, FORWARD, fake), header(end, BACKWARD, fake | 1)]),
+            _ => {
+                stores.push(field(HEADS + bin, fake));
+                stores.push(if head == 0 { field(TAILS + bin, fake) } else { header(head, PREVIOUS_IN_BIN, fake) });
+            }
+        }
+        stores
+    }
+
+    /// A list or the chain comes back to where it was.
+    fn cycle(&self, random: &mut Random) -> Vec<Entry> {
+        let chunk = self.ordinary(random);
+        let lower = self.chunk(random).place.min(chunk.place);
+        match random.below(4) {
+            0 => vec![header(chunk.place, NEXT_IN_BIN, chunk.place)],
+            1 => vec![header(chunk.place, FORWARD, lower)],
+            2 => vec![header(chunk.place, PREVIOUS_IN_BIN, chunk.place)],
+            _ => {
+                let bin = self.bin(random);
+                let (head, tail) = (self.record[HEADS + bin], self.record[TAILS + bin]);
+                vec![header(tail, NEXT_IN_BIN, head), header(head, PREVIOUS_IN_BIN, tail)]
+            }
+        }
+    }
+
+    /// A chunk is in a second list, or twice in its own.
+    fn in_two_lists(&self, random: &mut Random) -> Vec<Entry> {
+        let place = self.ordinary(random).place;
+        let bin = self.bin(random);
+        let tail = self.record[TAILS + bin];
+        if tail == 0 {
+            return vec![field(HEADS + bin, place), field(TAILS + bin, place)];
+        }
+        let mut stores = vec![header(tail, NEXT_IN_BIN, place), field(TAILS + bin, place)];
+        if random.bit() {
+            stores.push(header(place, PREVIOUS_IN_BIN, tail));
+        }
+        stores
+    }
+
+    /// A chunk is in no list: its bin has lost its first.
+    fn lost(&self, random: &mut Random) -> Vec<Entry> {
+        let bin = self.bin(random);
+        let head = self.record[HEADS + bin];
+        let next = self.word(head, NEXT_IN_BIN);
+        if next == 0 {
+            vec![field(HEADS + bin, 0), field(TAILS + bin, 0)]
+        } else {
+            vec![field(HEADS + bin, next), header(next, PREVIOUS_IN_BIN, 0)]
+        }
+    }
+
+    /// Two bins have each other's lists.
+    fn swapped(&self, random: &mut Random) -> Vec<Entry> {
+        let (one, other) = (self.bin(random), self.bin(random));
+        [HEADS, TAILS]
+            .iter()
+            .flat_map(|ends| {
+                [field(ends + one, self.record[ends + other]), field(ends + other, self.record[ends + one])]
+            })
+            .collect()
+    }
+
+    /// A head, a tail, donor or top names another place, or the bin word another bin.
+    fn wrong_place(&self, random: &mut Random) -> Vec<Entry> {
+        let place = if random.once_in(4) { 0 } else { self.chunk(random).place };
+        let bin = self.bin(random);
+        match random.below(6) {
+            0 => vec![field(HEADS + bin, place)],
+            1 => vec![field(TAILS + bin, place)],
+            2 => vec![field(DONOR, place)],
+            3 => vec![field(TOP, place)],
+            4 => vec![field(DONOR, self.record[TOP]), field(TOP, self.record[DONOR])],
+            _ => {
+                let chunk = self.ordinary(random).place;
+                vec![header(chunk, BIN_WORD, self.word(chunk, BIN_WORD).wrapping_add(random.of(&[1, 8, 0xFFFF_FFF8])))]
+            }
+        }
+    }
+
+    /// A place is off by 4 or 8, or far out.
+    fn off(&self, random: &mut Random) -> Vec<Entry> {
+        let by = random.of(&[4, 8, 0xFFFF_FFF8, 0xFFFF_FFFC]);
+        let far = random.once_in(3).then(|| random.of(&FAR));
+        let moved = |value: u32| far.unwrap_or(value.wrapping_add(by));
+        if random.bit() {
+            let bin = self.bin(random);
+            let index = random.of(&[DONOR, TOP, HEADS + bin, TAILS + bin]);
+            vec![field(index, moved(self.record[index]))]
+        } else {
+            let place = if random.bit() { self.ordinary(random).place } else { self.chunk(random).place };
+            let word = random.below(6) as usize;
+            vec![header(place, word, moved(self.word(place, word)))]
+        }
+    }
+
+    /// A figure of the record, the table or a place that is not used.
+    fn figure(&self, random: &mut Random) -> Vec<Entry> {
+        let by = random.of(&[1, 4, 8, 0xFFFF_FFF8, 0xFFFF_FFFF]);
+        let unused = (self.record[BINS].min(31)) as usize;
+        match random.below(8) {
+            0 => vec![field(BYTES, self.record[BYTES].wrapping_add(by))],
+            1 => vec![field(BINS, self.record[BINS].wrapping_add(by))],
+            2 => vec![field(BINS, random.of(&[0, 33, 64, 0x1_0000, 0xFFFF_FFFF]))],
+            3 => vec![field(MERGE, random.of(&[2, 3, 0x100, 0xFFFF_FFFF]))],
+            4 => vec![field(USED, self.record[USED].wrapping_add(by))],
+            5 => {
+                let index = SIZES + self.bin(random);
+                vec![field(index, self.record[index].wrapping_add(by))]
+            }
+            _ => vec![field(random.of(&[SIZES, HEADS, TAILS]) + unused, random.of(&[1, 8, 24, 0xFFFF_FFFF]))],
+        }
+    }
+
+    /// The flags or the size of a chunk, or which chunk it says is before it.
+    fn wrong_header(&self, random: &mut Random) -> Vec<Entry> {
+        let chunk = self.chunk(random);
+        let ends = [0, chunk.place, (self.region.len() as u32 / 2 * 8).saturating_sub(8)];
+        let place = random.of(&ends);
+        let backward = self.word(place, BACKWARD);
+        match random.below(5) {
+            0 => vec![header(place, BACKWARD, backward ^ random.of(&[1, 2, 4, 6]))],
+            1 => vec![header(place, BACKWARD, backward & 7 | self.chunk(random).place)],
+            2 => vec![header(chunk.place, SIZE, self.word(chunk.place, SIZE).wrapping_add(8))],
+            3 => vec![header(place, FORWARD, self.chunk(random).place)],
+            _ => vec![header(chunk.place, FORWARD, chunk.place + chunk.size + 24)],
+        }
+    }
+
+    /// One kind of damage; stores that would fall outside the region are left out.
+    pub fn damage(&self, random: &mut Random) -> Vec<Entry> {
+        let stores = match random.below(12) {
+            0 | 1 => self.flipped_bit(random),
+            2 | 3 => self.fake_chunk(random),
+            4 => self.cycle(random),
+            5 => self.in_two_lists(random),
+            6 => self.lost(random),
+            7 => self.swapped(random),
+            8 => self.wrong_place(random),
+            9 => self.off(random),
+            10 => self.figure(random),
+            _ => self.wrong_header(random),
+        };
+        let inside = |store: &Entry| !matches!(store, Entry::Write { index, .. } if *index >= self.region.len());
+        stores.into_iter().filter(inside).collect()
+    }
+}

@@ -1,0 +1,80 @@
+//! One heap of a comparison: its words, its record and the way in which it answers. What is done to it are entries,
+//! which are also the lines of a script.
+
+use kruzhvela::flat::{self, Answer, Record, RECORD_WORDS};
+use second::Call;
+
+/// Something that is done to a heap.
+#[derive(Clone, Debug, PartialEq, Eq)]
+pub enum Entry {
+    /// A region of so many words, filled from the seed, and a record of zeros.
+    Region {
+        words: usize,
+        seed: u32,
+    },
+    Call(Call),
+    /// A word of the region becomes `value`.
+    Write {
+        index: usize,
+        value: u32,
+    },
+    /// A word of the record becomes `value`.
+    Record {
+        index: usize,
+        value: u32,
+    },
+}
+
+/// A way of answering calls.
+pub type Answers = fn(&Call, &mut [u32], &mut Record) -> Answer;
+
+pub struct Side {
+    answers: Answers,
+    pub region: Vec<u32>,
+    pub record: Record,
+}
+
+impl Side {
+    pub fn new(answers: Answers) -> Side {
+        Side { answers, region: Vec::new(), record: [0; RECORD_WORDS] }
+    }
+
+    /// Does it; the answer, if it is a call.
+    pub fn play(&mut self, entry: &Entry) -> Option<Answer> {
+        match *entry {
+            Entry::Region { words, seed } => {
+                self.region = filled(words, seed);
+                self.record = [0; RECORD_WORDS];
+            }
+            Entry::Call(ref call) => return Some((self.answers)(call, &mut self.region, &mut self.record)),
+            Entry::Write { index, value } => self.region[index] = value,
+            Entry::Record { index, value } => self.record[index] = value,
+        }
+        None
+    }
+}
+
+/// The words of a fresh region. A heap is set up on whatever stands there.
+fn filled(words: usize, seed: u32) -> Vec<u32> {
+    let mut word = seed;
+    let next = || {
+        word = word.wrapping_mul(1_664_525).wrapping_add(1_013_904_223);
+        word
+    };
+    std::iter::repeat_with(next).take(words).collect()
+}
+
+/// The proved heap.
+pub fn proved(call: &Call, region: &mut [u32], record: &mut Record) -> Answer {
+    match *call {
+        Call::Setup { ref table, donor, merge } => flat::setup(region, table, donor, merge, record),
+        Call::Allocate { z } => flat::allocate(region, record, z),
+        Call::AllocateCleared { count, size } => flat::allocate_cleared(region, record, count, size),
+        Call::Free { block } => flat::free(region, record, block),
+        Call::Reallocate { block, z } => flat::reallocate(region, record, block, z),
+        Call::SetMerge { on } => flat::set_merge(region, record, on),
+        Call::Check => flat::check(region, record),
+        Call::AskChunk { question, place } => flat::ask_chunk(region, record, question, place),
+        Call::AskBin { question, bin } => flat::ask_bin(region, record, question, bin),
+    }
+}

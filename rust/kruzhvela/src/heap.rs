@@ -1,0 +1,259 @@
+//! A heap with its words and its record, and the nine calls as methods.
+
+use std::error::Error;
+use std::fmt;
+use std::ops::Range;
+
+use crate::flat::{self, Answer, Record, RECORD_WORDS};
+use crate::Refusal;
+
+/// A block of a heap, by its offset in bytes. Block 0 is no block.
+#[derive(Clone, Copy, Debug, PartialEq, Eq, PartialOrd, Ord, Hash)]
+pub struct Block(u32);
+
+impl Block {
+    /// No block: free accepts it and does nothing, and reallocate makes a new one.
+    pub const NONE: Block = Block(0);
+
+    /// The block at an offset, such as one that was stored. Whether it is live the heap finds out.
+    pub fn at(offset: u32) -> Block {
+        Block(offset)
+    }
+
+    /// The offset in bytes from the heap's first word.
+    pub fn offset(self) -> u32 {
+        self.0
+    }
+}
+
+/// A granted block, with the change in used bytes.
+#[derive(Clone, Copy, Debug, PartialEq, Eq)]
+pub struct Granted {
+    pub block: Block,
+    pub change: i32,
+}
+
+/// What the check counts on a heap that passes.
+#[derive(Clone, Copy, Debug, PartialEq, Eq)]
+pub struct Counts {
+    /// All chunks, the start and the end among them.
+    pub chunks: u32,
+    /// Free chunks in bins.
+    pub ordinary: u32,
+    /// Bytes of the chunks of live blocks.
+    pub used: u32,
+    /// Bytes of free chunks, donor and top among them.
+    pub free: u32,
+}
+
+/// What may be asked of a chunk, by its offset in bytes. Where there is none the answer is 0.
+#[derive(Clone, Copy, Debug, PartialEq, Eq)]
+#[repr(u32)]
+pub enum ChunkQuestion {
+    /// Its bin, if it is in one.
+    Bin = 1,
+    /// Its block, if that is live.
+    Block = 2,
+    /// The chunk of the live block at the offset.
+    ChunkOfBlock = 3,
+    /// The chunk after it.
+    Next = 4,
+    /// The chunk after it in its bin.
+    NextInBin = 5,
+    /// The chunk before it.
+    Previous = 6,
+    /// The chunk before it in its bin.
+    PreviousInBin = 7,
+    /// Its size in bytes.
+    Size = 8,
+    /// 0 if it is free, 1 if it is in use.
+    Type = 9,
+}
+
+/// What may be asked of a bin. Of an empty bin the answer is 0.
+#[derive(Clone, Copy, Debug, PartialEq, Eq)]
+#[repr(u32)]
+pub enum BinQuestion {
+    /// How many chunks it has.
+    Count = 1,
+    /// Its first chunk.
+    First = 2,
+    /// Its last chunk.
+    Last = 3,
+}
+
+/// A setup that was refused: why, and the words, unchanged.
+#[derive(Debug)]
+pub struct NotSetUp<W> {
+    pub refusal: Refusal,
+    pub words: W,
+}
+
+impl<W> fmt::Display for NotSetUp<W> {
+    fn fmt(&self, f: &mut fmt::Formatter<'_>) -> fmt::Result {
+        self.refusal.fmt(f)
+    }
+}
+
+impl<W: fmt::Debug> Error for NotSetUp<W> {}
+
+/// Lets `?` turn it into the refusal alone, where the words are not wanted back.
+impl<W> From<NotSetUp<W>> for Refusal {
+    fn from(refused: NotSetUp<W>) -> Refusal {
+        refused.refusal
+    }
+}
+
+/// A heap in words that it owns (`Vec<u32>`, `[u32; N]`) or borrows (`&mut [u32]`).
+#[derive(Clone, Debug)]
+pub struct Heap<W> {
+    words: W,
+    record: Record,
+}
+
+/// The answer, if the call was accepted.
+fn accepted(answer: Answer) -> Result<Answer, Refusal> {
+    match Refusal::of(answer[0]) {
+        Some(refusal) => Err(refusal),
+        None => Ok(answer),
+    }
+}
+
+fn granted(answer: Answer) -> Granted {
+    Granted { block: Block(answer[1]), change: answer[3] as i32 }
+}
+
+impl<W: AsRef<[u32]> + AsMut<[u32]>> Heap<W> {
+    /// Sets up a heap in 10 to 16,384 words: the sizes of its bins, the first of them 24, the bytes of its donor, from
+    /// which small blocks come (0 for none), and whether chunks that are given back join their neighbours.
+    ///
+    /// ```
+    /// use kruzhvela::{Heap, Refusal};
+    /// let refused = Heap::setup(vec![0; 9], &[24], 0, true).unwrap_err();
+    /// assert_eq!(refused.refusal, Refusal::RegionLength);
+    /// assert_eq!(refused.words.len(), 9);
+    /// ```
+    pub fn setup(mut words: W, table: &[u32], donor: u32, merge: bool) -> Result<Heap<W>, NotSetUp<W>> {
+        let mut record = [0; RECORD_WORDS];
+        match accepted(flat::setup(words.as_mut(), table, donor, merge, &mut record)) {
+            Ok(_) => Ok(Heap { words, record }),
+            Err(refusal) => Err(NotSetUp { refusal, words }),
+        }
+    }
+
+    /// A heap that was taken apart by [`into_parts`](Heap::into_parts), or moved here from C. Every call checks it first.
+    pub fn from_parts(words: W, record: Record) -> Heap<W> {
+        Heap { words, record }
+    }
+
+    /// The heap's words and its record.
+    pub fn into_parts(self) -> (W, Record) {
+        (self.words, self.record)
+    }
+
+    /// A block of `bytes` bytes, 1 to 65,488. Its words are as they were found.
+    ///
+    /// ```
+    /// use kruzhvela::{Heap, Refusal};
+    /// let mut heap = Heap::setup(vec![0; 64], &[24, 64], 0, true)?;
+    /// let first = heap.allocate(17)?;
+    /// assert_eq!(first.change, 32);
+    /// assert_eq!(heap.allocate(200), Err(Refusal::NoRoom));
+    /// # Ok::<(), kruzhvela::Refusal>(())
+    /// ```
+    pub fn allocate(&mut self, bytes: u32) -> Result<Granted, Refusal> {
+        accepted(flat::allocate(self.words.as_mut(), &mut self.record, bytes)).map(granted)
+    }
+
+    /// A block for `count` elements of `size` bytes, every word of it 0. The product may not be 0 or above 65,488.
+    ///
+    /// ```
+    /// use kruzhvela::Heap;
+    /// let mut heap = Heap::setup(vec![9; 64], &[24, 64], 0, true)?;
+    /// let block = heap.allocate_cleared(4, 6)?.block;
+    /// assert!(heap.words_of(block)?.iter().all(|&word| word == 0));
+    /// # Ok::<(), kruzhvela::Refusal>(())
+    /// ```
+    pub fn allocate_cleared(&mut self, count: u32, size: u32) -> Result<Granted, Refusal> {
+        accepted(flat::allocate_cleared(self.words.as_mut(), &mut self.record, count, size)).map(granted)
+    }
+
+    /// Gives a block back, and answers the change in used bytes. [`Block::NONE`] is accepted.
+    pub fn free(&mut self, block: Block) -> Result<i32, Refusal> {
+        accepted(flat::free(self.words.as_mut(), &mut self.record, block.0)).map(|answer| answer[3] as i32)
+    }
+
+    /// Gives a block `bytes` bytes. It may move; what both sizes have of it stays. A refused call leaves it as it is.
+    pub fn reallocate(&mut self, block: Block, bytes: u32) -> Result<Granted, Refusal> {
+        accepted(flat::reallocate(self.words.as_mut(), &mut self.record, block.0, bytes)).map(granted)
+    }
+
+    /// Says whether chunks that are given back join their neighbours from now on.
+    pub fn set_merge(&mut self, on: bool) -> Result<(), Refusal> {
+        accepted(flat::set_merge(self.words.as_mut(), &mut self.record, on)).map(|_| ())
+    }
+
+    /// Checks the whole heap, and counts.
+    ///
+    /// ```
+    /// use kruzhvela::{Heap, Refusal};
+    /// let mut heap = Heap::setup(vec![0; 64], &[24], 0, true)?;
+    /// let counts = heap.check()?;
+    /// assert_eq!((counts.chunks, counts.used, counts.free), (3, 0, 240));
+    ///
+    /// let (mut words, record) = heap.into_parts();
+    /// words[1] = 0; // the start chunk is no longer in use
+    /// assert_eq!(Heap::from_parts(words, record).check(), Err(Refusal::HeapFails));
+    /// # Ok::<(), kruzhvela::Refusal>(())
+    /// ```
+    pub fn check(&mut self) -> Result<Counts, Refusal> {
+        accepted(flat::check(self.words.as_mut(), &mut self.record)).map(|answer| Counts {
+            chunks: answer[1],
+            ordinary: answer[2],
+            used: answer[3],
+            free: answer[4],
+        })
+    }
+
+    /// Answers a question about the chunk at an offset (of [`ChunkQuestion::ChunkOfBlock`]: about the block there).
+    pub fn ask_chunk(&mut self, question: ChunkQuestion, offset: u32) -> Result<u32, Refusal> {
+        accepted(flat::ask_chunk(self.words.as_mut(), &mut self.record, question as u32, offset))
+            .map(|answer| answer[2])
+    }
+
+    /// Answers a question about a bin.
+    ///
+    /// ```
+    /// use kruzhvela::{BinQuestion, Heap};
+    /// let mut heap = Heap::setup(vec![0; 64], &[24, 64], 0, false)?;
+    /// let block = heap.allocate(8)?.block;
+    /// heap.free(block)?;
+    /// assert_eq!(heap.ask_bin(BinQuestion::Count, 0)?, 1);
+    /// # Ok::<(), kruzhvela::Refusal>(())
+    /// ```
+    pub fn ask_bin(&mut self, question: BinQuestion, bin: u32) -> Result<u32, Refusal> {
+        accepted(flat::ask_bin(self.words.as_mut(), &mut self.record, question as u32, bin)).map(|answer| answer[2])
+    }
+
+    /// The words of a live block, to its chunk's end: at least as many bytes as were asked for.
+    pub fn words_of(&mut self, block: Block) -> Result<&mut [u32], Refusal> {
+        let place = self.range_of(block)?;
+        Ok(&mut self.words.as_mut()[place])
+    }
+
+    fn range_of(&mut self, block: Block) -> Result<Range<usize>, Refusal> {
+        let chunk = self.ask_chunk(ChunkQuestion::ChunkOfBlock, block.0)?;
+        let size = self.ask_chunk(ChunkQuestion::Size, chunk)?;
+        Ok(block.0 as usize / 4..(chunk + size) as usize / 4)
+    }
+
+    /// The record's words, as a C caller holds them.
+    pub fn record(&self) -> &Record {
+        &self.record
+    }
+
+    /// All words of the region, headers among them.
+    pub fn region(&self) -> &[u32] {
+        self.words.as_ref()
+    }
+}
