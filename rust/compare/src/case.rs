@@ -56,9 +56,8 @@ fn mending(stage: &dyn Stage, stores: &[Entry]) -> Vec<Entry> {
     held.collect()
 }
 
-/// Damages the heap, puts it to every call but setup, and mends it. A call that was accepted all the same has changed
-/// the heap, and what is mended then may be damage again: that is a case like any other.
-fn damaged(stage: &mut dyn Stage, random: &mut Random) {
+/// Damages the heap and puts it to every call but setup; what mends it again.
+fn damaged(stage: &mut dyn Stage, random: &mut Random) -> Vec<Entry> {
     let words = stage.region().len();
     let (v, t) = (view(stage), table(stage));
     let mut stores = Vec::new();
@@ -72,7 +71,7 @@ fn damaged(stage: &mut dyn Stage, random: &mut Random) {
         let call = calls::numbered(number, words, &v, &t, random);
         stage.play(Entry::Call(call));
     }
-    play_all(stage, mend);
+    mend
 }
 
 fn play_all(stage: &mut dyn Stage, entries: Vec<Entry>) {
@@ -96,7 +95,11 @@ fn run(stage: &mut dyn Stage, steps: u32, damage: bool, random: &mut Random) {
         }
         match random.below(24) {
             0 | 1 => foreign_write(stage, random),
-            2 if damage => damaged(stage, random),
+            2 if damage => {
+                // a call that was accepted all the same has changed the heap, and what mended it is damage now
+                let mend = damaged(stage, random);
+                play_all(stage, mend);
+            }
             _ => {
                 let call = calls::any(stage.region().len(), &view(stage), &table(stage), random);
                 let answer = stage.play(Entry::Call(call));
@@ -139,6 +142,7 @@ pub fn play(number: u64, seed: u64, stage: &mut dyn Stage) {
     run(stage, steps, damage, &mut random);
     if damage {
         damaged(stage, &mut random);
+        set_up(stage, &mut random);
     }
     stage.play(Entry::Call(Call::Check));
 }
