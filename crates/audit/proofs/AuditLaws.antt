@@ -1,5 +1,5 @@
 -- The tests before and after the two walks, part by part as the code makes them. Assumes nothing.
-use mathlib.Core.Path.{_≡_, sym, _∙_, ap, subst}
+use mathlib.Core.Path.{_≡_, refl, sym, _∙_, ap, subst}
 use mathlib.Core.Bool.{Bool, true, false, not, _&&_}
 use mathlib.Core.List.{List}
 use Prim.Native.Nat.{ℕ, suc, _+_, _*_, _/_, _≤_, _<_}
@@ -50,11 +50,9 @@ module _ (words bytes : ℕ) where
 
 -- the rest of an array is unused, one place after the other
 module _ (l : List ℕ) (i : ℕ) where
-  pub unused-not : i < length l → (getD l i 0 ≡ 0 → ⊥) → unusedFrom i l ≡ false
-  unused-not h n = rw (drop-cons l i 0 h, ne-eqb (getD l i 0) 0 n)
-
-  pub unused-goes : i < length l → getD l i 0 ≡ 0 → unusedFrom i l ≡ unusedFrom (suc i) l
-  unused-goes h e = rw (drop-cons l i 0 h, eq-eqb (getD l i 0) 0 e)
+  pub unused-goes : i < length l → (t : Bool) → ((t && eqb (getD l i 0) 0) && unusedFrom (suc i) l) ≡ (t && unusedFrom i l)
+  unused-goes h true = rw (drop-cons l i 0 h)
+  unused-goes h false = refl
 
   pub unused-ends : length l ≤ i → unusedFrom i l ≡ true
   unused-ends h = rw (drop-of-length-le l h)

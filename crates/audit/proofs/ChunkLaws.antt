@@ -8,7 +8,7 @@ use Rattle.region.specs.Words.{word, backward}
 use Rattle.rules.specs.Kinds.{kindAt}
 use Rattle.rules.specs.Shape.{entry, flagsAt}
 use Rattle.audit.specs.declared.chunks.Seen.the-variants.{Sound, Unsound}
-use Rattle.audit.specs.Chunks.{backedAt, soundAs, soundAt, seenAt}
+use Rattle.audit.specs.Chunks.{backedBy, soundAs, soundAt, seenAt}
 
 module _ (ws : List ℕ) (bytes donor top p c s : ℕ) where
   -- what is found where the tests together come to t
@@ -17,17 +17,21 @@ module _ (ws : List ℕ) (bytes donor top p c s : ℕ) where
   unfolding seenAt
   finds e = rw e
 
-  -- the second word, the kind read off it, and the two tests, as the code has them
-  module _ {r : ℕ} {k : Kind} {t u : Bool} (er : r ≡ word ws c backward)
-      (ek : k ≡ kindAt bytes donor top (entry c s (r % 8)))
-      (et : t ≡ backedAt ws p c)
-      (eu : u ≡ soundAs ws bytes donor top (entry c s (r % 8)) k) where
-    tested : t && u ≡ soundAt ws bytes donor top p (entry c s (flagsAt ws c))
+  -- the second word and the test of it, as the code has them
+  module _ {link : ℕ} {t : Bool} (el : link ≡ word ws c backward) (et : t ≡ backedBy link p c) where
+    pub found-unbacked : t ≡ false → Unsound ≡ seenAt ws bytes donor top p c s
     unfolding soundAt
-    tested = rw (← er, ← et, ← ek, eu)
+    found-unbacked h = finds {t = false} (rw (← el, ← et, h))
 
-    pub found-sound : t && u ≡ true → Sound k ≡ seenAt ws bytes donor top p c s
-    found-sound h = ap Sound (rw (← er) ek) ∙ finds (sym h ∙ tested)
+    -- the kind that is read off it, and the test by kind
+    module _ {k : Kind} {u : Bool} (ek : k ≡ kindAt bytes donor top (entry c s (link % 8)))
+        (eu : u ≡ soundAs ws bytes donor top (entry c s (link % 8)) k) (h : t ≡ true) where
+      tested : u ≡ soundAt ws bytes donor top p (entry c s (flagsAt ws c))
+      unfolding soundAt
+      tested = rw (← el, ← et, h, ← ek, eu)
 
-    pub found-unsound : t && u ≡ false → Unsound ≡ seenAt ws bytes donor top p c s
-    found-unsound h = finds (sym h ∙ tested)
+      pub found-sound : u ≡ true → Sound k ≡ seenAt ws bytes donor top p c s
+      found-sound v = ap Sound (rw (← el) ek) ∙ finds (sym v ∙ tested)
+
+      pub found-unsound : u ≡ false → Unsound ≡ seenAt ws bytes donor top p c s
+      found-unsound v = finds (sym v ∙ tested)

@@ -9,7 +9,7 @@ use native.Mathlib.Omega.{arith}
 use lib.ListN.{length}
 use Rattle.lists.specs.Lists.{lastOr, total}
 use Rattle.chain.specs.Chain.{endOf}
-use Rattle.chain.proofs.EndLaws.{endAt, hereAt, chain-here, chain-next}
+use Rattle.chain.proofs.EndLaws.{endAt, hereAt, chain-here, chain-next, end-link}
 use Rattle.record.specs.declared.kinds.Kind.{Kind}
 use Rattle.record.specs.declared.kinds.Kind.the-variants.{Start, InUse, Ordinary, Donor, Top, End}
 use Rattle.region.specs.Words.{word, forward}
@@ -249,9 +249,10 @@ module _ (ws : List ℕ) (bytes donor top p c n e : ℕ) (seen : Seen) (en : n �
           let r = told-sound k ek in
           rw (et, em, sh, end-is) (ends ws bytes donor top fits ms₀ ms t p c o k (r .0) (r .1) (sym end-is ∙ q))
 
-      pub walk-goes : (e ≡ bytes → ⊥) → (c < e) × (e < bytes) × Onward ws bytes donor top ms₀ ms′ t′ c e
-      walk-goes n =
+      pub walk-goes : (e ≡ bytes → ⊥) → (c < n) × (n < bytes) × Onward ws bytes donor top ms₀ ms′ t′ c n
+      walk-goes f =
           let r = told-sound k ek in
-          let m : endAt ws bytes c ≡ bytes → ⊥ = λ q. n (end-is ∙ q) in
+          let m : endAt ws bytes c ≡ bytes → ⊥ = λ q. f (end-is ∙ q) in
           let h = chain-next ws bytes c m in
-          rw (et, em, sh, end-is) (h .0, h .1, goes-on ws bytes donor top fits ms₀ ms t p c o k (r .0) (r .1) m)
+          let link : n ≡ endAt ws bytes c = en ∙ end-link ws bytes c m in
+          rw (et, em, sh, end-is, link) (h .0, h .1, goes-on ws bytes donor top fits ms₀ ms t p c o k (r .0) (r .1) m)

@@ -19,7 +19,7 @@ use Rattle.rules.specs.Check.{Chained, Ended, Backed, Sound, Unbinned, Reserved
 use Rattle.rules.proofs.ChainLaws.{each-cons, same-place, Chain, shape-chain}
 use Rattle.rules.proofs.KindsLaws.{Being, being, kind-start, kind-end, kind-top, kind-donor}
 use Rattle.audit.specs.declared.survey.Tally.{Tally}
-use Rattle.audit.specs.Chunks.{backedAt, sizedAt, startIs, endIs, reservedAt, donorAt, topAt, soundAs, soundAt}
+use Rattle.audit.specs.Chunks.{backedAt, backedBy, sizedAt, startIs, endIs, reservedAt, donorAt, topAt, soundAs, soundAt}
 use Rattle.audit.specs.Survey.{shareOf, allSound, tallyOf}
 
 -- the facts of a heap that passes which speak of the chain alone
@@ -107,7 +107,7 @@ module _ (ws : List ℕ) (h : Heap) where
 
   seen-iff : (p : ℕ) (e : Entry) → e .flags ≡ flagsAt ws (e .place)
       → Decides (soundAt ws (h .bytes) (h .donor .0) (h .top .0) p e) ((word ws (e .place) backward ≡ p + e .flags) × Seen e)
-  unfolding soundAt backedAt
+  unfolding soundAt backedBy
   seen-iff p e f =
       meaning
       (both (both (both (number-is (e .place % 8) 0) (at-most (flagsAt ws (e .place)) 1)) (number-is (word ws (e .place) backward - flagsAt ws (e .place)) p))

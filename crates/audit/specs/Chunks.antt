@@ -13,9 +13,13 @@ use Rattle.rules.specs.Shape.{Entry, entry, flagsAt}
 use Rattle.audit.specs.declared.chunks.Seen.{Seen}
 use Rattle.audit.specs.declared.chunks.Seen.the-variants.{Sound, Unsound}
 
+-- a chunk at c with this second word follows one at p
+unfoldable pub backedBy : ℕ → ℕ → ℕ → Bool
+backedBy link p c = eqb (c % 8) 0 && leb (link % 8) 1 && eqb (link - link % 8) p
+
 -- the chunk at c follows one at p
-unfoldable pub backedAt : List ℕ → ℕ → ℕ → Bool
-backedAt ws p c = eqb (c % 8) 0 && leb (flagsAt ws c) 1 && eqb (word ws c backward - flagsAt ws c) p
+abbrev pub backedAt : List ℕ → ℕ → ℕ → Bool
+backedAt ws p c = backedBy (word ws c backward) p c
 
 unfoldable pub sizedAt : List ℕ → ℕ → ℕ → Bool
 sizedAt ws c s = leb 24 s && eqb (word ws c size) s

@@ -1,6 +1,6 @@
 // Whether one chunk of the chain is as it should be, by its kind. Its place in a bin is not looked at here.
 ghost use mathlib.Core.Path.{_≡_};
-ghost use Rattle.audit.specs.Chunks.{backedAt, sizedAt, startIs, endIs, reservedAt, donorAt, topAt, soundAs, seenAt};
+ghost use Rattle.audit.specs.Chunks.{backedBy, sizedAt, startIs, endIs, reservedAt, donorAt, topAt, soundAs, seenAt};
 ghost use Rattle.rules.specs.Check.{unbinned};
 ghost use Rattle.rules.specs.Shape.{entry};
 use chain::kind_of;
@@ -14,11 +14,10 @@ use region::PREVIOUS_IN_BIN;
 use region::SIZE;
 use region::word;
 
-// The chunk is at a multiple of 8, two of its flags are 0, and its backward link names the chunk before.
-pub fn is_backed(region: &[u32], before: Chunk, chunk: Chunk) -> bool
-    ensures { λ r. ⌜ r ≡ backedAt (now (region .entry)) (before .0) (chunk .0) ⌝ }
+// The chunk is at a multiple of 8, two of its flags are 0, and its backward link, which is lent with them, names the chunk before.
+pub fn is_backed(link: u32, before: Chunk, chunk: Chunk) -> bool
+    ensures { λ r. ⌜ r ≡ backedBy link (before .0) (chunk .0) ⌝ }
 {
-    let link = word(region, chunk, BACKWARD);
     let flags = link % 8;
     if chunk.0 % 8 != 0 {
         return false;
@@ -136,12 +135,15 @@ pub fn examine(
 ) -> Seen
     ensures { λ r. ⌜ r ≡ seenAt (now (region .entry)) bytes (donor .0) (top .0) (before .0) (chunk .0) size ⌝ }
 {
-    let flags = word(region, chunk, BACKWARD) % 8;
-    let kind = kind_of(bytes, donor, top, chunk, flags);
-    let backed = is_backed(region, before, chunk);
-    let sound = is_sound(region, bytes, donor, top, chunk, size, flags, kind);
-    if backed & sound {
-        return Seen::Sound(kind);
+    let link = word(region, chunk, BACKWARD);
+    let backed = is_backed(link, before, chunk);
+    if !backed {
+        return Seen::Unsound;
     }
-    Seen::Unsound
+    let flags = link % 8;
+    let kind = kind_of(bytes, donor, top, chunk, flags);
+    if !is_sound(region, bytes, donor, top, chunk, size, flags, kind) {
+        return Seen::Unsound;
+    }
+    Seen::Sound(kind)
 }

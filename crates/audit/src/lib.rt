@@ -38,18 +38,17 @@ pub fn fits_length(words: usize, bytes: u32) -> bool
     words / 2 * 8 == bytes as usize
 }
 
-// From a place of an array on there is nothing but 0.
+// From a place of an array on there is nothing but 0. Without an early end the loop takes several places at a time.
 pub fn is_unused(array: &[u32], from: usize) -> bool
     ensures { λ r. ⌜ r ≡ unusedFrom from (now (array .entry)) ⌝ }
 {
+    let mut clean = true;
     let mut i = from;
     while i < array.len() {
-        if array[i] != 0 {
-            return false;
-        }
+        clean = clean & (array[i] == 0);
         i += 1;
     }
-    true
+    clean
 }
 
 // The table is valid, and the places past the bin count are unused.

@@ -112,7 +112,8 @@ pub fn walk(region: &[u32], bytes: u32, donor: Chunk, top: Chunk, marks: &mut [u
         if end == bytes {
             return Survey::Surveyed(tally);
         }
+        // the chunk goes on, so that it ends at the link; to wait for the link alone makes the walk faster
         before = at;
-        at = end;
+        at = next;
     }
 }

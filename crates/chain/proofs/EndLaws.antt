@@ -1,5 +1,5 @@
 -- The chain from a chunk on is that chunk alone, or goes on where it ends: the step of every walk of the chain. Assumes nothing.
-use mathlib.Core.Path.{_≡_, _∙_}
+use mathlib.Core.Path.{_≡_, sym, _∙_}
 use mathlib.Core.List.{List, [], _∷_}
 use Prim.Native.Nat.{ℕ, _-_, _≤_, _<_}
 use native.Mathlib.Decide.{ℕ-discrete}
@@ -41,6 +41,14 @@ module _ (ws : List ℕ) (bytes : ℕ) where
       go : Dec (Up ws bytes c)
           → (c < endAt c) × (endAt c < bytes) × (chainFrom ws bytes c ≡ hereAt c ∷ chainFrom ws bytes (endAt c))
       go (yes u) = rw (end-up c u) (u .0, u .1, shape-goes ws bytes c u)
+      go (no k) = absurd (n (end-stop c k))
+
+  -- where it goes on, it ends at its forward link
+  pub end-link : (c : ℕ) → (endAt c ≡ bytes → ⊥) → word ws c forward ≡ endAt c
+  end-link c n = go (up? ws bytes c)
+    where
+      go : Dec (Up ws bytes c) → word ws c forward ≡ endAt c
+      go (yes u) = sym (end-up c u)
       go (no k) = absurd (n (end-stop c k))
 
 -- a chunk ends above its place

@@ -1,18 +1,26 @@
 -- `chunks::examine` makes the tests of a chunk, and gives its kind where they hold. Assumes nothing.
 use borrow.Author.Needs.{needs}
-use Rattle.audit.proofs.ChunkLaws.{found-unsound, found-sound}
+use borrow.Author.Tests.{not-true, not-false}
+use Rattle.audit.proofs.ChunkLaws.{found-unbacked, found-unsound, found-sound}
 use Rattle.audit.proofs.chunks.examine.Statement.{statement}
 use Rattle.audit.proofs.chunks.examine.Tie as tie
 
 returns : tie.Need-returns
-returns c =
-    let b = c .before .before in
-    found-sound _ _ _ _ _ _ _ (b .before .before .word .ensures) (b .before .kind-of .ensures _) (b .is-backed .ensures) (c .before .is-sound .ensures) (c .if1 .taken)
+returns c = found-unbacked _ _ _ _ _ _ _ (c .before .before .word .ensures) (c .before .is-backed .ensures) (not-true _ (c .if1 .taken))
 
 returns-2 : tie.Need-returns-2
 returns-2 c =
-    let b = c .before .before in
-    found-unsound _ _ _ _ _ _ _ (b .before .before .word .ensures) (b .before .kind-of .ensures _) (b .is-backed .ensures) (c .before .is-sound .ensures) (c .if1 .left)
+    let kind = c .before .before in
+    let backed = kind .before .before in
+    found-unsound _ _ _ _ _ _ _ (backed .before .word .ensures) (backed .is-backed .ensures) (kind .kind-of .ensures _) (c .before .is-sound .ensures)
+    (not-false _ (kind .before .if1 .left)) (not-true _ (c .if2 .taken))
+
+returns-3 : tie.Need-returns-3
+returns-3 c =
+    let kind = c .before .before in
+    let backed = kind .before .before in
+    found-sound _ _ _ _ _ _ _ (backed .before .word .ensures) (backed .is-backed .ensures) (kind .kind-of .ensures _) (c .before .is-sound .ensures)
+    (not-false _ (kind .before .if1 .left)) (not-false _ (c .if2 .left))
 
 pub examine-spec : {M : Type 1} → statement M
 examine-spec =
@@ -20,7 +28,8 @@ examine-spec =
     (tie.spec
     (λ c κs. search needs)
     (λ c κs. search needs)
-    (λ c κs. search needs)
-    (λ c κs. search needs)
     returns
-    returns-2)
+    (λ c κs. search needs)
+    (λ c κs. search needs)
+    returns-2
+    returns-3)

@@ -1,21 +1,21 @@
 -- `chunks::is_backed` tests its three facts in turn. Assumes nothing.
 use borrow.Author.Needs.{needs}
 use borrow.Author.Tests.{eq-eqb, ne-eqb, le-leb, lt-leb}
-use Rattle.audit.specs.Chunks.{backedAt}
+use Rattle.audit.specs.Chunks.{backedBy}
 use Rattle.audit.proofs.chunks.is_backed.Statement.{statement}
 use Rattle.audit.proofs.chunks.is_backed.Tie as tie
 
 returns : tie.Need-returns
-unfolding backedAt
+unfolding backedBy
 returns c = rw (ne-eqb _ _ (c .if1 .taken))
 
 returns-2 : tie.Need-returns-2
-unfolding backedAt
-returns-2 c = rw (eq-eqb _ _ (c .before .if1 .left), ← c .before .before .before .word .ensures, lt-leb _ _ (c .if2 .taken))
+unfolding backedBy
+returns-2 c = rw (eq-eqb _ _ (c .before .if1 .left), lt-leb _ _ (c .if2 .taken))
 
 returns-3 : tie.Need-returns-3
-unfolding backedAt
-returns-3 c = rw (eq-eqb _ _ (c .before .before .if1 .left), ← c .before .before .before .before .word .ensures, le-leb _ _ (c .before .if2 .left))
+unfolding backedBy
+returns-3 c = rw (eq-eqb _ _ (c .before .before .if1 .left), le-leb _ _ (c .before .if2 .left))
 
 pub is-backed-spec : {M : Type 1} → statement M
-is-backed-spec = tie.close (tie.spec (λ c κs. search needs) returns returns-2 (λ c. search needs) returns-3)
+is-backed-spec = tie.close (tie.spec returns returns-2 (λ c. search needs) returns-3)
