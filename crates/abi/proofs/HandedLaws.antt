@@ -1,18 +1,24 @@
 -- What a call leaves to C, from what its steps ensure: the reply's words, and the rule's outcome. Assumes nothing.
 use mathlib.Core.Path.{_≡_, refl, sym, ap, _∙_}
-use mathlib.Core.List.{List}
+use mathlib.Core.Bool.{Bool, true, false, cond}
+use mathlib.Core.List.{List, [], _∷_}
 use Prim.Native.Nat.{ℕ, _<_, _≤_}
-use lib.ListN.{getD}
+use lib.Dec.{eqb, ltb}
+use lib.ListN.{length, getD}
 use borrow.Author.Tests.{eq-eqb, ne-eqb, le-leb, lt-leb}
 use Rattle.record.specs.declared.answers.Answer.{Answer}
 use Rattle.record.specs.declared.answers.Answer.the-variants.{Done, Granted, Returned, Told, Counted, Refused}
 use Rattle.record.specs.declared.answers.Refusal.the-variants.{HeapFails}
 use Rattle.record.specs.declared.answers.Reply.{Reply}
 use Rattle.record.specs.declared.heap.Heap.{Heap}
-use Rattle.rules.specs.Outcome.{Outcome}
+use Rattle.rules.specs.Ask.{chunkAnswers, binAnswers, askedSpot, isThere, askRefusals, asked, askChunk, askBin}
+use Rattle.rules.specs.Draft.{asRead}
+use Rattle.rules.specs.Merge.{check}
+use Rattle.rules.specs.Outcome.{Outcome, Refusals, judged, heapFails}
 use Rattle.rules.specs.Statements.{Left, Meets}
 use Rattle.abi.specs.Flat.{mergePlace, recordIn, recordOut, answerOut, refusalOut}
 use Rattle.abi.specs.Handed.{handed, handedBy, openedBy, flatAfter}
+use Rattle.abi.proofs.BackLaws.{back-and-flat}
 
 -- the first word is what the call returns
 pub refusal-first : (a : Answer) → getD (answerOut a) 0 0 ≡ refusalOut a
@@ -55,6 +61,48 @@ module _ (ws rs : List ℕ) where
   unfolding handedBy
   answers call heap reply after r five state l q m (n, (e, p)) =
       rw (le-leb _ _ l, sym q, sym (ap (λ (x : Left). x .answer) m), sym (ap (λ (x : Left). x .heap) m), sym (ap (λ (x : Left). x .words) m), n, e, p) refl
+
+  -- a call that leaves the record as it is: the words that say it stay
+  module _ (whole : length rs ≡ 102) (l : getD rs mergePlace 0 ≤ 1) where
+    flat-stays : (a : Answer) → flatAfter rs a (recordIn rs) ≡ rs
+    unfolding flatAfter
+    flat-stays a = by (eqb (refusalOut a) 0)
+      where
+        by : (t : Bool) → cond t (recordOut (recordIn rs)) rs ≡ rs
+        by true = back-and-flat rs whole l
+        by false = refl
+
+    pub tells : (call : Heap → Outcome) → ((h : Heap) → call h .heap ≡ h)
+        → (heap : Heap) (reply : Reply) (after : List ℕ) (r : ℕ) (five : List ℕ)
+        → heap ≡ recordIn rs → Meets ws (call heap) reply after
+        → (r ≡ refusalOut (reply .answer)) × (five ≡ answerOut (reply .answer))
+        → handed r five rs after ≡ handedBy ws rs (call (recordIn rs))
+    tells call stays heap reply after r five q m (n, e) =
+        let kept : reply .heap ≡ recordIn rs = ap (λ (x : Left). x .heap) m ∙ stays heap ∙ q in
+        answers call heap reply after r five rs l q m (n, (e, sym (ap (flatAfter rs (reply .answer)) kept ∙ flat-stays (reply .answer))))
+
+-- the check and the questions leave the record as it is, refused or not
+judged-stays : (h : Heap) (ts : Refusals) (o : Outcome) → o .heap ≡ h → judged h ts o .heap ≡ h
+judged-stays h [] o e = e
+judged-stays h ((true, x) ∷ ts) o e = refl
+judged-stays h ((false, x) ∷ ts) o e = judged-stays h ts o e
+
+pub check-stays : (ws : List ℕ) (h : Heap) → check ws h .heap ≡ h
+unfolding check
+check-stays ws h = refl
+
+pub chunk-stays : (ws : List ℕ) (q p : ℕ) (h : Heap) → askChunk ws h q p .heap ≡ h
+unfolding askChunk
+chunk-stays ws q p h =
+    let d = asRead ws h in
+    let answers = chunkAnswers d (askedSpot d q p) in
+    judged-stays h (askRefusals (heapFails ws h) q answers (isThere d q p)) (asked h q answers) refl
+
+pub bin-stays : (ws : List ℕ) (q i : ℕ) (h : Heap) → askBin ws h q i .heap ≡ h
+unfolding askBin
+bin-stays ws q i h =
+    let answers = binAnswers (asRead ws h .lists i) in
+    judged-stays h (askRefusals (heapFails ws h) q answers (ltb i (h .bins))) (asked h q answers) refl
 
 -- setup
 pub opens : (ws : List ℕ) (o : Outcome) (reply : Reply) (after five state : List ℕ) → Meets ws o reply after

@@ -1,5 +1,5 @@
 pub mod FlatLaws
 pub mod ComplementLaws
 pub mod AnswerLaws
-pub mod HandedLaws
 pub mod BackLaws
+pub mod HandedLaws

@@ -29,6 +29,7 @@ fn copy(to: &mut [u32], at: usize, from: &[u32])
 
 pub fn unpack(words: [u32; 102]) -> Heap
     ensures { λ r. ⌜ r ≡ recordIn words ⌝ }
+    ensures { λ _. ⌜ length words ≡ 102 ⌝ }
 {
     let mut sizes = [0; 32];
     let mut heads = [0; 32];
@@ -100,6 +101,16 @@ pub fn refuse_record(answer: &mut [u32; 5]) -> u32
     let words = answer_words(Answer::Refused(Refusal::HeapFails));
     *answer = words;
     4
+}
+
+// The answer alone, of a call that leaves the record as it was.
+pub fn tell(said: Answer, answer: &mut [u32; 5]) -> u32
+    ensures { λ r. ⌜ (r ≡ refusalOut said) × (now (answer .exit) ≡ answerOut said) ⌝ }
+{
+    let words = answer_words(said);
+    let refusal = words[0];
+    *answer = words;
+    refusal
 }
 
 // A refusal leaves the record's words as they are.

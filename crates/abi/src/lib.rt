@@ -14,6 +14,7 @@ use crate::flat::answer_words;
 use crate::flat::hand_back;
 use crate::flat::pack;
 use crate::flat::refuse_record;
+use crate::flat::tell;
 use crate::flat::unpack;
 use region::Block;
 
@@ -136,7 +137,8 @@ pub extern "C" fn kz_check(region: &mut [u32], state: &mut [u32; 102], answer: &
     }
     let heap = unpack(*state);
     let reply = heap::check(region, heap);
-    hand_back(reply, state, answer)
+    let said = reply.answer;
+    tell(said, answer)
 }
 
 #[no_mangle]
@@ -154,7 +156,8 @@ pub extern "C" fn kz_ask_chunk(
     }
     let heap = unpack(*state);
     let reply = heap::ask_chunk(region, heap, question, place);
-    hand_back(reply, state, answer)
+    let said = reply.answer;
+    tell(said, answer)
 }
 
 #[no_mangle]
@@ -172,5 +175,6 @@ pub extern "C" fn kz_ask_bin(
     }
     let heap = unpack(*state);
     let reply = heap::ask_bin(region, heap, question, bin);
-    hand_back(reply, state, answer)
+    let said = reply.answer;
+    tell(said, answer)
 }

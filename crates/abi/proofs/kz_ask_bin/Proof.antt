@@ -1,7 +1,7 @@
 -- `abi::kz_ask_bin` answers a question about a bin, on the record that the words say. Assumes nothing.
 use borrow.Author.Needs.{needs}
 use Rattle.rules.specs.Ask.{askBin}
-use Rattle.abi.proofs.HandedLaws.{refuses, answers}
+use Rattle.abi.proofs.HandedLaws.{refuses, tells, bin-stays}
 use Rattle.abi.proofs.kz_ask_bin.Statement.{statement}
 use Rattle.abi.proofs.kz_ask_bin.Tie as tie
 
@@ -10,8 +10,12 @@ returns c = refuses _ _ _ _ _ (c .before .before .if1 .taken) (c .refuse-record 
 
 returns-2 : tie.Need-returns-2
 returns-2 c =
-    let a = c .before .before .before .before .before .before .before .before .before .before .before .before .args in
-    answers _ _ (λ h. askBin (a .region .now) h (a .question) (a .bin)) _ _ _ _ _ _ (c .before .before .before .before .before .before .before .before .before .if1 .left) (c .before .before .before .before .before .before .before .unpack .ensures) (c .before .before .before .before .before .ask-bin .ensures) (c .hand-back .ensures)
+    let said = c .before .before .before .before in
+    let unpacked = said .before .before in
+    let tested = unpacked .before .before in
+    let a = tested .before .before .before .args in
+    tells (a .region .now) (a .state .now) (unpacked .unpack .ensures .1) (tested .if1 .left) (λ h. askBin (a .region .now) h (a .question) (a .bin)) (bin-stays (a .region .now) (a .question) (a .bin)) _ _ _ _ _
+    (unpacked .unpack .ensures .0) (said .ask-bin .ensures) (c .tell .ensures)
 
 pub kz-ask-bin-spec : {M : Type 1} → statement M
 kz-ask-bin-spec =

@@ -1,7 +1,7 @@
 -- `abi::kz_ask_chunk` answers a question about a chunk, on the record that the words say. Assumes nothing.
 use borrow.Author.Needs.{needs}
 use Rattle.rules.specs.Ask.{askChunk}
-use Rattle.abi.proofs.HandedLaws.{refuses, answers}
+use Rattle.abi.proofs.HandedLaws.{refuses, tells, chunk-stays}
 use Rattle.abi.proofs.kz_ask_chunk.Statement.{statement}
 use Rattle.abi.proofs.kz_ask_chunk.Tie as tie
 
@@ -10,8 +10,12 @@ returns c = refuses _ _ _ _ _ (c .before .before .if1 .taken) (c .refuse-record 
 
 returns-2 : tie.Need-returns-2
 returns-2 c =
-    let a = c .before .before .before .before .before .before .before .before .before .before .before .before .args in
-    answers _ _ (λ h. askChunk (a .region .now) h (a .question) (a .place)) _ _ _ _ _ _ (c .before .before .before .before .before .before .before .before .before .if1 .left) (c .before .before .before .before .before .before .before .unpack .ensures) (c .before .before .before .before .before .ask-chunk .ensures) (c .hand-back .ensures)
+    let said = c .before .before .before .before in
+    let unpacked = said .before .before in
+    let tested = unpacked .before .before in
+    let a = tested .before .before .before .args in
+    tells (a .region .now) (a .state .now) (unpacked .unpack .ensures .1) (tested .if1 .left) (λ h. askChunk (a .region .now) h (a .question) (a .place)) (chunk-stays (a .region .now) (a .question) (a .place)) _ _ _ _ _
+    (unpacked .unpack .ensures .0) (said .ask-chunk .ensures) (c .tell .ensures)
 
 pub kz-ask-chunk-spec : {M : Type 1} → statement M
 kz-ask-chunk-spec =

@@ -15,11 +15,11 @@ returns : tie.Need-returns
 unfolding recordIn
 returns c =
     let s = c .before .before .before .before .before .before .before .before .before .before .before .before .before .before .before in
-    rw (
-      c .before .copy3 .ensures ∙ fills (replicate 32 0) (take 32 (drop 70 (s .args .t1))) refl (part-length (s .args .t1) 70 (whole s) (omega arith)),
-      c .before .before .before .before .before .before .copy2 .ensures ∙ fills (replicate 32 0) (take 32 (drop 38 (s .args .t1))) refl (part-length (s .args .t1) 38 (whole s) (omega arith)),
-      c .before .before .before .before .before .before .before .before .before .before .before .copy .ensures ∙ fills (replicate 32 0) (take 32 (drop 6 (s .args .t1))) refl (part-length (s .args .t1) 6 (whole s) (omega arith)),
-    )
+    (rw (
+        c .before .copy3 .ensures ∙ fills (replicate 32 0) (take 32 (drop 70 (s .args .t1))) refl (part-length (s .args .t1) 70 (whole s) (omega arith)),
+        c .before .before .before .before .before .before .copy2 .ensures ∙ fills (replicate 32 0) (take 32 (drop 38 (s .args .t1))) refl (part-length (s .args .t1) 38 (whole s) (omega arith)),
+        c .before .before .before .before .before .before .before .before .before .before .before .copy .ensures ∙ fills (replicate 32 0) (take 32 (drop 6 (s .args .t1))) refl (part-length (s .args .t1) 6 (whole s) (omega arith)),
+      ), whole s)
 
 pub unpack-spec : {M : Type 1} → statement M
 unpack-spec =
