@@ -208,6 +208,10 @@ module _ (ws : List ℕ) (bytes donor top : ℕ) where
                 ∙ (rw (r .2) at (o .tally));
           })
 
+-- a share is added, whatever it is called
+pub tallies : (t : Tally) (c : ℕ) (s s′ : Share) {t′ : Tally} → s ≡ s′ → t′ ≡ added t s c → t′ ≡ added t s′ c
+tallies t c s s′ q e = e ∙ ap (λ (x : Share). added t x c) q
+
 -- what the code holds when it has looked at the chunk at c: its forward link n, its end e, and what was seen
 module _ (ws : List ℕ) (bytes donor top p c n e : ℕ) (seen : Seen) (en : n ≡ word ws c forward) (ee : e ≡ endOf bytes c n)
     (es : seen ≡ seenAt ws bytes donor top p c (e - c)) where

@@ -49,19 +49,6 @@ fn shares(ordinary: u32, donors: u32, tops: u32, used: u32, free: u32) -> Share
     }
 }
 
-pub fn share_of(kind: Kind, size: u32) -> Share
-    ensures { λ r. ⌜ r ≡ shareOf kind size ⌝ }
-{
-    match kind {
-        Kind::Start => shares(0, 0, 0, 0, 0),
-        Kind::InUse => shares(0, 0, 0, size, 0),
-        Kind::Ordinary => shares(1, 0, 0, 0, size),
-        Kind::Donor => shares(0, 1, 0, 0, size),
-        Kind::Top => shares(0, 0, 1, 0, size),
-        Kind::End => shares(0, 0, 0, 0, 0),
-    }
-}
-
 // The sums never wrap: all sizes together are the heap bytes.
 pub fn added(tally: Tally, share: Share, chunk: Chunk) -> Tally
     ensures { λ r. ⌜ r ≡ added tally share (chunk .0) ⌝ }
@@ -74,6 +61,20 @@ pub fn added(tally: Tally, share: Share, chunk: Chunk) -> Tally
         used: std::num::wrapping_add_u32(tally.used, share.used),
         free: std::num::wrapping_add_u32(tally.free, share.free),
         end: chunk.0,
+    }
+}
+
+// A share of its own in each arm, so that a chunk costs only the counts that it changes.
+pub fn tallied(tally: Tally, kind: Kind, size: u32, chunk: Chunk) -> Tally
+    ensures { λ r. ⌜ r ≡ added tally (shareOf kind size) (chunk .0) ⌝ }
+{
+    match kind {
+        Kind::Start => added(tally, shares(0, 0, 0, 0, 0), chunk),
+        Kind::InUse => added(tally, shares(0, 0, 0, size, 0), chunk),
+        Kind::Ordinary => added(tally, shares(1, 0, 0, 0, size), chunk),
+        Kind::Donor => added(tally, shares(0, 1, 0, 0, size), chunk),
+        Kind::Top => added(tally, shares(0, 0, 1, 0, size), chunk),
+        Kind::End => added(tally, shares(0, 0, 0, 0, 0), chunk),
     }
 }
 
@@ -108,7 +109,7 @@ pub fn walk(region: &[u32], bytes: u32, donor: Chunk, top: Chunk, marks: &mut [u
             return Survey::Broken;
         };
         mark(marks, kind, Chunk(at));
-        tally = added(tally, share_of(kind, size), Chunk(at));
+        tally = tallied(tally, kind, size, Chunk(at));
         if end == bytes {
             return Survey::Surveyed(tally);
         }

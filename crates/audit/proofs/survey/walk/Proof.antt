@@ -40,31 +40,31 @@ same-length-2 c = search needs
 
 returns-2 : tie.Need-returns-2 Inv-loop μ-loop
 returns-2 c =
-    let told = c .before .before .before .before .before .before .before .before in
+    let told = c .before .before .before .before .before .before .before in
     let read = told .before .before .before .before in
     walk-ends _ _ _ _ _ _ _ _ _ (read .word .ensures) (told .before .before .before .end-of .ensures)
     (told .before .before .examine .ensures) (omega arith) _ _ _ (read .before .loop .inv .0)
-    _ (told .seen .given .1) _ (c .before .before .share-of .ensures) _ (c .before .added .ensures)
-    _ (c .before .before .before .before .before .mark .ensures) (c .if1 .taken)
+    _ (told .seen .given .1) _ refl _ (c .before .tallied .ensures)
+    _ (c .before .before .before .before .mark .ensures) (c .if1 .taken)
 
 loop-less : tie.Need-loop-less Inv-loop μ-loop
 loop-less c =
-    let told = c .before .before .before .before .before .before .before .before in
+    let told = c .before .before .before .before .before .before .before in
     let read = told .before .before .before .before in
     let goes = walk-goes _ _ _ _ _ _ _ _ _ (read .word .ensures) (told .before .before .before .end-of .ensures)
     (told .before .before .examine .ensures) (omega arith) _ _ _ (read .before .loop .inv .0)
-    _ (told .seen .given .1) _ (c .before .before .share-of .ensures) _ (c .before .added .ensures)
-    _ (c .before .before .before .before .before .mark .ensures) (c .if1 .left) in
+    _ (told .seen .given .1) _ refl _ (c .before .tallied .ensures)
+    _ (c .before .before .before .before .mark .ensures) (c .if1 .left) in
     omega (arith, goes .0, goes .1)
 
 loop-again : tie.Need-loop-again Inv-loop μ-loop
 loop-again c =
-    let told = c .before .before .before .before .before .before .before .before in
+    let told = c .before .before .before .before .before .before .before in
     let read = told .before .before .before .before in
     let goes = walk-goes _ _ _ _ _ _ _ _ _ (read .word .ensures) (told .before .before .before .end-of .ensures)
     (told .before .before .examine .ensures) (omega arith) _ _ _ (read .before .loop .inv .0)
-    _ (told .seen .given .1) _ (c .before .before .share-of .ensures) _ (c .before .added .ensures)
-    _ (c .before .before .before .before .before .mark .ensures) (c .if1 .left) in
+    _ (told .seen .given .1) _ refl _ (c .before .tallied .ensures)
+    _ (c .before .before .before .before .mark .ensures) (c .if1 .left) in
     (goes .2, search needs)
 
 pub walk-spec : {M : Type 1} → statement M
@@ -82,7 +82,6 @@ walk-spec =
     (λ c. search needs)
     same-length
     returns
-    (λ c κs. search needs)
     (λ c κs. search needs)
     (λ c κs. search needs)
     same-length-2
