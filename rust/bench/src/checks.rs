@@ -1,0 +1,80 @@
+//! The check against its limit: a walk by hand in C over the same heaps.
+
+use crate::clock::{interleaved, Work};
+use crate::peers::{Allocator, Kruzhvela};
+use kruzhvela::flat::{self, ANSWER_WORDS};
+use std::hint::black_box;
+
+extern "C" {
+    fn limit_check(region: *const u32, words: usize, record: *const u32, answer: *mut u32) -> bool;
+}
+
+#[derive(Clone, Copy, Debug, PartialEq, Eq)]
+pub enum Fill {
+    AllFree,
+    AllUsed,
+    Mixed,
+}
+
+pub const FILLS: [(Fill, &str); 3] = [(Fill::AllFree, "all free"), (Fill::AllUsed, "all used"), (Fill::Mixed, "mixed")];
+
+/// A row of the table: the heap, nanoseconds of the check and of the limit.
+pub struct Row {
+    pub fill: Fill,
+    pub chunks: u32,
+    pub ours: f64,
+    pub limit: f64,
+}
+
+/// Chunks of a few sizes, without joining, so that they stay; then all, none or every second of them are given back.
+fn heap(chunks: u32, fill: Fill) -> Kruzhvela {
+    let words = if chunks > 1_000 { 16_384 } else { chunks as usize * 12 };
+    let mut heap = Kruzhvela::new(words, &[24, 32, 40, 48, 56, 64], 0, false);
+    let sizes: &[u32] = if chunks > 1_000 { &[16] } else { &[16, 24, 32] };
+    let blocks: Vec<usize> = (0..chunks as usize - 3).map(|i| heap.allocate(sizes[i % sizes.len()])).collect();
+    for (i, &block) in blocks.iter().enumerate() {
+        assert_ne!(block, 0, "there is room for all chunks");
+        if fill == Fill::AllFree || fill == Fill::Mixed && i % 2 == 1 {
+            heap.free(block);
+        }
+    }
+    heap
+}
+
+fn limit(heap: &Kruzhvela) -> [u32; ANSWER_WORDS] {
+    let mut answer = [0; ANSWER_WORDS];
+    // SAFETY: the pointers are to as many words as are said.
+    unsafe { limit_check(heap.region.as_ptr(), heap.region.len(), heap.record.as_ptr(), answer.as_mut_ptr()) };
+    answer
+}
+
+fn measure(chunks: u32, fill: Fill) -> Row {
+    let mut one = heap(chunks, fill);
+    let other = heap(chunks, fill);
+    let answer = flat::check(&mut one.region, &mut one.record);
+    assert_eq!(answer, limit(&other), "both count alike");
+    assert_eq!((answer[0], answer[1]), (0, chunks));
+    let times = 2_000_000 / u64::from(chunks + 40);
+    let ours = move || {
+        for _ in 0..times {
+            black_box(flat::check(black_box(&mut one.region), &mut one.record));
+        }
+        times
+    };
+    let by_hand = move || {
+        for _ in 0..times {
+            black_box(limit(black_box(&other)));
+        }
+        times
+    };
+    let works: Vec<Work> = vec![Box::new(ours), Box::new(by_hand)];
+    let medians = interleaved(works);
+    Row { fill, chunks, ours: medians[0], limit: medians[1] }
+}
+
+pub const CHUNKS: [u32; 3] = [20, 200, 2_500];
+
+pub fn rows() -> Vec<Row> {
+    let each = FILLS.iter().flat_map(|&(fill, _)| CHUNKS.iter().map(move |&chunks| measure(chunks, fill)));
+    each.collect()
+}

@@ -1,0 +1,46 @@
+//! Loads like a station's: strips of a few sizes, most with short lives, some with long ones.
+
+/// A random row of numbers, the same in every run.
+struct Random(u64);
+
+impl Random {
+    fn below(&mut self, end: usize) -> usize {
+        self.0 = self.0.wrapping_mul(6_364_136_223_846_793_005).wrapping_add(1_442_695_040_888_963_407);
+        (self.0 >> 33) as usize % end
+    }
+}
+
+/// A step: the strip of a slot goes, and one of so many bytes comes in its place.
+#[derive(Clone, Copy)]
+pub struct Step {
+    pub slot: usize,
+    pub bytes: u32,
+}
+
+pub struct Load {
+    /// What stands in each slot at first.
+    pub first: Vec<u32>,
+    pub steps: Vec<Step>,
+}
+
+/// Sizes of strips that leave some room of 65,536 bytes free with so many of them, in every allocator measured.
+fn sizes(live: usize) -> &'static [u32] {
+    match live {
+        0..=20 => &[96, 240, 480, 960, 1_920],
+        21..=200 => &[24, 48, 96, 160, 240],
+        _ => &[8, 12, 16],
+    }
+}
+
+/// Four of five steps meet one of the last fifth of the slots: short lives. The others have long ones.
+pub fn load(live: usize, steps: usize) -> Load {
+    let mut random = Random(live as u64 + 1);
+    let sizes = sizes(live);
+    let first = (0..live).map(|_| sizes[random.below(sizes.len())]).collect();
+    let young = (live / 5).max(1);
+    let steps = (0..steps).map(|_| {
+        let slot = if random.below(5) < 4 { live - 1 - random.below(young) } else { random.below(live) };
+        Step { slot, bytes: sizes[random.below(sizes.len())] }
+    });
+    Load { first, steps: steps.collect() }
+}

@@ -1,0 +1,23 @@
+//! The proved heap's times, as ratios to peers measured in the same run: prints the tables and writes docs/BENCHMARKS.md.
+
+mod calls;
+mod checks;
+mod clock;
+mod loads;
+mod peers;
+mod report;
+
+use std::fs;
+use std::path::Path;
+
+/// Where what is written by hand begins: it is kept.
+const BY_HAND: &str = "## What the figures say";
+
+fn main() -> std::io::Result<()> {
+    let text = report::whole(&checks::rows(), &calls::rows());
+    print!("{text}");
+    let path = Path::new(env!("CARGO_MANIFEST_DIR")).join("../../docs/BENCHMARKS.md");
+    let before = fs::read_to_string(&path).unwrap_or_default();
+    let kept = before.find(BY_HAND).map_or("", |at| &before[at..]);
+    fs::write(path, format!("{text}\n{kept}"))
+}

@@ -1,0 +1,109 @@
+//! The allocators that are measured, behind one face. A handle is what the allocator gives for a block; 0 is none.
+
+use kruzhvela::flat::{self, Record, RECORD_WORDS};
+use std::ffi::c_void;
+
+pub trait Allocator {
+    fn allocate(&mut self, bytes: u32) -> usize;
+    fn cleared(&mut self, bytes: u32) -> usize;
+    fn free(&mut self, handle: usize);
+    /// The handle afterwards: the same one where it is refused.
+    fn reallocate(&mut self, handle: usize, bytes: u32) -> usize;
+}
+
+/// The proved heap, by the calls that C makes.
+pub struct Kruzhvela {
+    pub region: Vec<u32>,
+    pub record: Record,
+}
+
+impl Kruzhvela {
+    pub fn new(words: usize, table: &[u32], donor: u32, merge: bool) -> Kruzhvela {
+        let mut heap = Kruzhvela { region: vec![0; words], record: [0; RECORD_WORDS] };
+        let answer = flat::setup(&mut heap.region, table, donor, merge, &mut heap.record);
+        assert_eq!(answer[0], 0, "setup is accepted");
+        heap
+    }
+}
+
+impl Allocator for Kruzhvela {
+    fn allocate(&mut self, bytes: u32) -> usize {
+        flat::allocate(&mut self.region, &mut self.record, bytes)[1] as usize
+    }
+
+    fn cleared(&mut self, bytes: u32) -> usize {
+        flat::allocate_cleared(&mut self.region, &mut self.record, 1, bytes)[1] as usize
+    }
+
+    fn free(&mut self, handle: usize) {
+        flat::free(&mut self.region, &mut self.record, handle as u32);
+    }
+
+    fn reallocate(&mut self, handle: usize, bytes: u32) -> usize {
+        let answer = flat::reallocate(&mut self.region, &mut self.record, handle as u32, bytes);
+        if answer[0] == 0 {
+            answer[1] as usize
+        } else {
+            handle
+        }
+    }
+}
+
+/// An allocator of C's shape, over the memory that it has.
+macro_rules! c_allocator {
+    ($(#[$doc:meta])* $name:ident, $malloc:ident, $calloc:ident, $free:ident, $realloc:ident) => {
+        $(#[$doc])*
+        pub struct $name;
+
+        extern "C" {
+            fn $malloc(bytes: usize) -> *mut c_void;
+            fn $calloc(count: usize, bytes: usize) -> *mut c_void;
+            fn $free(block: *mut c_void);
+            fn $realloc(block: *mut c_void, bytes: usize) -> *mut c_void;
+        }
+
+        impl Allocator for $name {
+            fn allocate(&mut self, bytes: u32) -> usize {
+                // SAFETY: any number of bytes may be asked for.
+                unsafe { $malloc(bytes as usize) as usize }
+            }
+
+            fn cleared(&mut self, bytes: u32) -> usize {
+                // SAFETY: any number of bytes may be asked for.
+                unsafe { $calloc(1, bytes as usize) as usize }
+            }
+
+            fn free(&mut self, handle: usize) {
+                // SAFETY: the handle came from this allocator and is given back once.
+                unsafe { $free(handle as *mut c_void) }
+            }
+
+            fn reallocate(&mut self, handle: usize, bytes: u32) -> usize {
+                // SAFETY: the handle came from this allocator and was not given back.
+                let moved = unsafe { $realloc(handle as *mut c_void, bytes as usize) } as usize;
+                if moved == 0 {
+                    handle
+                } else {
+                    moved
+                }
+            }
+        }
+    };
+}
+
+c_allocator!(
+    /// glibc's, over memory that the system gives it.
+    Glibc, malloc, calloc, free, realloc
+);
+
+#[cfg(newlib)]
+c_allocator!(
+    /// newlib's full allocator, over its fixed arena.
+    NewlibFull, full_malloc, full_calloc, full_free, full_realloc
+);
+
+#[cfg(newlib)]
+c_allocator!(
+    /// newlib's nano allocator, over its fixed arena.
+    NewlibNano, nano_malloc, nano_calloc, nano_free, nano_realloc
+);
