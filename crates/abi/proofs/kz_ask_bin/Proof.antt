@@ -10,12 +10,12 @@ returns c = refuses _ _ _ _ _ (c .before .before .if1 .taken) (c .refuse-record 
 
 returns-2 : tie.Need-returns-2
 returns-2 c =
-    let said = c .before .before .before .before in
-    let unpacked = said .before .before in
-    let tested = unpacked .before .before in
-    let a = tested .before .before .before .args in
-    tells (a .region .now) (a .state .now) (unpacked .unpack .ensures .1) (tested .if1 .left) (λ h. askBin (a .region .now) h (a .question) (a .bin)) (bin-stays (a .region .now) (a .question) (a .bin)) _ _ _ _ _
-    (unpacked .unpack .ensures .0) (said .ask-bin .ensures) (c .tell .ensures)
+    let called = c .before .before .before .before in
+    let read = called .before .before in
+    let well = read .before .before in
+    let a = well .before .before .before .args in
+    tells (a .region .now) (a .state .now) (read .unpack .ensures .1) (well .if1 .left) (λ h. askBin (a .region .now) h (a .question) (a .bin)) (bin-stays (a .region .now) (a .question) (a .bin)) _ _ _ _ _
+    (read .unpack .ensures .0) (called .ask-bin .ensures) (c .tell .ensures)
 
 pub kz-ask-bin-spec : {M : Type 1} → statement M
 kz-ask-bin-spec =

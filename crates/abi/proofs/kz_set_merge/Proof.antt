@@ -10,8 +10,12 @@ returns c = refuses _ _ _ _ _ (c .before .before .if1 .taken) (c .refuse-record 
 
 returns-2 : tie.Need-returns-2
 returns-2 c =
-    let a = c .before .before .before .before .before .before .before .before .before .before .before .before .args in
-    answers _ _ (λ h. setMerge (a .region .now) h (a .on)) _ _ _ _ _ _ (c .before .before .before .before .before .before .before .before .before .if1 .left) (c .before .before .before .before .before .before .before .unpack .ensures .0) (c .before .before .before .before .before .set-merge .ensures) (c .hand-back .ensures)
+    let called = c .before .before .before .before .before in
+    let read = called .before .before in
+    let well = read .before .before in
+    let a = well .before .before .before .args in
+    answers _ _ (λ h. setMerge (a .region .now) h (a .on)) _ _ _ _ _ _ (well .if1 .left) (read .unpack .ensures .0)
+    (called .set-merge .ensures) (c .hand-back .ensures)
 
 pub kz-set-merge-spec : {M : Type 1} → statement M
 kz-set-merge-spec =

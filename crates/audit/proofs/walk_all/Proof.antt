@@ -4,32 +4,61 @@ use Rattle.audit.proofs.AuditLaws.{walk-broken, not-settled, other-used
 use Rattle.audit.proofs.walk_all.Statement.{statement}
 use Rattle.audit.proofs.walk_all.Tie as tie
 
+-- behind the test of the tally: the tally, and the walk of the chain that came to it
+module _ (tested : tie.After-is-settled) where
+  abbrev tallied : tie.After-survey
+  tallied = tested .before .before
+
+  abbrev walked : tie.After-walk
+  walked = tallied .before .before .before
+
+-- behind the sweep of the lists: the used bytes are the record's, the tally has passed its test
+module _ (swept : tie.After-sweep-bins) where
+  abbrev same-used : tie.Else2
+  same-used = swept .before .before
+
+  abbrev settled : tie.Else1
+  settled = same-used .before .before
+
+  abbrev tested : tie.After-is-settled
+  tested = settled .before
+
 returns : tie.Need-returns
 returns c = walk-broken _ _ _ _ _ _ _ _ _ (c .before .before .before .walk .ensures) (c .enum-told .given .1)
 
 returns-2 : tie.Need-returns-2
 returns-2 c =
-    not-settled _ _ _ _ _ _ _ _ _ (c .before .before .before .before .before .before .walk .ensures) (c .before .before .before .survey .given .1) (c .before .is-settled .ensures) (c .if1 .taken)
+    let test = c .before in
+    not-settled _ _ _ _ _ _ _ _ _ (walked test .walk .ensures) (tallied test .survey .given .1) (test .is-settled .ensures) (c .if1 .taken)
 
 returns-3 : tie.Need-returns-3
 returns-3 c =
-    other-used _ _ _ _ _ _ _ _ _ (c .before .before .before .before .before .before .before .before .walk .ensures) (c .before .before .before .before .before .survey .given .1) (c .before .before .before .is-settled .ensures)
+    let test = c .before .before .before in
+    other-used _ _ _ _ _ _ _ _ _ (walked test .walk .ensures) (tallied test .survey .given .1) (test .is-settled .ensures)
     (c .before .before .if1 .left) (c .if2 .taken)
 
 returns-4 : tie.Need-returns-4
 returns-4 c =
-    lists-dirty _ _ _ _ _ _ _ _ _ (c .before .before .before .before .before .before .before .before .before .before .before .before .before .walk .ensures) (c .before .before .before .before .before .before .before .before .before .before .survey .given .1) (c .before .before .before .before .before .before .before .before .is-settled .ensures)
-    (c .before .before .before .before .before .before .before .if1 .left) (c .before .before .before .before .before .if2 .left) _ (c .before .before .before .sweep-bins .ensures) (c .enum-told2 .given .1)
+    let sweep = c .before .before .before in
+    let test = tested sweep in
+    lists-dirty _ _ _ _ _ _ _ _ _ (walked test .walk .ensures) (tallied test .survey .given .1) (test .is-settled .ensures)
+    (settled sweep .if1 .left) (same-used sweep .if2 .left) _ (sweep .sweep-bins .ensures) (c .enum-told2 .given .1)
 
 returns-5 : tie.Need-returns-5
 returns-5 c =
-    other-count _ _ _ _ _ _ _ _ _ (c .before .before .before .before .before .before .before .before .before .before .before .before .before .before .before .before .walk .ensures) (c .before .before .before .before .before .before .before .before .before .before .before .before .before .survey .given .1) (c .before .before .before .before .before .before .before .before .before .before .before .is-settled .ensures)
-    (c .before .before .before .before .before .before .before .before .before .before .if1 .left) (c .before .before .before .before .before .before .before .before .if2 .left) _ (c .before .before .before .before .before .before .sweep-bins .ensures) (c .before .before .before .sweep .given .1) (c .if3 .taken)
+    let clean = c .before .before .before in
+    let sweep = clean .before .before .before in
+    let test = tested sweep in
+    other-count _ _ _ _ _ _ _ _ _ (walked test .walk .ensures) (tallied test .survey .given .1) (test .is-settled .ensures)
+    (settled sweep .if1 .left) (same-used sweep .if2 .left) _ (sweep .sweep-bins .ensures) (clean .sweep .given .1) (c .if3 .taken)
 
 returns-6 : tie.Need-returns-6
 returns-6 c =
-    all-well _ _ _ _ _ _ _ _ _ (c .before .before .before .before .before .before .before .before .before .before .before .before .before .before .before .before .walk .ensures) (c .before .before .before .before .before .before .before .before .before .before .before .before .before .survey .given .1) (c .before .before .before .before .before .before .before .before .before .before .before .is-settled .ensures)
-    (c .before .before .before .before .before .before .before .before .before .before .if1 .left) (c .before .before .before .before .before .before .before .before .if2 .left) _ (c .before .before .before .before .before .before .sweep-bins .ensures) (c .before .before .before .sweep .given .1) (c .if3 .left)
+    let clean = c .before .before .before in
+    let sweep = clean .before .before .before in
+    let test = tested sweep in
+    all-well _ _ _ _ _ _ _ _ _ (walked test .walk .ensures) (tallied test .survey .given .1) (test .is-settled .ensures)
+    (settled sweep .if1 .left) (same-used sweep .if2 .left) _ (sweep .sweep-bins .ensures) (clean .sweep .given .1) (c .if3 .left)
 
 pub walk-all-spec : {M : Type 1} → statement M
 walk-all-spec =

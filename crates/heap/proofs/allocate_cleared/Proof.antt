@@ -1,13 +1,32 @@
 -- `heap::allocate_cleared` does what the rule says, on every region and every record. Assumes nothing.
-use mathlib.Core.Path.{sym, _∙_}
+use mathlib.Core.Path.{_≡_, sym, _∙_}
+use mathlib.Core.Bool.{true}
+use Prim.Native.Nat.{_*_}
 use native.Mathlib.Omega.{arith}
 use lib.Seq.{length-take-le}
 use borrow.Author.Needs.{needs}
 use borrow.Author.Tests.{not-true, not-false}
+use Rattle.rules.specs.Check.{passes}
+use Rattle.rules.specs.Serve.{permitted}
 use Rattle.heap.proofs.CallLaws.{bins-there}
 use Rattle.heap.proofs.AllocateLaws.{permitted-fits, product-fits, cleared-fails, cleared-refuses, cleared-grants}
 use Rattle.heap.proofs.allocate_cleared.Statement.{statement}
 use Rattle.heap.proofs.allocate_cleared.Tie as tie
+
+heap-passes : (c : tie.Else1) → let a = c .before .before .before .before .args in passes (a .region .now) (a .heap) ≡ true
+heap-passes c = sym (c .before .passes .ensures) ∙ not-false _ (c .if1 .left)
+
+-- past the test of the size: the heap passes
+abbrev checked : tie.Else2 → tie.Else1
+checked c = c .before .before
+
+size-permitted : (c : tie.Else2)
+    → let a = checked c .before .before .before .before .args in permitted (a .count * a .size) ≡ true
+size-permitted c = sym (c .before .is-permitted .ensures) ∙ not-false _ (c .if2 .left)
+
+-- behind the size of the chunk that is needed: the product is permitted
+abbrev sized : tie.After-need-of → tie.Else2
+sized c = c .before .before .before
 
 returns : tie.Need-returns
 returns c = rw (c .refused .ensures) (cleared-fails _ _ _ _ (sym (c .before .before .passes .ensures) ∙ not-true _ (c .before .if1 .taken)))
@@ -20,15 +39,21 @@ fits c =
 returns-2 : tie.Need-returns-2
 returns-2 c =
     rw (c .refused2 .ensures)
-    (cleared-refuses _ _ _ _ (sym (c .before .before .before .before .passes .ensures) ∙ not-false _ (c .before .before .before .if1 .left)) (sym (c .before .before .is-permitted .ensures) ∙ not-true _ (c .before .if2 .taken)))
+    (cleared-refuses _ _ _ _ (heap-passes (c .before .before .before))
+    (sym (c .before .before .is-permitted .ensures) ∙ not-true _ (c .before .if2 .taken)))
 
 small : tie.Need-cast-need-of
-small c = permitted-fits _ (sym (c .before .before .before .is-permitted .ensures) ∙ not-false _ (c .before .before .if2 .left))
+small c = permitted-fits _ (size-permitted (c .before .before))
+
+bins-lent : tie.Need-array-share-prefix-sizes
+bins-lent c = bins-there _ _ (heap-passes (checked (sized (c .before))))
 
 returns-3 : tie.Need-returns-3
 returns-3 c =
-    cleared-grants _ _ _ _ (sym (c .before .before .before .before .before .before .before .before .before .before .before .passes .ensures) ∙ not-false _ (c .before .before .before .before .before .before .before .before .before .before .if1 .left)) (sym (c .before .before .before .before .before .before .before .before .before .is-permitted .ensures) ∙ not-false _ (c .before .before .before .before .before .before .before .before .if2 .left))
-    _ (c .before .before .before .before .before .need-of .ensures) _ _ (c .before .before .grant-block .ensures)
+    let granted = c .before .before in
+    let needed = granted .before .before .before in
+    cleared-grants _ _ _ _ (heap-passes (checked (sized needed))) (size-permitted (sized needed))
+    _ (needed .need-of .ensures) _ _ (granted .grant-block .ensures)
 
 pub allocate-cleared-spec : {M : Type 1} → statement M
 allocate-cleared-spec =
@@ -46,8 +71,8 @@ allocate-cleared-spec =
     (λ c. search needs)
     small
     (λ c κs. search needs)
-    (λ c. bins-there _ _ (sym (c .before .before .before .before .before .before .before .passes .ensures) ∙ not-false _ (c .before .before .before .before .before .before .if1 .left)))
-    (λ c. sym (length-take-le _ _ (bins-there _ _ (sym (c .before .before .before .before .before .before .before .before .passes .ensures) ∙ not-false _ (c .before .before .before .before .before .before .before .if1 .left)))))
+    bins-lent
+    (λ c. sym (length-take-le _ _ (bins-lent (c .before))))
     (λ c κs. search needs)
     (λ c. search needs)
     returns-3)

@@ -25,23 +25,67 @@ heads-32 c = length-unmapped ℕ (c .args .heap .heads) 32 (search needs)
 tails-32 : (c : tie.Start) → length (c .args .heap .tails) ≡ 32
 tails-32 c = length-unmapped ℕ (c .args .heap .tails) 32 (search needs)
 
-with-first : (c : tie.After-copy) → BeginsWith 6 (firstOf (c .before .before .before .before .before .before .before .args .heap)) (c .copy .last .0)
-with-first c = goes-on 0 6 (replicate 102 0) (firstOf (c .before .before .before .before .before .before .before .args .heap)) [] (c .copy .last .0) refl (omega arith) (refl, refl) (c .copy .ensures)
+-- the parts are put in turn: behind each is the one before it, and behind the first the call
+abbrev start : tie.After-copy → tie.Start
+start c = c .before .before .before .before .before .before .before
 
-with-sizes : (c : tie.After-copy2) → let h = c .before .before .before .before .before .before .before .before .before .before .before .args .heap in BeginsWith 38 (firstOf h ++ h .sizes) (c .copy2 .last .0)
-with-sizes c = goes-on 6 32 (c .before .before .before .before .copy .last .0) (c .before .before .before .before .before .before .before .before .before .before .before .args .heap .sizes) _ (c .copy2 .last .0) (sizes-32 (c .before .before .before .before .before .before .before .before .before .before .before)) (omega arith) (with-first (c .before .before .before .before)) (c .copy2 .ensures)
+abbrev first-put : tie.After-copy2 → tie.After-copy
+first-put c = c .before .before .before .before
 
-with-heads : (c : tie.After-copy3) → let h = c .before .before .before .before .before .before .before .before .before .before .before .before .before .before .before .args .heap in BeginsWith 70 ((firstOf h ++ h .sizes) ++ h .heads) (c .copy3 .last .0)
-with-heads c = goes-on 38 32 (c .before .before .before .before .copy2 .last .0) (c .before .before .before .before .before .before .before .before .before .before .before .before .before .before .before .args .heap .heads) _ (c .copy3 .last .0) (heads-32 (c .before .before .before .before .before .before .before .before .before .before .before .before .before .before .before)) (omega arith) (with-sizes (c .before .before .before .before)) (c .copy3 .ensures)
+abbrev sizes-put : tie.After-copy3 → tie.After-copy2
+sizes-put c = c .before .before .before .before
 
-with-tails : (c : tie.After-copy4) → let h = c .before .before .before .before .before .before .before .before .before .before .before .before .before .before .before .before .before .before .before .args .heap in BeginsWith 102 (((firstOf h ++ h .sizes) ++ h .heads) ++ h .tails) (c .copy4 .last .0)
-with-tails c = goes-on 70 32 (c .before .before .before .before .copy3 .last .0) (c .before .before .before .before .before .before .before .before .before .before .before .before .before .before .before .before .before .before .before .args .heap .tails) _ (c .copy4 .last .0) (tails-32 (c .before .before .before .before .before .before .before .before .before .before .before .before .before .before .before .before .before .before .before)) (omega arith) (with-heads (c .before .before .before .before)) (c .copy4 .ensures)
+abbrev heads-put : tie.After-copy4 → tie.After-copy3
+heads-put c = c .before .before .before .before
+
+with-first : (c : tie.After-copy) → BeginsWith 6 (firstOf (start c .args .heap)) (c .copy .last .0)
+with-first c =
+    goes-on 0 6 (replicate 102 0) (firstOf (start c .args .heap)) [] (c .copy .last .0) refl (omega arith) (refl, refl) (c .copy .ensures)
+
+with-sizes : (c : tie.After-copy2) → let h = start (first-put c) .args .heap in BeginsWith 38 (firstOf h ++ h .sizes) (c .copy2 .last .0)
+with-sizes c =
+    let first = first-put c in
+    let s = start first in
+    goes-on 6 32 (first .copy .last .0) (s .args .heap .sizes) _ (c .copy2 .last .0) (sizes-32 s) (omega arith) (with-first first)
+    (c .copy2 .ensures)
+
+with-heads : (c : tie.After-copy3)
+    → let h = start (first-put (sizes-put c)) .args .heap in BeginsWith 70 ((firstOf h ++ h .sizes) ++ h .heads) (c .copy3 .last .0)
+with-heads c =
+    let sizes = sizes-put c in
+    let s = start (first-put sizes) in
+    goes-on 38 32 (sizes .copy2 .last .0) (s .args .heap .heads) _ (c .copy3 .last .0) (heads-32 s) (omega arith) (with-sizes sizes)
+    (c .copy3 .ensures)
+
+with-tails : (c : tie.After-copy4)
+    → let h = start (first-put (sizes-put (heads-put c))) .args .heap in
+    BeginsWith 102 (((firstOf h ++ h .sizes) ++ h .heads) ++ h .tails) (c .copy4 .last .0)
+with-tails c =
+    let heads = heads-put c in
+    let s = start (first-put (sizes-put heads)) in
+    goes-on 70 32 (heads .copy3 .last .0) (s .args .heap .tails) _ (c .copy4 .last .0) (tails-32 s) (omega arith) (with-heads heads)
+    (c .copy4 .ensures)
 
 returns : tie.Need-returns
 unfolding recordOut
 returns c =
-    let h = c .before .before .before .before .before .before .before .before .before .before .before .before .before .before .before .before .before .before .before .before .args .heap in
+    let h = start (first-put (sizes-put (heads-put (c .before)))) .args .heap in
     four-parts _ (firstOf h) (h .sizes) (h .heads) (h .tails) (with-tails (c .before)) ∙ rw (merge-word (h .merge)) refl
+
+sizes-fit : tie.Need-copy-requires-2
+sizes-fit c κs =
+    let first = c .before .before .before in
+    omega (arith, with-first first .0, sizes-32 (start first))
+
+heads-fit : tie.Need-copy-requires-3
+heads-fit c κs =
+    let sizes = c .before .before .before in
+    omega (arith, with-sizes sizes .0, heads-32 (start (first-put sizes)))
+
+tails-fit : tie.Need-copy-requires-4
+tails-fit c κs =
+    let heads = c .before .before .before in
+    omega (arith, with-heads heads .0, tails-32 (start (first-put (sizes-put heads))))
 
 pub pack-spec : {M : Type 1} → statement M
 pack-spec =
@@ -53,11 +97,11 @@ pack-spec =
     (λ c κs. search needs)
     (λ c. search needs)
     (λ c. search needs)
-    (λ c κs. omega (arith, with-first (c .before .before .before) .0, sizes-32 (c .before .before .before .before .before .before .before .before .before .before)))
+    sizes-fit
     (λ c. search needs)
     (λ c. search needs)
-    (λ c κs. omega (arith, with-sizes (c .before .before .before) .0, heads-32 (c .before .before .before .before .before .before .before .before .before .before .before .before .before .before)))
+    heads-fit
     (λ c. search needs)
     (λ c. search needs)
-    (λ c κs. omega (arith, with-heads (c .before .before .before) .0, tails-32 (c .before .before .before .before .before .before .before .before .before .before .before .before .before .before .before .before .before .before)))
+    tails-fit
     returns)

@@ -14,12 +14,18 @@ whole c = search needs
 returns : tie.Need-returns
 unfolding recordIn
 returns c =
-    let s = c .before .before .before .before .before .before .before .before .before .before .before .before .before .before .before in
-    (rw (
-        c .before .copy3 .ensures ∙ fills (replicate 32 0) (take 32 (drop 70 (s .args .t1))) refl (part-length (s .args .t1) 70 (whole s) (omega arith)),
-        c .before .before .before .before .before .before .copy2 .ensures ∙ fills (replicate 32 0) (take 32 (drop 38 (s .args .t1))) refl (part-length (s .args .t1) 38 (whole s) (omega arith)),
-        c .before .before .before .before .before .before .before .before .before .before .before .copy .ensures ∙ fills (replicate 32 0) (take 32 (drop 6 (s .args .t1))) refl (part-length (s .args .t1) 6 (whole s) (omega arith)),
-      ), whole s)
+    let tails = c .before in
+    let heads = tails .before .before .before .before .before in
+    let sizes = heads .before .before .before .before .before in
+    let s = sizes .before .before .before .before in
+    let words = s .args .t1 in (
+      rw (
+        tails .copy3 .ensures ∙ fills (replicate 32 0) (take 32 (drop 70 words)) refl (part-length words 70 (whole s) (omega arith)),
+        heads .copy2 .ensures ∙ fills (replicate 32 0) (take 32 (drop 38 words)) refl (part-length words 38 (whole s) (omega arith)),
+        sizes .copy .ensures ∙ fills (replicate 32 0) (take 32 (drop 6 words)) refl (part-length words 6 (whole s) (omega arith)),
+      ),
+      whole s,
+    )
 
 pub unpack-spec : {M : Type 1} → statement M
 unpack-spec =

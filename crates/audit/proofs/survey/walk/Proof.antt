@@ -1,6 +1,6 @@
 -- `survey::walk` examines, counts and marks the whole chain. The invariant: what is done and what is left come to the whole.
 -- The measure is what is left of the heap bytes. Assumes nothing.
-use Prim.Native.Nat.{_-_}
+use Prim.Native.Nat.{_-_, _<_}
 use native.Mathlib.Omega.{arith}
 use mathlib.Core.Path.{_≡_, refl}
 use borrow.Author.Needs.{needs}
@@ -38,34 +38,49 @@ returns c =
 same-length-2 : tie.Need-same-length-2 Inv-loop μ-loop
 same-length-2 c = search needs
 
+-- behind the new tally: the chunk is marked, its kind is told, it is examined, its end is known, its forward word is read
+module _ (tallied : tie.After-tallied Inv-loop μ-loop) where
+  abbrev marked : tie.After-mark Inv-loop μ-loop
+  marked = tallied .before .before .before
+
+  abbrev told : tie.After-seen Inv-loop μ-loop
+  told = marked .before .before .before
+
+  abbrev examined : tie.After-examine Inv-loop μ-loop
+  examined = told .before .before
+
+  abbrev ended : tie.After-end-of Inv-loop μ-loop
+  ended = examined .before
+
+  abbrev read : tie.After-word Inv-loop μ-loop
+  read = ended .before
+
 returns-2 : tie.Need-returns-2 Inv-loop μ-loop
 returns-2 c =
-    let told = c .before .before .before .before .before .before .before in
-    let read = told .before .before .before .before in
-    walk-ends _ _ _ _ _ _ _ _ _ (read .word .ensures) (told .before .before .before .end-of .ensures)
-    (told .before .before .examine .ensures) (omega arith) _ _ _ (read .before .loop .inv .0)
-    _ (told .seen .given .1) _ refl _ (c .before .tallied .ensures)
-    _ (c .before .before .before .before .mark .ensures) (c .if1 .taken)
+    let tallied = c .before in
+    let read = read tallied in
+    walk-ends _ _ _ _ _ _ _ _ _ (read .word .ensures) (ended tallied .end-of .ensures) (examined tallied .examine .ensures)
+    (omega arith) _ _ _ (read .before .loop .inv .0) _ (told tallied .seen .given .1)
+    _ refl _ (tallied .tallied .ensures) _ (marked tallied .mark .ensures) (c .if1 .taken)
+
+-- where the walk goes on, the next chunk is further on, inside the heap bytes, and the walk is where it should be
+goes : (c : tie.Else1 Inv-loop μ-loop)
+    → let t = c .before in let at = read t .before .loop .at in let next = read t .word .result in
+    let a = read t .before .before .before .before .args in
+    (at < next) × (next < a .bytes)
+    × Onward (a .region .now) (a .bytes) (a .donor .0) (a .top .0) (a .marks .now) (marked t .mark .last .0) (t .tallied .result) at next
+goes c =
+    let tallied = c .before in
+    let read = read tallied in
+    walk-goes _ _ _ _ _ _ _ _ _ (read .word .ensures) (ended tallied .end-of .ensures) (examined tallied .examine .ensures)
+    (omega arith) _ _ _ (read .before .loop .inv .0) _ (told tallied .seen .given .1)
+    _ refl _ (tallied .tallied .ensures) _ (marked tallied .mark .ensures) (c .if1 .left)
 
 loop-less : tie.Need-loop-less Inv-loop μ-loop
-loop-less c =
-    let told = c .before .before .before .before .before .before .before in
-    let read = told .before .before .before .before in
-    let goes = walk-goes _ _ _ _ _ _ _ _ _ (read .word .ensures) (told .before .before .before .end-of .ensures)
-    (told .before .before .examine .ensures) (omega arith) _ _ _ (read .before .loop .inv .0)
-    _ (told .seen .given .1) _ refl _ (c .before .tallied .ensures)
-    _ (c .before .before .before .before .mark .ensures) (c .if1 .left) in
-    omega (arith, goes .0, goes .1)
+loop-less c = omega (arith, goes c .0, goes c .1)
 
 loop-again : tie.Need-loop-again Inv-loop μ-loop
-loop-again c =
-    let told = c .before .before .before .before .before .before .before in
-    let read = told .before .before .before .before in
-    let goes = walk-goes _ _ _ _ _ _ _ _ _ (read .word .ensures) (told .before .before .before .end-of .ensures)
-    (told .before .before .examine .ensures) (omega arith) _ _ _ (read .before .loop .inv .0)
-    _ (told .seen .given .1) _ refl _ (c .before .tallied .ensures)
-    _ (c .before .before .before .before .mark .ensures) (c .if1 .left) in
-    (goes .2, search needs)
+loop-again c = (goes c .2, search needs)
 
 pub walk-spec : {M : Type 1} → statement M
 walk-spec =

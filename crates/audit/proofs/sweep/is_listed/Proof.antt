@@ -4,6 +4,22 @@ use Rattle.audit.proofs.SweepLaws.{off-eights, not-marked, other-bin, o
 use Rattle.audit.proofs.sweep.is_listed.Statement.{statement}
 use Rattle.audit.proofs.sweep.is_listed.Tie as tie
 
+-- behind the read of the bin word: the member is marked, and it is on the eights
+module _ (read : tie.After-bin-word) where
+  abbrev marked : tie.Else2
+  marked = read .before .before
+
+  abbrev on-eights : tie.Else1
+  on-eights = marked .before .before
+
+-- behind the read of the backward word: the bin word is the bin's
+module _ (read : tie.After-word2) where
+  abbrev same-bin : tie.Else3
+  same-bin = read .before
+
+  abbrev bin-read : tie.After-bin-word
+  bin-read = same-bin .before
+
 returns : tie.Need-returns
 returns c = off-eights _ _ _ _ _ _ (c .if1 .taken)
 
@@ -12,18 +28,24 @@ returns-2 c = not-marked _ _ _ _ _ _ (c .before .before .if1 .left) (c .before .
 
 returns-3 : tie.Need-returns-3
 returns-3 c =
-    other-bin _ _ _ _ _ _ (c .before .before .before .before .before .if1 .left) (c .before .before .before .before .is-marked .ensures) (c .before .before .before .if2 .left)
-    (c .before .before .word .ensures) (c .before .bin-word .ensures) (c .if3 .taken)
+    let bin = c .before in
+    other-bin _ _ _ _ _ _ (on-eights bin .if1 .left) (marked bin .before .is-marked .ensures) (marked bin .if2 .left)
+    (bin .before .word .ensures) (bin .bin-word .ensures) (c .if3 .taken)
 
 returns-4 : tie.Need-returns-4
 returns-4 c =
-    other-before _ _ _ _ _ _ (c .before .before .before .before .before .before .before .if1 .left) (c .before .before .before .before .before .before .is-marked .ensures) (c .before .before .before .before .before .if2 .left)
-    (c .before .before .before .before .word .ensures) (c .before .before .before .bin-word .ensures) (c .before .before .if3 .left) (c .before .word2 .ensures) (c .if4 .taken)
+    let back = c .before in
+    let bin = bin-read back in
+    other-before _ _ _ _ _ _ (on-eights bin .if1 .left) (marked bin .before .is-marked .ensures) (marked bin .if2 .left)
+    (bin .before .word .ensures) (bin .bin-word .ensures) (same-bin back .if3 .left) (back .word2 .ensures) (c .if4 .taken)
 
 returns-5 : tie.Need-returns-5
 returns-5 c =
-    by-size _ _ _ _ _ _ (c .before .before .before .before .before .before .before .before .before .if1 .left) (c .before .before .before .before .before .before .before .before .is-marked .ensures) (c .before .before .before .before .before .before .before .if2 .left)
-    (c .before .before .before .before .before .before .word .ensures) (c .before .before .before .before .before .bin-word .ensures) (c .before .before .before .before .if3 .left) (c .before .before .before .word2 .ensures) (c .before .before .if4 .left)
+    let same-before = c .before .before in
+    let back = same-before .before in
+    let bin = bin-read back in
+    by-size _ _ _ _ _ _ (on-eights bin .if1 .left) (marked bin .before .is-marked .ensures) (marked bin .if2 .left)
+    (bin .before .word .ensures) (bin .bin-word .ensures) (same-bin back .if3 .left) (back .word2 .ensures) (same-before .if4 .left)
     (c .before .word3 .ensures) (c .takes .ensures)
 
 pub is-listed-spec : {M : Type 1} → statement M

@@ -19,23 +19,40 @@ abbrev μ-loop : tie.MeasureT-loop
 loop-holds : tie.Need-loop-holds Inv-loop μ-loop
 loop-holds c = (sweeping-begins _ _ _ _ _ _, refl)
 
+-- behind the sweep of a list: the end of the list is read, and the bin is one of the table's
+module _ (swept : tie.After-sweep-list Inv-loop μ-loop) where
+  abbrev ended : tie.After-end-of Inv-loop μ-loop
+  ended = swept .before
+
+  abbrev turn : tie.In-loop Inv-loop μ-loop
+  turn = ended .before .before
+
 returns : tie.Need-returns Inv-loop μ-loop
 returns c =
-    dirty-list _ _ _ _ _ _ _ _ _ (c .before .before .before .before .before .before .before .before .loop .inv .0) (c .before .before .before .before .before .before .before .loop-test .taken) (c .before .before .before .before .before .end-of .ensures)
-    (torn-is _ _ _ _ _ _ _ _ (c .before .before .before .before .sweep-list .ensures) (c .enum-told .given .1))
+    let swept = c .before .before .before .before in
+    let turn = turn swept in
+    dirty-list _ _ _ _ _ _ _ _ _ (turn .before .loop .inv .0) (turn .loop-test .taken) (ended swept .end-of .ensures)
+    (torn-is _ _ _ _ _ _ _ _ (swept .sweep-list .ensures) (c .enum-told .given .1))
 
 returns-2 : tie.Need-returns-2 Inv-loop μ-loop
 returns-2 c =
-    dirty-tail _ _ _ _ _ _ _ _ _ (c .before .before .before .before .before .before .before .before .before .before .before .loop .inv .0) (c .before .before .before .before .before .before .before .before .before .before .loop-test .taken) (c .before .before .before .before .before .before .before .before .end-of .ensures) _
-    (whole-is _ _ _ _ _ _ _ _ (c .before .before .before .before .before .before .before .sweep-list .ensures) (c .before .before .before .swept .given .1)) (c .before .end-of2 .ensures) (c .if1 .taken)
+    let whole = c .before .before .before in
+    let swept = whole .before .before .before .before in
+    let turn = turn swept in
+    dirty-tail _ _ _ _ _ _ _ _ _ (turn .before .loop .inv .0) (turn .loop-test .taken) (ended swept .end-of .ensures) _
+    (whole-is _ _ _ _ _ _ _ _ (swept .sweep-list .ensures) (whole .swept .given .1)) (c .before .end-of2 .ensures) (c .if1 .taken)
 
 loop-again : tie.Need-loop-again Inv-loop μ-loop
-loop-again c = (
-  sweeping-goes _ _ _ _ _ _ _ _ _ (c .before .before .before .before .before .before .before .before .before .before .before .before .loop .inv .0) (c .before .before .before .before .before .before .before .before .before .before .before .loop-test .taken) (c .before .before .before .before .before .before .before .before .before .end-of .ensures) _
-      (whole-is _ _ _ _ _ _ _ _ (c .before .before .before .before .before .before .before .before .sweep-list .ensures) (c .before .before .before .before .swept .given .1)) (c .before .before .end-of2 .ensures)
-      (c .before .if1 .left) (c .wrapping-add-u32 .ensures),
-  search needs,
-)
+loop-again c =
+    let same-tail = c .before in
+    let whole = same-tail .before .before .before in
+    let swept = whole .before .before .before .before in
+    let turn = turn swept in (
+      sweeping-goes _ _ _ _ _ _ _ _ _ (turn .before .loop .inv .0) (turn .loop-test .taken) (ended swept .end-of .ensures) _
+          (whole-is _ _ _ _ _ _ _ _ (swept .sweep-list .ensures) (whole .swept .given .1)) (same-tail .before .end-of2 .ensures)
+          (same-tail .if1 .left) (c .wrapping-add-u32 .ensures),
+      search needs,
+    )
 
 returns-3 : tie.Need-returns-3 Inv-loop μ-loop
 returns-3 c = all-clean _ _ _ _ _ _ _ _ _ (c .before .loop .inv .0) (c .loop-test .left)

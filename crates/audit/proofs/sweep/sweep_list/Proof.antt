@@ -22,17 +22,35 @@ returns : tie.Need-returns Inv-loop μ-loop
 returns c =
     torn-long _ _ _ _ _ _ _ _ _ _ _ (c .before .before .loop .inv .0) _ (c .if1 .taken) (c .before .loop-test .taken)
 
+-- behind the test of a member: the turn of the loop that tests it
+abbrev turn : tie.After-is-listed Inv-loop μ-loop → tie.In-loop Inv-loop μ-loop
+turn c = c .before .before .before
+
+-- behind the read of the next link: the mark is cleared, and the member is listed
+module _ (next : tie.After-word Inv-loop μ-loop) where
+  abbrev cleared : tie.After-flip Inv-loop μ-loop
+  cleared = next .before .before .before
+
+  abbrev listed : tie.Else2 Inv-loop μ-loop
+  listed = cleared .before .before
+
 returns-2 : tie.Need-returns-2 Inv-loop μ-loop
 returns-2 c =
-    torn-here _ _ _ _ _ _ _ _ _ _ _ (c .before .before .before .before .before .loop .inv .0) (c .before .before .before .before .loop-test .taken) (omega arith)
+    let turn = turn (c .before) in
+    torn-here _ _ _ _ _ _ _ _ _ _ _ (turn .before .loop .inv .0) (turn .loop-test .taken) (omega arith)
     (c .before .is-listed .ensures) _ (c .if2 .taken)
 
+fits : tie.Need-add-met Inv-loop μ-loop
+fits c = omega (arith, turn (listed c .before) .before .loop .inv .0 .spent)
+
 loop-again : tie.Need-loop-again Inv-loop μ-loop
-loop-again c = (
-  combing-goes _ _ _ _ _ _ _ _ _ _ _ (c .before .before .before .before .before .before .before .before .before .before .loop .inv .0) (c .before .before .before .before .before .before .before .before .before .loop-test .taken) (omega arith)
-      (c .before .before .before .before .before .before .is-listed .ensures) (c .before .before .before .before .before .if2 .left) _ (c .before .before .before .flip .ensures) (c .word .ensures),
-  search needs,
-)
+loop-again c =
+    let listed = listed c in
+    let turn = turn (listed .before) in (
+      combing-goes _ _ _ _ _ _ _ _ _ _ _ (turn .before .loop .inv .0) (turn .loop-test .taken) (omega arith)
+          (listed .before .is-listed .ensures) (listed .if2 .left) _ (cleared c .flip .ensures) (c .word .ensures),
+      search needs,
+    )
 
 returns-3 : tie.Need-returns-3 Inv-loop μ-loop
 returns-3 c = whole-list _ _ _ _ _ _ _ _ _ _ _ (c .before .loop .inv .0) _ refl (c .loop-test .left)
@@ -51,7 +69,7 @@ sweep-list-spec =
     returns-2
     (λ c κs. search needs)
     (λ c κs. search needs)
-    (λ c. omega (arith, c .before .before .before .before .before .before .before .before .before .before .loop .inv .0 .spent))
+    fits
     (λ c. omega arith)
     (λ c. omega arith)
     loop-again

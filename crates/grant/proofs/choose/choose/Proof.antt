@@ -4,30 +4,81 @@ use Rattle.grant.proofs.ChooseLaws.{from-own, from-donor, from-larger, 
 use Rattle.grant.proofs.choose.choose.Statement.{statement}
 use Rattle.grant.proofs.choose.choose.Tie as tie
 
+-- behind the question to the donor: the bin of the size has nothing
+module _ (asked : tie.After-donor-serves) where
+  abbrev own-empty : tie.Else1
+  own-empty = asked .before
+
+  abbrev own-sought : tie.After-own-bin
+  own-sought = own-empty .before .before
+
+-- behind the search of the larger bins: the donor does not serve
+module _ (sought : tie.After-larger-bin) where
+  abbrev no-donor : tie.Else2
+  no-donor = sought .before
+
+  abbrev donor-asked : tie.After-donor-serves
+  donor-asked = no-donor .before
+
+-- behind the question to the top: the larger bins have nothing
+module _ (asked : tie.After-top-serves) where
+  abbrev larger-empty : tie.Else3
+  larger-empty = asked .before
+
+  abbrev larger-sought : tie.After-larger-bin
+  larger-sought = larger-empty .before .before
+
 returns : tie.Need-returns
-returns c = from-own _ _ _ _ _ _ _ (c .before .before .before .bin-of .ensures) _ (c .before .before .own-bin .ensures) (c .if1 .taken)
+returns c =
+    let own = c .before .before in
+    from-own _ _ _ _ _ _ _ (own .before .bin-of .ensures) _ (own .own-bin .ensures) (c .if1 .taken)
 
 returns-2 : tie.Need-returns-2
 returns-2 c =
-    from-donor _ _ _ _ _ _ _ (c .before .before .before .before .before .bin-of .ensures) _ (c .before .before .before .before .own-bin .ensures) (c .before .before .if1 .left)
-    (c .before .donor-serves .ensures) (c .if2 .taken)
+    let donor = c .before in
+    let own = own-sought donor in
+    from-donor _ _ _ _ _ _ _ (own .before .bin-of .ensures) _ (own .own-bin .ensures) (own-empty donor .if1 .left)
+    (donor .donor-serves .ensures) (c .if2 .taken)
 
 returns-3 : tie.Need-returns-3
 returns-3 c =
-    from-larger _ _ _ _ _ _ _ (c .before .before .before .before .before .before .before .before .bin-of .ensures) _ (c .before .before .before .before .before .before .before .own-bin .ensures) (c .before .before .before .before .before .if1 .left)
-    (c .before .before .before .before .donor-serves .ensures) (c .before .before .before .if2 .left) _ (c .before .before .larger-bin .ensures) (c .if3 .taken)
+    let larger = c .before .before in
+    let donor = donor-asked larger in
+    let own = own-sought donor in
+    from-larger _ _ _ _ _ _ _ (own .before .bin-of .ensures) _ (own .own-bin .ensures) (own-empty donor .if1 .left)
+    (donor .donor-serves .ensures) (no-donor larger .if2 .left) _ (larger .larger-bin .ensures) (c .if3 .taken)
 
 returns-4 : tie.Need-returns-4
 returns-4 c =
-    from-top _ _ _ _ _ _ _ (c .before .before .before .before .before .before .before .before .before .before .bin-of .ensures) _ (c .before .before .before .before .before .before .before .before .before .own-bin .ensures) (c .before .before .before .before .before .before .before .if1 .left)
-    (c .before .before .before .before .before .before .donor-serves .ensures) (c .before .before .before .before .before .if2 .left) _ (c .before .before .before .before .larger-bin .ensures) (c .before .before .if3 .left)
-    (c .before .top-serves .ensures) (c .if4 .taken)
+    let top = c .before in
+    let larger = larger-sought top in
+    let donor = donor-asked larger in
+    let own = own-sought donor in
+    from-top _ _ _ _ _ _ _ (own .before .bin-of .ensures) _ (own .own-bin .ensures) (own-empty donor .if1 .left)
+    (donor .donor-serves .ensures) (no-donor larger .if2 .left) _ (larger .larger-bin .ensures) (larger-empty top .if3 .left)
+    (top .top-serves .ensures) (c .if4 .taken)
 
 returns-5 : tie.Need-returns-5
 returns-5 c =
-    from-nowhere _ _ _ _ _ _ _ (c .before .before .before .before .before .before .before .before .before .before .bin-of .ensures) _ (c .before .before .before .before .before .before .before .before .before .own-bin .ensures) (c .before .before .before .before .before .before .before .if1 .left)
-    (c .before .before .before .before .before .before .donor-serves .ensures) (c .before .before .before .before .before .if2 .left) _ (c .before .before .before .before .larger-bin .ensures) (c .before .before .if3 .left)
-    (c .before .top-serves .ensures) (c .if4 .left)
+    let top = c .before in
+    let larger = larger-sought top in
+    let donor = donor-asked larger in
+    let own = own-sought donor in
+    from-nowhere _ _ _ _ _ _ _ (own .before .bin-of .ensures) _ (own .own-bin .ensures) (own-empty donor .if1 .left)
+    (donor .donor-serves .ensures) (no-donor larger .if2 .left) _ (larger .larger-bin .ensures) (larger-empty top .if3 .left)
+    (top .top-serves .ensures) (c .if4 .left)
 
 pub choose-spec : {M : Type 1} → statement M
-choose-spec = tie.close (tie.spec (λ c κs. search needs) (λ c κs. search needs) returns (λ c κs. search needs) returns-2 (λ c κs. search needs) returns-3 (λ c κs. search needs) returns-4 returns-5)
+choose-spec =
+    tie.close
+    (tie.spec
+    (λ c κs. search needs)
+    (λ c κs. search needs)
+    returns
+    (λ c κs. search needs)
+    returns-2
+    (λ c κs. search needs)
+    returns-3
+    (λ c κs. search needs)
+    returns-4
+    returns-5)

@@ -7,7 +7,14 @@ use Rattle.grant.proofs.cut.cut_of.Tie as tie
 returns : tie.Need-returns
 unfolding cutM
 returns c =
-    rw (c .wrapping-add-u32 .ensures, c .before .before .before .granted .ensures, c .before .before .before .before .word2 .ensures, c .before .word4 .ensures, c .before .before .word3 .ensures, c .before .before .before .before .before .word .ensures)
+    rw (
+      c .wrapping-add-u32 .ensures,
+      c .before .before .before .granted .ensures,
+      c .before .before .before .before .word2 .ensures,
+      c .before .word4 .ensures,
+      c .before .before .word3 .ensures,
+      c .before .before .before .before .before .word .ensures,
+    )
 
 pub cut-of-spec : {M : Type 1} → statement M
 cut-of-spec =

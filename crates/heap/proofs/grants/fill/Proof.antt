@@ -12,7 +12,8 @@ returns c = rw (not-true (c .before .before .args .clears) (c .if1 .taken))
 returns-2 : tie.Need-returns-2
 unfolding filledM
 returns-2 c =
-    rw (not-false (c .before .before .before .before .before .before .args .clears) (c .before .before .before .before .if1 .left)) (c .before .before .clear-block .ensures)
+    let clears = c .before .before .before .before in
+    rw (not-false (clears .before .before .args .clears) (clears .if1 .left)) (c .before .before .clear-block .ensures)
 
 pub fill-spec : {M : Type 1} → statement M
 fill-spec = tie.close (tie.spec returns (λ c κs. search needs) (λ c. search needs) returns-2)
