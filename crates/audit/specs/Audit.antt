@@ -10,6 +10,7 @@ use Rattle.lists.specs.Lists.{total, numbersFrom}
 use Rattle.record.specs.declared.answers.Counts.{Counts}
 use Rattle.record.specs.declared.heap.Heap.{Heap}
 use Rattle.record.specs.Table.{validTable}
+use Rattle.region.specs.declared.Chunk.{Chunk}
 use Rattle.rules.specs.Check.{unusedFrom, passes, countsOf}
 use Rattle.rules.specs.Shape.{shape}
 use Rattle.audit.specs.declared.Audit.{Audit}
@@ -63,3 +64,24 @@ module _ (ws table heads tails : List ℕ) (bytes donor top used : ℕ) where
 unfoldable pub AuditIs : List ℕ → Heap → Audit → Type 0
 AuditIs ws h Fails = passes ws h ≡ false
 AuditIs ws h (Passes c) = (passes ws h ≡ true) × (c ≡ countsOf h (shape ws (h .bytes)))
+
+-- a record of these parts, whatever its merge setting
+abbrev pub recordWith : Bool → ℕ → ℕ → List ℕ → List ℕ → List ℕ → Chunk → Chunk → ℕ → Heap
+recordWith merge bytes bins sizes heads tails donor top used =
+    record {
+      bytes = bytes;
+      bins = bins;
+      sizes = sizes;
+      heads = heads;
+      tails = tails;
+      donor = donor;
+      top = top;
+      merge = merge;
+      used = used;
+    }
+
+-- what a look at the parts of a record finds, if its arrays have their places
+abbrev pub LookIs : List ℕ → ℕ → ℕ → List ℕ → List ℕ → List ℕ → Chunk → Chunk → ℕ → Audit → Type 0
+LookIs ws bytes bins sizes heads tails donor top used r =
+    (merge : Bool) → length sizes ≡ 32 → length heads ≡ 32 → length tails ≡ 32
+    → AuditIs ws (recordWith merge bytes bins sizes heads tails donor top used) r

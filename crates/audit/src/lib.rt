@@ -1,7 +1,7 @@
 // The check, in time linear in the chunks: one walk of the chain that marks each ordinary chunk, one walk of each
 // bin's list that clears the marks. Nothing is written into the region.
 ghost use mathlib.Core.Path.{_≡_};
-ghost use Rattle.audit.specs.Audit.{fitsLength, settled, tabledAs, WalkedIs, AuditIs};
+ghost use Rattle.audit.specs.Audit.{fitsLength, settled, tabledAs, WalkedIs, LookIs};
 ghost use Rattle.rules.specs.Check.{passes, unusedFrom};
 ghost use Rattle.rules.specs.Merge.{checked};
 use crate::survey::Survey;
@@ -125,37 +125,46 @@ pub fn walk_all<'a>(
     })
 }
 
-// The whole check. An odd last word is not lent to the walks, so that nothing below can reach it.
-pub fn check(region: &[u32], h: Heap) -> Audit
-    ensures { λ r. ⌜ AuditIs (now (region .entry)) h r ⌝ }
+// The whole check, of a record's parts: they are lent, so that no record need be copied for it.
+// An odd last word is not lent to the walks, so that nothing below can reach it.
+pub fn look<'a>(
+    region: &[u32],
+    bytes: u32,
+    bins: usize,
+    sizes: &'a [u32],
+    heads: &'a [u32],
+    tails: &'a [u32],
+    donor: Chunk,
+    top: Chunk,
+    used: u32,
+) -> Audit
+    ensures { λ r. ⌜ LookIs (now (region .entry)) bytes bins (now (sizes .entry)) (now (heads .entry)) (now (tails .entry)) donor top used r ⌝ }
 {
-    let bytes = h.bytes;
     if !fits_length(region.len(), bytes) {
         return Audit::Fails;
     }
-    let bins = h.bins as usize;
-    let sizes = h.sizes;
-    if !is_tabled(bins, &sizes, &h.heads, &h.tails) {
+    if !is_tabled(bins, sizes, heads, tails) {
         return Audit::Fails;
     }
     let even = (bytes / 4) as usize;
-    walk_all(
-        &region[..even],
-        &sizes[..bins],
-        &h.heads,
-        &h.tails,
-        bytes,
-        h.donor,
-        h.top,
-        h.used,
-    )
+    walk_all(&region[..even], &sizes[..bins], heads, tails, bytes, donor, top, used)
 }
 
 // The check as a call answers it: the four counts, or the refusal.
 pub fn verdict(region: &[u32], h: Heap) -> Answer
     ensures { λ r. ⌜ r ≡ checked (now (region .entry)) h ⌝ }
 {
-    let found = check(region, h);
+    let found = look(
+        region,
+        h.bytes,
+        h.bins as usize,
+        &h.sizes,
+        &h.heads,
+        &h.tails,
+        h.donor,
+        h.top,
+        h.used,
+    );
     match found {
         Audit::Passes(counts) => Answer::Counted(counts),
         Audit::Fails => Answer::Refused(Refusal::HeapFails),
@@ -166,7 +175,17 @@ pub fn verdict(region: &[u32], h: Heap) -> Answer
 pub fn passes(region: &[u32], h: Heap) -> bool
     ensures { λ r. ⌜ r ≡ passes (now (region .entry)) h ⌝ }
 {
-    let found = check(region, h);
+    let found = look(
+        region,
+        h.bytes,
+        h.bins as usize,
+        &h.sizes,
+        &h.heads,
+        &h.tails,
+        h.donor,
+        h.top,
+        h.used,
+    );
     match found {
         Audit::Passes(_) => true,
         Audit::Fails => false,

@@ -3,7 +3,7 @@ ghost use mathlib.Core.Path.{_≡_};
 ghost use Rattle.heap.specs.Grants.{filledM, grantBlockM};
 ghost use Rattle.rules.specs.Statements.{replied};
 use blocks::clear_block;
-use grant::serve::find;
+use grant::choose::choose;
 use grant::serve::is_nowhere;
 use grant::serve::serve;
 use record::answers::Answer;
@@ -27,7 +27,7 @@ fn fill(region: &mut [u32], clears: bool, block: Block, end: u32)
 pub fn grant_block(region: &mut [u32], table: &[u32], heap: Heap, need: u32, clears: bool) -> Reply
     ensures { λ r. ⌜ replied r (now (region .exit)) ≡ grantBlockM (now (region .entry)) (now (table .entry)) heap need clears ⌝ }
 {
-    let source = find(region, table, heap, need);
+    let source = choose(region, table, &heap.heads, heap.donor, heap.top, need);
     if is_nowhere(source) {
         return refused(heap, Refusal::NoRoom);
     }

@@ -1,16 +1,29 @@
 -- `audit::passes` says whether the heap passes. Assumes nothing.
-use borrow.Author.Needs.{needs}
+use Prim.Native.Nat.{ℕ}
+use borrow.Author.Needs.{needs, length-unmapped}
+use Rattle.audit.specs.Audit.{AuditIs}
 use Rattle.audit.proofs.AuditMeaning.{finds-failing, finds-passing}
 use Rattle.audit.proofs.passes.Statement.{statement}
 use Rattle.audit.proofs.passes.Tie as tie
 
+abbrev start : tie.After-look → tie.Start
+start c = c .before .before .before .before .before .before .before .before .before .before .before
+
+-- the look at the record's parts is one at the record
+found : (c : tie.After-look) → AuditIs (start c .args .region .now) (start c .args .t2) (c .look .result)
+found c =
+    let h = start c .args .t2 in
+    let g = start c .good in
+    c .look .ensures (h .merge)
+    (length-unmapped ℕ (h .sizes) 32 (search needs)) (length-unmapped ℕ (h .heads) 32 (search needs)) (length-unmapped ℕ (h .tails) 32 (search needs))
+
 returns : tie.Need-returns
-returns c = finds-passing _ _ _ (c .before .before .check .ensures) _ (c .enum-told .given .1)
+returns c = finds-passing _ _ _ (found (c .before .before)) _ (c .enum-told .given .1)
 
 returns-2 : tie.Need-returns-2
-returns-2 c = finds-failing _ _ _ (c .before .before .check .ensures) (c .enum-told2 .given .1)
+returns-2 c = finds-failing _ _ _ (found (c .before .before)) (c .enum-told2 .given .1)
 
 pub passes-spec : {M : Type 1} → statement M
 passes-spec =
     tie.close
-    (tie.spec (λ c κs. search needs) (λ c. search needs) (λ c. search needs) returns returns-2)
+    (tie.spec (λ c. search needs) (λ c κs. search needs) (λ c. search needs) (λ c. search needs) returns returns-2)

@@ -1,16 +1,29 @@
 -- `audit::verdict` answers what the check finds. Assumes nothing.
-use borrow.Author.Needs.{needs}
+use Prim.Native.Nat.{ℕ}
+use borrow.Author.Needs.{needs, length-unmapped}
+use Rattle.audit.specs.Audit.{AuditIs}
 use Rattle.audit.proofs.AuditMeaning.{answer-counts, answer-fails}
 use Rattle.audit.proofs.verdict.Statement.{statement}
 use Rattle.audit.proofs.verdict.Tie as tie
 
+abbrev start : tie.After-look → tie.Start
+start c = c .before .before .before .before .before .before .before .before .before .before .before
+
+-- the look at the record's parts is one at the record
+found : (c : tie.After-look) → AuditIs (start c .args .region .now) (start c .args .t2) (c .look .result)
+found c =
+    let h = start c .args .t2 in
+    let g = start c .good in
+    c .look .ensures (h .merge)
+    (length-unmapped ℕ (h .sizes) 32 (search needs)) (length-unmapped ℕ (h .heads) 32 (search needs)) (length-unmapped ℕ (h .tails) 32 (search needs))
+
 returns : tie.Need-returns
-returns c = answer-counts _ _ _ (c .before .before .before .check .ensures) _ (c .before .found .given .1)
+returns c = answer-counts _ _ _ (found (c .before .before .before)) _ (c .before .found .given .1)
 
 returns-2 : tie.Need-returns-2
-returns-2 c = answer-fails _ _ _ (c .before .before .check .ensures) (c .enum-told .given .1)
+returns-2 c = answer-fails _ _ _ (found (c .before .before)) (c .enum-told .given .1)
 
 pub verdict-spec : {M : Type 1} → statement M
 verdict-spec =
     tie.close
-    (tie.spec (λ c κs. search needs) (λ c. search needs) (λ c. search needs) returns returns-2)
+    (tie.spec (λ c. search needs) (λ c κs. search needs) (λ c. search needs) (λ c. search needs) returns returns-2)
