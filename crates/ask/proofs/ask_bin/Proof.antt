@@ -19,7 +19,8 @@ returns-3 c =
 
 returns-4 : tie.Need-returns-4
 returns-4 c =
-    last-told _ _ _ _ _ _ _ (c .before .before .before .before .before .if1 .left) (c .before .before .before .before .end-of .ensures)
+    let read = c .before .before .before .before in
+    last-told _ _ _ _ _ _ _ (read .before .if1 .left) (read .end-of .ensures)
     (c .before .before .before .if2 .left) (c .before .before .if3 .left) (c .before .if4 .taken) (c .end-of2 .ensures)
 
 returns-5 : tie.Need-returns-5

@@ -15,8 +15,8 @@ returns-2 c =
 
 returns-3 : tie.Need-returns-3
 returns-3 c =
-    member-told _ _ _ _ _ _ _ (c .before .before .before .before .before .asks-of-bin .ensures)
-    (c .before .before .before .before .if1 .left) _ (c .before .before .before .kind-of .ensures)
+    let other = c .before .before .before .before in
+    member-told _ _ _ _ _ _ _ (other .before .asks-of-bin .ensures) (other .if1 .left) _ (c .before .before .before .kind-of .ensures)
     (c .before .before .is-ordinary .ensures) (c .before .if2 .left) (c .of-member .ensures)
 
 pub of-chunk-spec : {M : Type 1} → statement M

@@ -20,17 +20,21 @@ returns c =
 
 returns-2 : tie.Need-returns-2 Inv-loop μ-loop
 returns-2 c =
-    let l = c .before .before .before .before .loop in
-    let a = c .before .before .before .before .before .before .args in
-    sym (fit-here (a .region .now) (a .need) (l .at) (l .left) (omega arith) (c .before .before .if1 .left) (omega (arith, c .before .word .ensures)))
+    let member = c .before .before in
+    let turn = member .before .before in
+    let l = turn .loop in
+    let a = turn .before .before .args in
+    sym (fit-here (a .region .now) (a .need) (l .at) (l .left) (omega arith) (member .if1 .left) (omega (arith, c .before .word .ensures)))
     ∙ l .inv
 
 loop-again : tie.Need-loop-again Inv-loop μ-loop
 loop-again c =
-    let l = c .before .before .before .before .before .loop in
-    let a = c .before .before .before .before .before .before .before .args in
+    let member = c .before .before .before in
+    let turn = member .before .before in
+    let l = turn .loop in
+    let a = turn .before .before .args in
     rw (c .word2 .ensures)
-    (sym (fit-goes (a .region .now) (a .need) (l .at) (l .left) (omega arith) (c .before .before .before .if1 .left) (omega (arith, c .before .before .word .ensures)))
+    (sym (fit-goes (a .region .now) (a .need) (l .at) (l .left) (omega arith) (member .if1 .left) (omega (arith, c .before .before .word .ensures)))
     ∙ l .inv)
 
 returns-3 : tie.Need-returns-3 Inv-loop μ-loop

@@ -8,14 +8,19 @@ use Rattle.bins.proofs.leave.Tie as tie
 returns : tie.Need-returns
 unfolding leaveM
 returns c =
+    let before-next = c .before .before .before .before in
+    let after-previous = before-next .before .before .before .before .before .before .before in
+    let bin-read = after-previous .before .before .before in
+    let previous-read = bin-read .before .before in
+    let next-read = previous-read .before .before in
     rw (
-      words-of (c .before .before .before .before .link2 .ensures),
-      ends-of (c .before .before .before .before .link2 .ensures),
-      words-of (c .before .before .before .before .before .before .before .before .before .before .before .link .ensures),
-      ends-of (c .before .before .before .before .before .before .before .before .before .before .before .link .ensures),
-      c .before .before .before .before .before .before .before .before .before .before .before .before .before .before .word3 .ensures,
-      c .before .before .before .before .before .before .before .before .before .before .before .before .before .before .before .before .word2 .ensures,
-      c .before .before .before .before .before .before .before .before .before .before .before .before .before .before .before .before .before .before .word .ensures,
+      words-of (before-next .link2 .ensures),
+      ends-of (before-next .link2 .ensures),
+      words-of (after-previous .link .ensures),
+      ends-of (after-previous .link .ensures),
+      bin-read .word3 .ensures,
+      previous-read .word2 .ensures,
+      next-read .word .ensures,
     )
 
 pub leave-spec : {M : Type 1} → statement M

@@ -7,13 +7,29 @@ use Rattle.bins.proofs.put.Tie as tie
 
 returns : tie.Need-returns
 unfolding putIntoM
-returns c = rw (lt-ltb _ _ (c .before .before .before .before .before .before .before .before .before .before .if1 .taken)) (c .before .before .before .before .before .before .put-head .ensures)
+returns c =
+    let put = c .before .before .before .before .before .before in
+    let small = put .before .before .before .before in
+    rw (lt-ltb _ _ (small .if1 .taken)) (put .put-head .ensures)
 
 returns-2 : tie.Need-returns-2
 unfolding putIntoM
-returns-2 c = rw (le-ltb _ _ (c .before .before .before .before .before .before .before .before .before .before .if1 .left)) (c .before .before .before .before .before .before .put-tail .ensures)
+returns-2 c =
+    let put = c .before .before .before .before .before .before in
+    let large = put .before .before .before .before in
+    rw (le-ltb _ _ (large .if1 .left)) (put .put-tail .ensures)
 
 pub put-spec : {M : Type 1} → statement M
 put-spec =
     tie.close
-    (tie.spec (λ c κs. search needs) (λ c. search needs) (λ c. search needs) (λ c. search needs) returns (λ c κs. search needs) (λ c. search needs) (λ c. search needs) (λ c. search needs) returns-2)
+    (tie.spec
+    (λ c κs. search needs)
+    (λ c. search needs)
+    (λ c. search needs)
+    (λ c. search needs)
+    returns
+    (λ c κs. search needs)
+    (λ c. search needs)
+    (λ c. search needs)
+    (λ c. search needs)
+    returns-2)

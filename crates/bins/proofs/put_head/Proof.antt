@@ -4,7 +4,10 @@ use Rattle.bins.proofs.put_head.Statement.{statement}
 use Rattle.bins.proofs.put_head.Tie as tie
 
 returns : tie.Need-returns
-returns c = rw (c .before .before .before .before .before .before .put-between .ensures, c .before .before .before .before .before .before .before .before .before .before .end-of .ensures)
+returns c =
+    let put = c .before .before .before .before .before .before in
+    let head-read = put .before .before .before .before in
+    rw (put .put-between .ensures, head-read .end-of .ensures)
 
 pub put-head-spec : {M : Type 1} → statement M
 put-head-spec =

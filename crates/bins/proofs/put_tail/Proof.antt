@@ -4,7 +4,10 @@ use Rattle.bins.proofs.put_tail.Statement.{statement}
 use Rattle.bins.proofs.put_tail.Tie as tie
 
 returns : tie.Need-returns
-returns c = rw (c .before .before .before .before .before .before .put-between .ensures, c .before .before .before .before .before .before .before .before .before .before .end-of .ensures)
+returns c =
+    let put = c .before .before .before .before .before .before in
+    let tail-read = put .before .before .before .before in
+    rw (put .put-between .ensures, tail-read .end-of .ensures)
 
 pub put-tail-spec : {M : Type 1} → statement M
 put-tail-spec =

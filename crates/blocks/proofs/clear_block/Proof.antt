@@ -11,7 +11,9 @@ returns-2 : tie.Need-returns-2
 returns-2 c = cleared-outside _ _ _ (c .before .if1 .left) (c .if2 .taken)
 
 returns-3 : tie.Need-returns-3
-returns-3 c = cleared-part _ _ _ (c .before .before .before .before .before .if1 .left) (c .before .before .before .before .if2 .left) (c .before .before .clear .ensures)
+returns-3 c =
+    let inside = c .before .before .before .before in
+    cleared-part _ _ _ (inside .before .if1 .left) (inside .if2 .left) (c .before .before .clear .ensures)
 
 pub clear-block-spec : {M : Type 1} → statement M
 clear-block-spec =

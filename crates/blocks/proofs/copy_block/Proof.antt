@@ -21,8 +21,13 @@ loop-holds c = (refl, refl)
 
 loop-again : tie.Need-loop-again Inv-loop μ-loop
 loop-again c =
-    let l = c .before .before .before .before .before .before .before .loop in
-    (rw (c .before .before .store .ensures, c .before .before .before .before .word .ensures) (copies-one _ _ _ _ (l .number) (c .before .before .before .before .before .before .loop-test .taken) ∙ l .inv .0), search needs)
+    let stored = c .before .before in
+    let read = stored .before .before in
+    let turn = read .before .before in
+    let l = turn .before .loop in (
+      rw (stored .store .ensures, read .word .ensures) (copies-one _ _ _ _ (l .number) (turn .loop-test .taken) ∙ l .inv .0),
+      search needs,
+    )
 
 returns : tie.Need-returns Inv-loop μ-loop
 returns c = copies-done _ _ _ _ _ (c .loop-test .left) ∙ c .before .loop .inv .0

@@ -7,12 +7,10 @@ use Rattle.headers.proofs.write_free.Tie as tie
 returns : tie.Need-returns
 unfolding freeWords
 returns c =
-    rw (
-      c .before .before .store3 .ensures,
-      c .before .before .before .distance .ensures,
-      c .before .before .before .before .before .before .before .store2 .ensures,
-      c .before .before .before .before .before .before .before .before .before .before .before .store .ensures,
-    )
+    let sized = c .before .before in
+    let backward = sized .before .before .before .before .before in
+    let forward = backward .before .before .before .before in
+    rw (sized .store3 .ensures, sized .before .distance .ensures, backward .store2 .ensures, forward .store .ensures)
 
 pub write-free-spec : {M : Type 1} → statement M
 write-free-spec =

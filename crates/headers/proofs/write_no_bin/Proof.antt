@@ -5,11 +5,10 @@ use Rattle.headers.proofs.write_no_bin.Tie as tie
 
 returns : tie.Need-returns
 returns c =
-    rw (
-      c .before .before .store3 .ensures,
-      c .before .before .before .before .before .before .store2 .ensures,
-      c .before .before .before .before .before .before .before .before .before .before .store .ensures,
-    )
+    let bin-cleared = c .before .before in
+    let previous-cleared = bin-cleared .before .before .before .before in
+    let next-cleared = previous-cleared .before .before .before .before in
+    rw (bin-cleared .store3 .ensures, previous-cleared .store2 .ensures, next-cleared .store .ensures)
 
 pub write-no-bin-spec : {M : Type 1} → statement M
 write-no-bin-spec =

@@ -6,7 +6,10 @@ use Rattle.headers.proofs.write_used.Tie as tie
 
 returns : tie.Need-returns
 unfolding usedWords
-returns c = rw (c .before .before .store2 .ensures, c .before .before .before .wrapping-add-u32 .ensures, c .before .before .before .before .before .before .before .store .ensures)
+returns c =
+    let backward = c .before .before in
+    let forward = backward .before .before .before .before .before in
+    rw (backward .store2 .ensures, backward .before .wrapping-add-u32 .ensures, forward .store .ensures)
 
 pub write-used-spec : {M : Type 1} → statement M
 write-used-spec = tie.close (tie.spec (λ c κs. search needs) (λ c κs. search needs) (λ c κs. search needs) (λ c. search needs) returns)

@@ -22,19 +22,23 @@ returns-3 c =
     (refuses-table _ _ _ _ (omega arith) (omega arith)
     (sym (c .before .before .valid .ensures) ∙ not-true _ (c .before .if3 .taken)))
 
+-- behind a valid table: the call began
+abbrev start : tie.Else3 → tie.Start
+start c = c .before .before .before .before .before .before
+
 returns-4 : tie.Need-returns-4
 returns-4 c =
-    let b = c .before .before .before in
+    let right = c .before .before .before in
     rw (c .refused4 .ensures)
     (refuses-donor _ _ _ _ (omega arith) (omega arith)
-    (sym (b .before .valid .ensures) ∙ not-false _ (b .if3 .left))
+    (sym (right .before .valid .ensures) ∙ not-false _ (right .if3 .left))
     _
     (sym (c .before .before .donor-fits .ensures) ∙ not-true _ (c .before .if4 .taken))
     (omega arith))
 
 add-t16 : tie.Need-add-t16
 add-t16 c =
-    let a = c .before .before .before .before .before .before .before .before .args in
+    let a = start (c .before .before) .args in
     let room =
     fits-room (length (a .region .now) / 2 * 2 * 4) (a .donor)
     (sym (c .before .donor-fits .ensures) ∙ not-false _ (c .if4 .left)) (omega arith) in
@@ -45,14 +49,15 @@ slice-aggregate-write-headers c = sym (length-take-le _ _ (omega arith))
 
 returns-5 : tie.Need-returns-5
 returns-5 c =
-    let b = c .before .before .before .before .before .before .before in
-    let a = b .before .before .before .before .before .before .args in
-    rw (c .fresh .ensures, c .before .before .before .write-headers .ensures)
+    let written = c .before .before .before in
+    let fits = written .before .before in
+    let right = fits .before .before in
+    let a = start right .args in
+    rw (c .fresh .ensures, written .write-headers .ensures)
     (accepts _ _ _ _ (omega arith) (omega arith)
-    (sym (b .before .valid .ensures) ∙ not-false _ (b .if3 .left))
+    (sym (right .before .valid .ensures) ∙ not-false _ (right .if3 .left))
     _ (length (a .region .now) / 2 * 2)
-    (sym (c .before .before .before .before .before .before .donor-fits .ensures)
-    ∙ not-false _ (c .before .before .before .before .before .if4 .left))
+    (sym (fits .before .donor-fits .ensures) ∙ not-false _ (fits .if4 .left))
     (omega arith)
     (omega arith))
 

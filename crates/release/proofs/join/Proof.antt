@@ -7,16 +7,19 @@ use Rattle.release.proofs.join.Tie as tie
 returns : tie.Need-returns
 unfolding joinM joinedM
 returns c =
+    let read = c .before .before .before .before in
+    let reached = read .before in
+    let lower = reached .before .before in
     rw (
       c .is-ordinary2 .ensures,
       c .before .joined-as .ensures,
       c .before .before .lower-of .ensures,
       c .before .before .before .below-of .ensures,
-      c .before .before .before .before .word .ensures,
-      c .before .before .before .before .before .reach .ensures,
-      c .before .before .before .before .before .before .neighbour2 .ensures,
-      c .before .before .before .before .before .before .before .is-ordinary .ensures,
-      c .before .before .before .before .before .before .before .before .neighbour .ensures,
+      read .word .ensures,
+      reached .reach .ensures,
+      reached .before .neighbour2 .ensures,
+      lower .is-ordinary .ensures,
+      lower .before .neighbour .ensures,
     )
 
 pub join-spec : {M : Type 1} → statement M

@@ -6,12 +6,21 @@ use Rattle.resize.proofs.move_block.Tie as tie
 
 returns : tie.Need-returns
 returns c =
-    moves-not _ _ _ _ _ _ (c .before .before .before .find .ensures) (c .before .before .is-nowhere .ensures) (c .before .if1 .taken) _ (c .refused .ensures)
+    let nowhere = c .before in
+    moves-not _ _ _ _ _ _ (nowhere .before .before .find .ensures) (nowhere .before .is-nowhere .ensures) (nowhere .if1 .taken)
+    _ (c .refused .ensures)
 
 returns-2 : tie.Need-returns-2
 returns-2 c =
-    moves _ _ _ _ _ _ (c .before .before .before .before .before .before .before .before .before .before .before .before .before .before .before .before .before .before .before .before .before .find .ensures) (c .before .before .before .before .before .before .before .before .before .before .before .before .before .before .before .before .before .before .before .before .is-nowhere .ensures) (c .before .before .before .before .before .before .before .before .before .before .before .before .before .before .before .before .before .before .before .if1 .left) _ _ (c .before .before .before .before .before .before .before .before .before .before .before .before .before .before .before .before .before .serve .ensures) _ (c .before .before .before .before .before .before .before .before .before .before .before .before .before .distance .ensures)
-    _ (c .before .before .before .before .before .before .before .before .before .before .before .copy-block .ensures) _ (c .before .before .before .before .before .before .before .word .ensures) _ _ (c .before .before .before .before .give-up .ensures) _ (c .before .block-of .ensures) _ (c .change .ensures)
+    let given-up = c .before .before .before .before in
+    let read = given-up .before .before .before in
+    let copied = read .before .before .before .before in
+    let sized = copied .before .before in
+    let served = sized .before .before .before .before in
+    let somewhere = served .before .before in
+    moves _ _ _ _ _ _ (somewhere .before .before .find .ensures) (somewhere .before .is-nowhere .ensures) (somewhere .if1 .left)
+    _ _ (served .serve .ensures) _ (sized .distance .ensures) _ (copied .copy-block .ensures) _ (read .word .ensures)
+    _ _ (given-up .give-up .ensures) _ (c .before .block-of .ensures) _ (c .change .ensures)
 
 pub move-block-spec : {M : Type 1} → statement M
 move-block-spec =

@@ -5,15 +5,22 @@ use Rattle.resize.proofs.resize.Statement.{statement}
 use Rattle.resize.proofs.resize.Tie as tie
 
 returns : tie.Need-returns
-returns c = resizes-up _ _ _ _ _ _ (c .before .before .before .before .before .distance .ensures) (c .before .before .before .before .if1 .taken) (c .before .before .move-block .ensures)
+returns c =
+    let larger = c .before .before .before .before in
+    resizes-up _ _ _ _ _ _ (larger .before .distance .ensures) (larger .if1 .taken) (c .before .before .move-block .ensures)
 
 returns-2 : tie.Need-returns-2
 returns-2 c =
-    resizes-down _ _ _ _ _ _ (c .before .before .before .before .before .before .distance .ensures) (c .before .before .before .before .before .if1 .left) (c .before .before .before .before .if2 .taken) (c .before .before .shrink .ensures)
+    let smaller = c .before .before .before .before in
+    let enough = smaller .before in
+    resizes-down _ _ _ _ _ _ (enough .before .distance .ensures) (enough .if1 .left) (smaller .if2 .taken) (c .before .before .shrink .ensures)
 
 returns-3 : tie.Need-returns-3
 returns-3 c =
-    resizes-not _ _ _ _ _ _ (c .before .before .before .before .distance .ensures) (c .before .before .before .if1 .left) (c .before .before .if2 .left) _ (c .before .block-of .ensures) _ (c .change .ensures)
+    let same = c .before .before in
+    let enough = same .before in
+    resizes-not _ _ _ _ _ _ (enough .before .distance .ensures) (enough .if1 .left) (same .if2 .left)
+    _ (c .before .block-of .ensures) _ (c .change .ensures)
 
 pub resize-spec : {M : Type 1} → statement M
 resize-spec =

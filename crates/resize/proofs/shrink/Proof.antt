@@ -6,7 +6,12 @@ use Rattle.resize.proofs.shrink.Tie as tie
 
 returns : tie.Need-returns
 returns c =
-    shrinks _ _ _ _ _ _ (c .before .before .before .before .before .before .before .before .before .before .before .wrapping-add-u32 .ensures) _ (c .before .before .before .before .before .before .before .before .before .store .ensures) _ _ (c .before .before .before .before .before .give-up .ensures) _ (c .before .before .distance .ensures) _ (c .before .block-of .ensures) _ (c .change .ensures)
+    let sized = c .before .before in
+    let given-up = sized .before .before .before in
+    let stored = given-up .before .before .before .before in
+    let rest = stored .before .before in
+    shrinks _ _ _ _ _ _ (rest .wrapping-add-u32 .ensures) _ (stored .store .ensures) _ _ (given-up .give-up .ensures)
+    _ (sized .distance .ensures) _ (c .before .block-of .ensures) _ (c .change .ensures)
 
 pub shrink-spec : {M : Type 1} → statement M
 shrink-spec =

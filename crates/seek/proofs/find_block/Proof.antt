@@ -9,17 +9,27 @@ returns c =
     block-nowhere _ _ _ _ _ (c .before .before .before .chunk-of .ensures) (c .before .before .find-chunk .ensures)
     (c .enum-told .given .1)
 
+-- behind the question whether the block is live: the chunk is found
+module _ (asked : tie.After-is-live) where
+  abbrev found : tie.After-sought
+  found = asked .before .before
+
+  abbrev sought : tie.After-find-chunk
+  sought = found .before .before
+
 returns-2 : tie.Need-returns-2
 returns-2 c =
-    block-dead _ _ _ _ _ (c .before .before .before .before .before .before .chunk-of .ensures)
-    (c .before .before .before .before .before .find-chunk .ensures) _ (c .before .before .before .sought .given .1) _
-    (c .before .is-live .ensures) (c .if1 .taken)
+    let asked = c .before in
+    let sought = sought asked in
+    block-dead _ _ _ _ _ (sought .before .chunk-of .ensures) (sought .find-chunk .ensures) _ (found asked .sought .given .1) _
+    (asked .is-live .ensures) (c .if1 .taken)
 
 returns-3 : tie.Need-returns-3
 returns-3 c =
-    block-found _ _ _ _ _ (c .before .before .before .before .before .before .chunk-of .ensures)
-    (c .before .before .before .before .before .find-chunk .ensures) _ (c .before .before .before .sought .given .1) _
-    (c .before .is-live .ensures) (c .if1 .left)
+    let asked = c .before in
+    let sought = sought asked in
+    block-found _ _ _ _ _ (sought .before .chunk-of .ensures) (sought .find-chunk .ensures) _ (found asked .sought .given .1) _
+    (asked .is-live .ensures) (c .if1 .left)
 
 pub find-block-spec : {M : Type 1} → statement M
 find-block-spec =

@@ -11,7 +11,11 @@ returns c = rw (not-true (c .before .before .before .before .args .binned) (c .i
 
 returns-2 : tie.Need-returns-2
 unfolding leaveBinM
-returns-2 c = rw (not-false (c .before .before .before .before .before .before .before .before .before .before .before .before .before .before .args .binned) (c .before .before .before .before .before .before .before .before .before .before .if1 .left)) (c .before .before .before .before .before .before .leave .ensures)
+returns-2 c =
+    let left = c .before .before .before .before .before .before in
+    let binned = left .before .before .before .before in
+    let start = binned .before .before .before .before in
+    rw (not-false (start .args .binned) (binned .if1 .left)) (left .leave .ensures)
 
 pub leave-bin-spec : {M : Type 1} → statement M
 leave-bin-spec =

@@ -9,11 +9,10 @@ returns c = put-nowhere _ _ _ _ _ (c .before .before .bin-of .ensures) (c .enum-
 
 returns-2 : tie.Need-returns-2
 returns-2 c =
-    put-binned _ _ _ _ _
-    (c .before .before .before .before .before .before .before .before .before .before .before .before .before .bin-of .ensures)
-    (c .before .before .before .before .before .before .before .before .before .before .before .binned .given .1)
-    (c .before .before .before .before .before .before .before .before .before .before .before .before .before .before .small-bins .ensures)
-    (c .before .before .before .before .before .before .put .ensures)
+    let put = c .before .before .before .before .before .before in
+    let binned = put .before .before .before .before .before in
+    let told = binned .before .before in
+    put-binned _ _ _ _ _ (told .bin-of .ensures) (binned .binned .given .1) (told .before .small-bins .ensures) (put .put .ensures)
 
 pub put-in-bin-spec : {M : Type 1} → statement M
 put-in-bin-spec =

@@ -7,11 +7,18 @@ use Rattle.settling.proofs.settle.Tie as tie
 
 returns : tie.Need-returns
 unfolding settleM
-returns c = rw (c .before .before .write-no-bin .ensures, ← c .before .before .before .before .before .is-ordinary .ensures, not-true (c .before .before .before .before .before .is-ordinary .result) (c .before .before .before .before .if1 .taken))
+returns c =
+    let other = c .before .before .before .before in
+    let told = other .before in
+    rw (c .before .before .write-no-bin .ensures, ← told .is-ordinary .ensures, not-true (told .is-ordinary .result) (other .if1 .taken))
 
 returns-2 : tie.Need-returns-2
 unfolding settleM
-returns-2 c = rw (← c .before .before .before .before .before .before .before .before .before .before .before .is-ordinary .ensures, not-false (c .before .before .before .before .before .before .before .before .before .before .before .is-ordinary .result) (c .before .before .before .before .before .before .before .before .before .before .if1 .left)) (c .before .before .before .before .before .before .put-in-bin .ensures)
+returns-2 c =
+    let put = c .before .before .before .before .before .before in
+    let ordinary = put .before .before .before .before in
+    let told = ordinary .before in
+    rw (← told .is-ordinary .ensures, not-false (told .is-ordinary .result) (ordinary .if1 .left)) (put .put-in-bin .ensures)
 
 pub settle-spec : {M : Type 1} → statement M
 settle-spec =

@@ -7,11 +7,9 @@ use Rattle.opening.proofs.layout.write_end.Tie as tie
 returns : tie.Need-returns
 unfolding endWords
 returns c =
-    rw (
-      c .before .before .store2 .ensures,
-      c .before .before .before .wrapping-add-u32 .ensures,
-      c .before .before .before .before .before .before .before .store .ensures,
-    )
+    let backward = c .before .before in
+    let forward = backward .before .before .before .before .before in
+    rw (backward .store2 .ensures, backward .before .wrapping-add-u32 .ensures, forward .store .ensures)
 
 pub write-end-spec : {M : Type 1} → statement M
 write-end-spec =

@@ -7,10 +7,9 @@ use Rattle.opening.proofs.layout.write_start.Tie as tie
 returns : tie.Need-returns
 unfolding startWords
 returns c =
-    rw (
-      c .before .before .store2 .ensures,
-      c .before .before .before .before .before .before .store .ensures,
-    )
+    let backward = c .before .before in
+    let forward = backward .before .before .before .before in
+    rw (backward .store2 .ensures, forward .store .ensures)
 
 pub write-start-spec : {M : Type 1} → statement M
 write-start-spec =

@@ -8,13 +8,19 @@ use Rattle.opening.proofs.layout.write_with_donor.Tie as tie
 returns : tie.Need-returns
 unfolding withDonor startWords freeWords endWords
 returns c =
+    let ended = c .before .before in
+    let top-out = ended .before .before .before .before in
+    let donor-out = top-out .before .before .before .before in
+    let topped = donor-out .before .before .before .before in
+    let donated = topped .before .before .before .before in
+    let started = donated .before .before .before .before in
     rw (
-      c .before .before .write-end .ensures,
-      c .before .before .before .before .before .before .write-no-bin2 .ensures,
-      c .before .before .before .before .before .before .before .before .before .before .write-no-bin .ensures,
-      c .before .before .before .before .before .before .before .before .before .before .before .before .before .before .write-free2 .ensures,
-      c .before .before .before .before .before .before .before .before .before .before .before .before .before .before .before .before .before .before .write-free .ensures,
-      c .before .before .before .before .before .before .before .before .before .before .before .before .before .before .before .before .before .before .before .before .before .before .write-start .ensures,
+      ended .write-end .ensures,
+      top-out .write-no-bin2 .ensures,
+      donor-out .write-no-bin .ensures,
+      topped .write-free2 .ensures,
+      donated .write-free .ensures,
+      started .write-start .ensures,
     )
 
 pub write-with-donor-spec : {M : Type 1} → statement M

@@ -8,12 +8,11 @@ use Rattle.opening.proofs.layout.write_without_donor.Tie as tie
 returns : tie.Need-returns
 unfolding withoutDonor startWords freeWords endWords
 returns c =
-    rw (
-      c .before .before .write-end .ensures,
-      c .before .before .before .before .before .before .write-no-bin .ensures,
-      c .before .before .before .before .before .before .before .before .before .before .write-free .ensures,
-      c .before .before .before .before .before .before .before .before .before .before .before .before .before .before .write-start .ensures,
-    )
+    let ended = c .before .before in
+    let top-out = ended .before .before .before .before in
+    let topped = top-out .before .before .before .before in
+    let started = topped .before .before .before .before in
+    rw (ended .write-end .ensures, top-out .write-no-bin .ensures, topped .write-free .ensures, started .write-start .ensures)
 
 pub write-without-donor-spec : {M : Type 1} → statement M
 write-without-donor-spec =

@@ -18,8 +18,9 @@ abbrev μ-loop : tie.MeasureT-loop
 
 loop-again : tie.Need-loop-again Inv-loop μ-loop
 loop-again c =
-    let l = c .before .before .before .loop in
-    let ws = c .before .before .before .before .before .args .words .now in
+    let turn = c .before .before .before in
+    let l = turn .loop in
+    let ws = turn .before .before .args .words .now in
     ap (λ d. digestFrom d (drop (l .i + 1) ws)) (c .mix .ensures) ∙ digests-one (l .d) (l .i) ws (search needs) ∙ l .inv
 
 returns : tie.Need-returns Inv-loop μ-loop

@@ -20,17 +20,23 @@ further : (c : tie.Else1 Inv-loop μ-loop) → c .before .before .before .before
 further c = c .before .before .entry-at .ensures (not-false _ (c .if1 .left))
 
 loop-less : tie.Need-loop-less Inv-loop μ-loop
-loop-less c = omega (arith, further (c .before .before .before .before .before .before .before))
+loop-less c =
+    let chosen = c .before .before .before .before in
+    omega (arith, further (chosen .before .before .before))
 
 loop-again : tie.Need-loop-again Inv-loop μ-loop
 loop-again c = omega arith
 
 loop-less-2 : tie.Need-loop-less-2 Inv-loop μ-loop
-loop-less-2 c = omega (arith, further (c .before .before .before .before .before .before .before))
+loop-less-2 c =
+    let chosen = c .before .before .before .before in
+    omega (arith, further (chosen .before .before .before))
 
 loop-again-2 : tie.Need-loop-again-2 Inv-loop μ-loop
 loop-again-2 c =
-    let l = c .before .before .before .before .before .before .before .before .before .before .before .loop in
+    let chosen = c .before .before .before .before in
+    let entry = chosen .before .before .before in
+    let l = entry .before .before .before .before .loop in
     let part = length-take-le (l .words) (l .space) (omega arith) in
     simp (length-append, length-drop) (omega (arith, c .before .apply .kept .1 .1 .0))
 
