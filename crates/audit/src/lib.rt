@@ -147,7 +147,16 @@ pub fn look<'a>(
         return Audit::Fails;
     }
     let even = (bytes / 4) as usize;
-    walk_all(&region[..even], &sizes[..bins], heads, tails, bytes, donor, top, used)
+    walk_all(
+        &region[..even],
+        &sizes[..bins],
+        heads,
+        tails,
+        bytes,
+        donor,
+        top,
+        used,
+    )
 }
 
 // The check as a call answers it: the four counts, or the refusal.

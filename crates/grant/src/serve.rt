@@ -1,10 +1,8 @@
-// A request for room on a record: the source is found, and the request met from it by a cut.
+// A request for room on a record, met from its source by a cut.
 // Where nothing can serve, the caller refuses before.
 ghost use mathlib.Core.Path.{_≡_};
-ghost use Rattle.grant.specs.Choose.{chooseM};
 ghost use Rattle.grant.specs.Serve.{kindIn, leaves, placeIn, servedM};
 ghost use Rattle.rules.specs.Serve.{nowhere};
-use crate::choose::choose;
 use crate::cut::cut_of;
 use crate::cut::take;
 use headers::distance;
@@ -20,14 +18,6 @@ pub struct Grant {
     pub heap: Heap,
     pub chunk: Chunk,
     pub size: u32,
-}
-
-// The source of so many bytes.
-pub fn find(region: &[u32], table: &[u32], heap: Heap, need: u32) -> Source
-    ensures { λ r. ⌜ r ≡ chooseM (now (region .entry)) (now (table .entry)) (heap .heads) (heap .donor .0) (heap .top .0) need ⌝ }
-{
-    let heads = heap.heads;
-    choose(region, table, &heads, heap.donor, heap.top, need)
 }
 
 pub fn is_nowhere(source: Source) -> bool

@@ -4,7 +4,7 @@ ghost use mathlib.Core.Path.{_≡_};
 ghost use Rattle.resize.specs.Resize.{moveM, resizeM, shrinkM};
 ghost use Rattle.rules.specs.Statements.{replied};
 use blocks::copy_block;
-use grant::serve::find;
+use grant::choose::choose;
 use grant::serve::is_nowhere;
 use grant::serve::serve;
 use headers::distance;
@@ -48,7 +48,7 @@ fn shrink(region: &mut [u32], table: &[u32], heap: Heap, place: Place, need: u32
 fn move_block(region: &mut [u32], table: &[u32], heap: Heap, place: Place, need: u32) -> Reply
     ensures { λ r. ⌜ replied r (now (region .exit)) ≡ moveM (now (region .entry)) (now (table .entry)) heap place need ⌝ }
 {
-    let source = find(region, table, heap, need);
+    let source = choose(region, table, &heap.heads, heap.donor, heap.top, need);
     if is_nowhere(source) {
         return refused(heap, Refusal::NoRoom);
     }

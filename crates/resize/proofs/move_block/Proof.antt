@@ -7,7 +7,7 @@ use Rattle.resize.proofs.move_block.Tie as tie
 returns : tie.Need-returns
 returns c =
     let nowhere = c .before in
-    moves-not _ _ _ _ _ _ (nowhere .before .before .find .ensures) (nowhere .before .is-nowhere .ensures) (nowhere .if1 .taken)
+    moves-not _ _ _ _ _ _ (nowhere .before .before .choose .ensures) (nowhere .before .is-nowhere .ensures) (nowhere .if1 .taken)
     _ (c .refused .ensures)
 
 returns-2 : tie.Need-returns-2
@@ -18,7 +18,7 @@ returns-2 c =
     let sized = copied .before .before in
     let served = sized .before .before .before .before in
     let somewhere = served .before .before in
-    moves _ _ _ _ _ _ (somewhere .before .before .find .ensures) (somewhere .before .is-nowhere .ensures) (somewhere .if1 .left)
+    moves _ _ _ _ _ _ (somewhere .before .before .choose .ensures) (somewhere .before .is-nowhere .ensures) (somewhere .if1 .left)
     _ _ (served .serve .ensures) _ (sized .distance .ensures) _ (copied .copy-block .ensures) _ (read .word .ensures)
     _ _ (given-up .give-up .ensures) _ (c .before .block-of .ensures) _ (c .change .ensures)
 
