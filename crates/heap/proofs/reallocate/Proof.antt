@@ -18,7 +18,7 @@ returns c = reallocate-none _ _ _ _ (c .before .before .before .before .if1 .tak
 abbrev given : tie.Else2 → tie.Else1
 given c = c .before .before .before
 
--- past the test of the size
+-- past the test of the size: the heap passes
 abbrev checked : tie.Else3 → tie.Else2
 checked c = c .before .before
 

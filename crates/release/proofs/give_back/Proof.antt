@@ -4,18 +4,36 @@ use Rattle.release.proofs.ReleaseSteps.{gave-back}
 use Rattle.release.proofs.give_back.Statement.{statement}
 use Rattle.release.proofs.give_back.Tie as tie
 
+-- the steps, from the end back: the joined chunk is settled, measured, linked and written free, and its neighbours leave their bins
+module _ (c : tie.After-slice-known14) where
+  abbrev settled : tie.After-settle
+  settled = c .before .before .before .before .before .before
+
+  abbrev measured : tie.After-distance
+  measured = settled .before .before .before .before
+
+  abbrev linked : tie.After-write-above
+  linked = measured .before .before .before
+
+  abbrev freed : tie.After-write-free
+  freed = linked .before .before .before .before
+
+  abbrev upper-out : tie.After-leave-bin2
+  upper-out = freed .before .before .before .before .before .before .before .before
+
+  abbrev lent-again : tie.After-leave-bin-arg4
+  lent-again = upper-out .before .before .before
+
+  abbrev heads-back : tie.After-heads
+  heads-back = lent-again .before .before .before .before
+
+  abbrev lower-out : tie.After-leave-bin
+  lower-out = heads-back .before .before .before
+
 returns : tie.Need-returns
 returns c =
-    let settled = c .before .before .before .before .before .before in
-    let sized = settled .before .before .before .before in
-    let linked = sized .before .before .before in
-    let freed = linked .before .before .before .before in
-    let upper-out = freed .before .before .before .before .before .before .before .before in
-    let lent-again = upper-out .before .before .before in
-    let heads-back = lent-again .before .before .before .before in
-    let lower-out = heads-back .before .before .before in
-    gave-back _ _ _ _ _ (lower-out .leave-bin .ensures) (upper-out .leave-bin2 .ensures) (freed .write-free .ensures)
-    (linked .write-above .ensures) (sized .distance .ensures) (settled .settle .ensures)
+    gave-back _ _ _ _ _ (lower-out c .leave-bin .ensures) (upper-out c .leave-bin2 .ensures) (freed c .write-free .ensures)
+    (linked c .write-above .ensures) (measured c .distance .ensures) (settled c .settle .ensures)
 
 pub give-back-spec : {M : Type 1} → statement M
 give-back-spec =

@@ -7,12 +7,20 @@ use Rattle.settling.proofs.put_in_bin.Tie as tie
 returns : tie.Need-returns
 returns c = put-nowhere _ _ _ _ _ (c .before .before .bin-of .ensures) (c .enum-told .given .1)
 
+-- the steps of a put, from its end back
+module _ (c : tie.After-slice-known6) where
+  abbrev put : tie.After-put
+  put = c .before .before .before .before .before .before
+
+  abbrev binned : tie.After-binned
+  binned = put .before .before .before .before .before
+
+  abbrev told : tie.After-bin-of
+  told = binned .before .before
+
 returns-2 : tie.Need-returns-2
 returns-2 c =
-    let put = c .before .before .before .before .before .before in
-    let binned = put .before .before .before .before .before in
-    let told = binned .before .before in
-    put-binned _ _ _ _ _ (told .bin-of .ensures) (binned .binned .given .1) (told .before .small-bins .ensures) (put .put .ensures)
+    put-binned _ _ _ _ _ (told c .bin-of .ensures) (binned c .binned .given .1) (told c .before .small-bins .ensures) (put c .put .ensures)
 
 pub put-in-bin-spec : {M : Type 1} → statement M
 put-in-bin-spec =

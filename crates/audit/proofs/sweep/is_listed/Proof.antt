@@ -12,7 +12,7 @@ module _ (read : tie.After-bin-word) where
   abbrev on-eights : tie.Else1
   on-eights = marked .before .before
 
--- behind the read of the backward word: the bin word is the bin's
+-- behind the read of the previous link: the bin word is the bin's
 module _ (read : tie.After-word2) where
   abbrev same-bin : tie.Else3
   same-bin = read .before

@@ -8,25 +8,44 @@ use Rattle.grant.proofs.cut.take.Tie as tie
 abbrev out-of-bin : tie.After-write-used → tie.After-leave-bin
 out-of-bin c = c .before .before .before .before .before .before .before .before
 
+-- where all is taken: nothing is left, and the used chunk is written
+module _ (c : tie.After-slice-known8) where
+  abbrev nothing-left : tie.Then1
+  nothing-left = c .before .before .before .before
+
+  abbrev all-used : tie.After-write-used
+  all-used = nothing-left .before .before .before .before
+
+-- where a part is taken: the rest is settled, measured, linked and written free, and the used chunk is written
+module _ (c : tie.After-slice-known13) where
+  abbrev settled : tie.After-settle
+  settled = c .before .before .before .before .before .before
+
+  abbrev measured : tie.After-distance
+  measured = settled .before .before .before .before
+
+  abbrev linked : tie.After-write-above2
+  linked = measured .before .before .before
+
+  abbrev freed : tie.After-write-free
+  freed = linked .before .before .before .before
+
+  abbrev rest-left : tie.Else1
+  rest-left = freed .before .before
+
+  abbrev part-used : tie.After-write-used
+  part-used = rest-left .before .before .before .before
+
 returns : tie.Need-returns
 returns c =
-    let whole = c .before .before .before .before in
-    let used = whole .before .before .before .before in
-    let out = out-of-bin used in
-    took-all _ _ _ _ (out .before .is-ordinary .ensures) (out .leave-bin .ensures) (used .write-used .ensures)
-    (whole .if1 .taken) (c .before .before .write-above .ensures)
+    took-all _ _ _ _ (out-of-bin (all-used c) .before .is-ordinary .ensures) (out-of-bin (all-used c) .leave-bin .ensures)
+    (all-used c .write-used .ensures) (nothing-left c .if1 .taken) (c .before .before .write-above .ensures)
 
 returns-2 : tie.Need-returns-2
 returns-2 c =
-    let settled = c .before .before .before .before .before .before in
-    let sized = settled .before .before .before .before in
-    let linked = sized .before .before .before in
-    let freed = linked .before .before .before .before in
-    let part = freed .before .before in
-    let used = part .before .before .before .before in
-    let out = out-of-bin used in
-    took-part _ _ _ _ (out .before .is-ordinary .ensures) (out .leave-bin .ensures) (used .write-used .ensures) (part .if1 .left)
-    (freed .write-free .ensures) (linked .write-above2 .ensures) (sized .distance .ensures) (settled .settle .ensures)
+    took-part _ _ _ _ (out-of-bin (part-used c) .before .is-ordinary .ensures) (out-of-bin (part-used c) .leave-bin .ensures)
+    (part-used c .write-used .ensures) (rest-left c .if1 .left) (freed c .write-free .ensures) (linked c .write-above2 .ensures)
+    (measured c .distance .ensures) (settled c .settle .ensures)
 
 pub take-spec : {M : Type 1} → statement M
 take-spec =

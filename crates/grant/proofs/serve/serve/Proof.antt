@@ -6,7 +6,7 @@ use Rattle.grant.proofs.ServeSteps.{serves-by}
 use Rattle.grant.proofs.serve.serve.Statement.{statement}
 use Rattle.grant.proofs.serve.serve.Tie as tie
 
--- behind the loan of the heads: the record's fields are known, and the call began
+-- behind the loan of the heads: the new top is known, and the call began
 abbrev topped : tie.After-heads2 → tie.After-top-after
 topped c = c .before .before .before .before
 
