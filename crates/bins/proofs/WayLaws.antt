@@ -45,13 +45,6 @@ module _ (i : ℕ) (cs : List ℕ) (lists : ℕ → List ℕ) where
   pub relisted-other : (j : ℕ) → j ≢ i → relisted i cs lists j ≡ lists j
   relisted-other j ne = rw (ne-eqb j i ne)
 
-  pub relisted-id : lists i ≡ cs → (j : ℕ) → relisted i cs lists j ≡ lists j
-  relisted-id e j = go (ℕ-discrete j i)
-    where
-      go : Dec (j ≡ i) → relisted i cs lists j ≡ lists j
-      go (yes q) = rw (eq-eqb j i q, q) (sym e)
-      go (no ne) = relisted-other j ne
-
   pub member-relisted : (j : ℕ) {d : ℕ} → Mem d (relisted i cs lists j) → ((j ≡ i) × Mem d cs) ⊎ ((j ≢ i) × Mem d (lists j))
   member-relisted j {d} m = go (ℕ-discrete j i)
     where
@@ -94,10 +87,6 @@ leave-off c cs x f =
     meet-off x (upTo (eqb c) cs) (past (eqb c) cs) (λ d m. f d (before-from (eqb c) cs m)) (λ d m. f d (after-from (eqb c) cs m))
 
 module _ (b : Books) (i c d k : ℕ) where
-  pub leave-word : (cs : List ℕ) → NoLink (d / 4 + k) cs
-      → word (left b i (upTo (eqb c) cs) (past (eqb c) cs) .words) d k ≡ word (b .words) d k
-  leave-word cs f = off (meet (upTo (eqb c) cs) (past (eqb c) cs)) (b .words) d k (leave-off c cs (d / 4 + k) f)
-
   pub put-word : (xs ys : List ℕ) → NoLink (d / 4 + k) (xs ++ ys)
       → (d / 4 + k ≢ c / 4 + nextInBin) × (d / 4 + k ≢ c / 4 + previousInBin) × (d / 4 + k ≢ c / 4 + bin)
       → word (putAt b i xs c ys .words) d k ≡ word (b .words) d k
@@ -123,12 +112,6 @@ header-no-link d k cs s z f = λ c m. at c (f c m .0) (f c m .1) (decLt c d)
     at c e g (yes q) = let r = g q in omega arith
     at c e g (no ne) = omega arith
 
-pub left-length : (b : Books) (i : ℕ) (xs ys : List ℕ) → length (left b i xs ys .words) ≡ length (b .words)
-left-length b i xs ys = length-written (meet xs ys) (b .words)
-
-pub put-length : (b : Books) (i : ℕ) (xs : List ℕ) (c : ℕ) (ys : List ℕ) → length (putAt b i xs c ys .words) ≡ length (b .words)
-put-length b i xs c ys = length-written (putStores i xs c ys) (b .words)
-
 pub way-begins : (ws : List ℕ) (h : Heap) → Passes ws h → OnWay (books ws (h .heads) (h .tails)) (binList ws h) (h .bins)
 way-begins ws h p =
     let t = p .table in
@@ -145,19 +128,6 @@ way-begins ws h p =
 module _ (b : Books) (lists : ℕ → List ℕ) (n : ℕ) (w : OnWay b lists n) where
   pub way-leads : (j : ℕ) → j < n → Leads (b .words) (lists j)
   way-leads j l = let h = w .holds j l in linked-leads (b .words) 0 (lists j) (h .links) (λ c m. h .nodes c m .some)
-
-  -- only what the lists are counts
-  pub way-same : (same : ℕ → List ℕ) → ((j : ℕ) → j < n → same j ≡ lists j) → OnWay b same n
-  way-same same e =
-      record {
-        few = w .few;
-        heads = w .heads;
-        tails = w .tails;
-        holds = λ j l. rw (e j l) (w .holds j l);
-        apart = λ i j li lj ne c m k. w .apart i j li lj ne c (rw (e i li) at m) (rw (e j lj) at k);
-        far = λ i j c d li lj m k ne. w .far i j c d li lj (rw (e i li) at m) (rw (e j lj) at k) ne;
-        binned = λ j c l m. w .binned j c l (rw (e j l) at m);
-      }
 
   -- stores that are to no link and to no bin word of a member
   pub way-keeps : (ss : List Store)

@@ -14,7 +14,7 @@ use Rattle.rules.specs.Allocate.{sourceOf, grant}
 use Rattle.rules.specs.Calls.{Call, Allocate, AllocateCleared, Free, Reallocate}
 use Rattle.rules.specs.Check.{Passes}
 use Rattle.rules.specs.Draft.{Draft, asRead, Spot}
-use Rattle.rules.specs.Free.{isLive, blockSpot, freeBlock}
+use Rattle.rules.specs.Free.{isLive, blockSpot}
 use Rattle.rules.specs.Kinds.{overhead}
 use Rattle.rules.specs.Reallocate.{moved, shrunk, resized}
 use Rattle.rules.specs.Serve.{need, nowhere}

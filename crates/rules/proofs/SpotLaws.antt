@@ -7,7 +7,7 @@ use mathlib.Core.List.{List, [], _∷_, _++_, append-assoc, List·Memᴰ·head, 
 use Prim.Native.Nat.{ℕ, _+_, _*_, _-_, _%_, _≤_, _<_}
 use native.Mathlib.Omega.{arith}
 use lib.ListN.{length, drop}
-use borrow.Author.Tests.{eqb-true, eq-eqb, ne-eqb}
+use borrow.Author.Tests.{eqb-true}
 use Rattle.lists.specs.Lists.{Mem, headOr, lastOr, butLast, any, keep, total, upTo, past}
 use Rattle.lists.proofs.ListsLaws.{number-is, for-some}
 use Rattle.record.specs.declared.heap.Heap.{Heap}
@@ -53,25 +53,8 @@ module _ (q : Entry → Bool) where
       go true e a f = (refl, e)
       go false e a f = let r = f a in (ap (λ (l : List Entry). x ∷ l) (r .0), r .1)
 
-  pub spot-low : (l : List Entry) (d : Entry) → Mem d (spot q l .low) → q d ≡ false
-  spot-low [] d m = absurd (List·Memᴰ·not-nil m)
-  spot-low (x ∷ xs) d m = go (q x) refl m (spot-low xs d)
-    where
-      go : (t : Bool) → q x ≡ t → Mem d (cond t [] (x ∷ upTo q xs)) → (Mem d (upTo q xs) → q d ≡ false) → q d ≡ false
-      go true e m f = absurd (List·Memᴰ·not-nil m)
-      go false e (List·Memᴰ·head s) f = ap q s ∙ e
-      go false e (List·Memᴰ·tail k) f = f k
-
   pub spot-member : (l : List Entry) → any q l ≡ true → Mem (spot q l .here) l
   spot-member l a = in-split (spot q l .low) (spot q l .here) (spot q l .high) (spot-splits l a .0)
-
-  -- any way to take a list apart at its first such member is this one
-  pub spot-is : (low : List Entry) (e : Entry) (high : List Entry) → ((d : Entry) → Mem d low → q d ≡ false) → q e ≡ true
-      → spot q (low ++ e ∷ high) ≡ record { low = low; here = e; high = high }
-  spot-is [] e high none some = rw some refl
-  spot-is (x ∷ xs) e high none some =
-      let r = spot-is xs e high (λ d m. none d (List·Memᴰ·tail m)) some in
-      rw (none x (List·Memᴰ·head refl)) (ap (λ (s : Spot). record { low = x ∷ s .low; here = s .here; high = s .high }) r)
 
 -- the chunks lie one behind the other from a to b
 abbrev pub Tiled : ℕ → List Entry → ℕ → Type 0
@@ -234,7 +217,6 @@ pub record Ends (h : Heap) (es : List Entry) : Type 0 where
   pub startPlace : headOr outside es .place ≡ 0
   pub startSize : headOr outside es .size ≡ 8
   pub startFlags : headOr outside es .flags ≡ 1
-  pub finishes : es ≡ butLast es ++ lastOr outside es ∷ []
   pub end : Mem (lastOr outside es) es
   pub endPlace : lastOr outside es .place + 8 ≡ h .bytes
   pub endSize : lastOr outside es .size ≡ 8
@@ -248,10 +230,8 @@ pub record Around (ws : List ℕ) (es low : List Entry) (e : Entry) (high : List
   pub above : Mem (headOr outside high) es
   pub belowEnd : blockEnd (lastOr outside low) ≡ e .place
   pub abovePlace : headOr outside high .place ≡ blockEnd e
-  pub belowForward : word ws (lastOr outside low .place) forward ≡ e .place
   pub ownForward : word ws (e .place) forward ≡ headOr outside high .place
   pub ownBackward : word ws (e .place) backward ≡ lastOr outside low .place + e .flags
-  pub aboveBackward : word ws (headOr outside high .place) backward ≡ e .place + headOr outside high .flags
 
 -- what the record says makes a free chunk the top or the donor
 module _ (ws : List ℕ) (h : Heap) (e : Entry) (f : Free ws h e) where
@@ -313,14 +293,6 @@ module _ (ws : List ℕ) (h : Heap) (p : Passes ws h) where
     cut : (m : ℕ) × Tiled 0 low m × Tiled m (e ∷ high) (h .bytes)
     cut = tiled-cut 0 (h .bytes) low (e ∷ high) (rw split at tiled)
 
-    pub apart-low : (d : Entry) → Mem d low → blockEnd d ≤ e .place
-    apart-low d m =
-        let r = tiled-in 0 (cut .0) low (cut .1) m in
-        omega (arith, cut .2 .0)
-
-    pub apart-high : (d : Entry) → Mem d high → blockEnd e ≤ d .place
-    apart-high d m = tiled-in (blockEnd e) (h .bytes) high (cut .2 .2) m .0
-
   -- a chunk, the one behind it, and the links between them
   pub next-is : (low : List Entry) (e d : Entry) (high : List Entry) → es ≡ low ++ e ∷ d ∷ high
       → (d .place ≡ blockEnd e) × (word ws (e .place) forward ≡ d .place) × (word ws (d .place) backward ≡ e .place + d .flags)
@@ -342,7 +314,6 @@ module _ (ws : List ℕ) (h : Heap) (p : Passes ws h) where
         startPlace = c .first;
         startSize = p .ends .startSize;
         startFlags = p .ends .startUsed;
-        finishes = ends-with outside es some;
         end = c .has-last outside;
         endPlace = r;
         endSize = omega arith;
@@ -383,24 +354,6 @@ module _ (ws : List ℕ) (h : Heap) (p : Passes ws h) where
       let i : spot (isAt c) es .here ≡ e = one-chunk _ e (spot-member (isAt c) es a) m (eqb-true _ _ (s .1) ∙ sym q) in
       (a, i, s .0 ∙ ap (λ (x : Entry). spot (isAt c) es .low ++ x ∷ spot (isAt c) es .high) i)
 
-  pub at-place : (e : Entry) → Mem e es → any (isAt (e .place)) es ≡ true
-  at-place e m = spot-at (e .place) e m refl .0
-
-  pub here-is : (e : Entry) → Mem e es → spot (isAt (e .place)) es .here ≡ e
-  here-is e m = spot-at (e .place) e m refl .1
-
-  -- there is no other way
-  pub spot-split : (low : List Entry) (e : Entry) (high : List Entry) → es ≡ low ++ e ∷ high
-      → spot (isAt (e .place)) es ≡ record { low = low; here = e; high = high }
-  spot-split low e high s =
-      ap (spot (isAt (e .place))) s
-      ∙ spot-is (isAt (e .place)) low e high
-      (λ d m.
-      let a = apart-low low e high s d m in
-      let i = tiled-in 0 _ low (cut low e high s .1) m in
-      ne-eqb (d .place) (e .place) (λ q. omega arith))
-      (eq-eqb (e .place) (e .place) refl)
-
   -- the chunk is not the first, which is at 0, nor the last, which reaches the end of the heap bytes
   pub around : (low : List Entry) (e : Entry) (high : List Entry) → es ≡ low ++ e ∷ high → 0 < e .place → e .place + 8 < h .bytes
       → Around ws es low e high
@@ -421,10 +374,8 @@ module _ (ws : List ℕ) (h : Heap) (p : Passes ws h) where
         above = in-split (low ++ e ∷ []) _ (drop 1 high) (es-high ∙ sym (append-assoc low (e ∷ []) _));
         belowEnd = sym (down .0);
         abovePlace = up .0;
-        belowForward = down .1;
         ownForward = up .1;
         ownBackward = down .2;
-        aboveBackward = up .2;
       }
 
   -- a free chunk is neither start nor end, since those are in use

@@ -1,10 +1,8 @@
 -- The kinds of a chunk, and blocks (document 01, "Words, chunks, blocks").
 -- That a block starts eight bytes above its chunk is said here and nowhere else in the rules.
 use mathlib.Core.Bool.{Bool, true, false, cond}
-use mathlib.Core.List.{List, map}
 use Prim.Native.Nat.{ℕ, _+_, _-_, _/_, _%_}
 use lib.Dec.{eqb}
-use Rattle.lists.specs.Lists.{keep}
 use Rattle.record.specs.declared.heap.Heap.{Heap}
 use Rattle.record.specs.declared.kinds.Kind.{Kind}
 use Rattle.record.specs.declared.kinds.Kind.the-variants.{Start, InUse, Ordinary, Donor, Top, End}
@@ -90,9 +88,6 @@ pub record Held : Type 0 where
 
 abbrev pub held : Entry → Held
 held e = record { at = blockOf e; length = blockEnd e - blockOf e }
-
-abbrev pub liveBlocks : Heap → List Entry → List Held
-liveBlocks h es = map held (keep (live h) es)
 
 -- the chunk at a place, and the chunk of a live block at a place
 abbrev pub isAt : ℕ → Entry → Bool
