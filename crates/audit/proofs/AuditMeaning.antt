@@ -19,19 +19,18 @@ use Rattle.record.specs.declared.answers.Counts.{Counts}
 use Rattle.record.specs.declared.answers.Refusal.the-variants.{HeapFails}
 use Rattle.record.specs.declared.heap.Heap.{Heap}
 use Rattle.record.specs.declared.kinds.Kind.{Kind}
-use Rattle.record.specs.declared.kinds.Kind.the-variants.{Start, InUse, Ordinary, Donor, Top, End}
 use Rattle.record.specs.Heap.{tableOf}
 use Rattle.record.specs.Table.{validTable}
 use Rattle.record.proofs.TableLaws.{valid-iff}
 use Rattle.region.specs.Words.{word, size}
 use Rattle.rules.specs.Check.{Tabled, Listed, InItsBin, BelongsTo, unusedFrom, usedBytes, countsOf, passes, Passes, Fits}
-use Rattle.rules.specs.Kinds.{ordinary, ordinaryKind, kindAt, kindOf}
+use Rattle.rules.specs.Kinds.{ordinary, ordinaryKind, kindAt}
 use Rattle.rules.specs.Merge.{checked}
 use Rattle.rules.specs.Shape.{Entry, shape, binList, members, membersFrom}
 use Rattle.rules.proofs.CheckLaws.{passes-iff}
 use Rattle.rules.proofs.EvenLaws.{evenPart, even-passes, even-fits, even-agrees, same-shape}
 use Rattle.rules.proofs.ChainLaws.{shape-chain}
-use Rattle.rules.proofs.KindsLaws.{Being, being}
+use Rattle.rules.proofs.KindsLaws.{ordinary-free}
 use Rattle.rules.proofs.ShapeLaws.{shape-is}
 use Rattle.audit.specs.declared.Audit.{Audit}
 use Rattle.audit.specs.declared.Audit.the-variants as found
@@ -50,18 +49,6 @@ pub record Rest (ws : List ℕ) (h : Heap) : Type 0 where
   pub bins : (i : ℕ) → i < h .bins → Listed ws h (shape ws (h .bytes)) i (binList ws h i)
   pub binned : (e : Entry) → Mem e (shape ws (h .bytes)) → ordinary h e ≡ true → InItsBin ws h e
   pub used : h .used ≡ usedBytes h (shape ws (h .bytes))
-
--- an ordinary chunk is free
-ordinary-free : (h : Heap) (e : Entry) → ordinary h e ≡ true → e .flags ≤ 1 → e .flags ≡ 0
-ordinary-free h e o l = go (kindOf h e) o (being (h .bytes) (h .donor .0) (h .top .0) e)
-  where
-    go : (k : Kind) → ordinaryKind k ≡ true → Being (h .bytes) (h .donor .0) (h .top .0) e k → e .flags ≡ 0
-    go Start q b = absurd (false≢true q)
-    go InUse q b = absurd (false≢true q)
-    go Ordinary q b = let f = b .2 in omega arith
-    go Donor q b = absurd (false≢true q)
-    go Top q b = absurd (false≢true q)
-    go End q b = absurd (false≢true q)
 
 -- marking keeps the bitmap's length
 marked-long : (ms : List ℕ) (k : Kind) (c : ℕ) → length (marking ms k c) ≡ length ms

@@ -1,9 +1,9 @@
 -- Books half-way through a call, when chunks have left bins or were put into them and other words were written in between:
 -- step by step the bins hold the lists that the rules name, and words elsewhere stay as they were. Assumes nothing.
-use mathlib.Core.Path.{_≡_, refl, sym, ap, _∙_}
+use mathlib.Core.Path.{_≡_, refl, sym, _∙_}
 use mathlib.Core.Logic.{_≢_, _⊎_, inl, inr}
-use mathlib.Core.Bool.{Bool, true, false, cond}
-use mathlib.Core.List.{List, [], _∷_, _++_, append-nil, List·Memᴰ·head, List·Memᴰ·tail, List·Memᴰ·not-nil, Memᴰ·append-left, Memᴰ·append-right, List·Memᴰ·append-cases}
+use mathlib.Core.Bool.{cond}
+use mathlib.Core.List.{List, [], _∷_, _++_, append-nil, List·Memᴰ·head, List·Memᴰ·tail, Memᴰ·append-left, Memᴰ·append-right, List·Memᴰ·append-cases}
 use Prim.Native.Nat.{ℕ, _+_, _*_, _/_, _%_, _≤_, _<_}
 use native.Mathlib.Decide.{ℕ-discrete, decLt}
 use native.Mathlib.Omega.{arith}
@@ -12,6 +12,7 @@ use lib.ListN.{length, getD, length-set}
 use borrow.Author.Tests.{eq-eqb, ne-eqb}
 use Rattle.lists.specs.Lists.{Mem, headOr, lastOr, upTo, past}
 use Rattle.lists.proofs.MembersLaws.{member-with, member-without, distinct-parts}
+use Rattle.lists.proofs.SplitLaws.{before-from, after-from, split-at-member}
 use Rattle.record.specs.declared.heap.Heap.{Heap}
 use Rattle.region.specs.Words.{word, Store, put, written, nextInBin, previousInBin, bin}
 use Rattle.region.proofs.WordsLaws.{Off, off, word-same, length-written, written-append}
@@ -51,35 +52,6 @@ module _ (i : ℕ) (cs : List ℕ) (lists : ℕ → List ℕ) where
       go : Dec (j ≡ i) → ((j ≡ i) × Mem d cs) ⊎ ((j ≢ i) × Mem d (lists j))
       go (yes q) = inl (q, rw (eq-eqb j i q) at m)
       go (no ne) = inr (ne, rw (ne-eqb j i ne) at m)
-
--- a list taken apart at a member
-pub split-at-member : {c : ℕ} {cs : List ℕ} → Mem c cs → cs ≡ upTo (eqb c) cs ++ c ∷ past (eqb c) cs
-split-at-member {c} (List·Memᴰ·head {x = x} {xs = xs} e) = rw (eq-eqb c x e) (ap (λ (y : ℕ). y ∷ xs) (sym e))
-split-at-member {c} (List·Memᴰ·tail {x = x} {xs = xs} m) = go (split-at-member m) (ℕ-discrete c x)
-  where
-    go : xs ≡ upTo (eqb c) xs ++ c ∷ past (eqb c) xs → Dec (c ≡ x)
-        → x ∷ xs ≡ upTo (eqb c) (x ∷ xs) ++ c ∷ past (eqb c) (x ∷ xs)
-    go r (yes e) = rw (eq-eqb c x e) (ap (λ (y : ℕ). y ∷ xs) (sym e))
-    go r (no ne) = rw (ne-eqb c x ne) (ap (λ (l : List ℕ). x ∷ l) r)
-
--- what stands before and after it is of the list
-module _ (p : ℕ → Bool) where
-  pub before-from : (cs : List ℕ) {d : ℕ} → Mem d (upTo p cs) → Mem d cs
-  before-from [] m = absurd (List·Memᴰ·not-nil m)
-  before-from (x ∷ xs) {d} m = go (p x) m (λ k. before-from xs k)
-    where
-      go : (t : Bool) → Mem d (cond t [] (x ∷ upTo p xs)) → (Mem d (upTo p xs) → Mem d xs) → Mem d (x ∷ xs)
-      go true k f = absurd (List·Memᴰ·not-nil k)
-      go false (List·Memᴰ·head e) f = List·Memᴰ·head e
-      go false (List·Memᴰ·tail k) f = List·Memᴰ·tail (f k)
-
-  pub after-from : (cs : List ℕ) {d : ℕ} → Mem d (past p cs) → Mem d cs
-  after-from [] m = absurd (List·Memᴰ·not-nil m)
-  after-from (x ∷ xs) {d} m = go (p x) m (λ k. after-from xs k)
-    where
-      go : (t : Bool) → Mem d (cond t xs (past p xs)) → (Mem d (past p xs) → Mem d xs) → Mem d (x ∷ xs)
-      go true k f = List·Memᴰ·tail k
-      go false k f = List·Memᴰ·tail (f k)
 
 -- words that a step leaves alone: none but the links of members, and the links and the bin word of the chunk that is put
 pub leave-off : (c : ℕ) (cs : List ℕ) (x : ℕ) → NoLink x cs → Off x (meet (upTo (eqb c) cs) (past (eqb c) cs))

@@ -21,7 +21,7 @@ use Rattle.rules.specs.Draft.{headers, noBinWords}
 use Rattle.rules.specs.Setup.{fresh, firstHeaders}
 use Rattle.rules.proofs.KindsLaws.{kind-start, kind-end, kind-top, kind-donor}
 use Rattle.rules.proofs.ShapeLaws.{read-none}
-use Rattle.rules.proofs.SpotLaws.{tiled-empty}
+use Rattle.rules.proofs.TiledLaws.{tiled-empty}
 use Rattle.settling.proofs.LayoutLaws.{Laid, Layout}
 use Rattle.settling.proofs.HeaderLaws.{Header, Headed, headed-backed, headed-sized, headed-last, reads-as}
 use Rattle.promises.proofs.RefusedLaws.{Fitting}

@@ -9,9 +9,10 @@ use borrow.Author.Tests.{leb-true, ltb-true}
 use Rattle.grant.proofs.GrantedChunk.{grantedWords, kept, new-there}
 use Rattle.grant.proofs.GrantSpares.{grant-inside}
 use Rattle.lists.specs.Lists.{Mem, numbersFrom}
+use Rattle.lists.proofs.SplitLaws.{in-split}
 use Rattle.record.specs.declared.heap.Heap.{Heap}
 use Rattle.region.specs.Words.{Store, put, word}
-use Rattle.region.proofs.PrefixLaws.{Below}
+use Rattle.region.proofs.PrefixLaws.{Below, below-both}
 use Rattle.region.proofs.WordsLaws.{length-written}
 use Rattle.release.proofs.ReleaseMeaning.{splits}
 use Rattle.release.proofs.ReleaseSpares.{free-inside, shrink-inside}
@@ -25,13 +26,8 @@ use Rattle.rules.specs.Cut.{Grant}
 use Rattle.rules.specs.Allocate.{sourceOf, grant, asFound, cleared}
 use Rattle.rules.specs.Free.{isLive, blockSpot, freeBlock}
 use Rattle.rules.specs.Reallocate.{shrunk, moved, resized}
-use Rattle.rules.proofs.SpotLaws.{inside, in-split}
+use Rattle.rules.proofs.SpotLaws.{inside}
 use Rattle.settling.proofs.FillLaws.{Within, filled-within}
-
--- stores one after the other
-below-both : (m : ℕ) (ss ts : List Store) → Below m ss → Below m ts → Below m (ss ++ ts)
-below-both m [] ts a b = b
-below-both m (s ∷ ss) ts a b = (a .0, below-both m ss ts (a .1) b)
 
 -- what is written into a block is below its end
 within-below : (m : ℕ) (e : Entry) (ss : List Store) → blockEnd e / 4 ≤ m → Within e ss → Below m ss

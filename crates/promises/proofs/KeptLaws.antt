@@ -11,6 +11,7 @@ use lib.ListN.{length}
 use borrow.Author.Tests.{leb-true, ltb-true}
 use Rattle.grant.proofs.NeedLaws.{need-large, need-eight}
 use Rattle.lists.proofs.ListsLaws.{less, or-else}
+use Rattle.lists.proofs.SplitLaws.{in-split}
 use Rattle.record.specs.declared.answers.Answer.{Answer}
 use Rattle.record.specs.declared.answers.Answer.the-variants.{Done, Granted, Returned, Told, Counted, Refused}
 use Rattle.record.specs.declared.heap.Heap.{Heap}
@@ -37,7 +38,6 @@ use Rattle.settling.proofs.FillLaws.{Within, filled-within, fills}
 use Rattle.promises.specs.Ways.{ours}
 use Rattle.promises.specs.Kept.{Passing, Accepted, OnLiveBlocks, afterStores, Keeping}
 use Rattle.promises.proofs.FreshLaws.{fresh-passes}
-use Rattle.rules.proofs.SpotLaws.{in-split}
 use Rattle.release.proofs.ReleaseMeaning.{splits}
 use Rattle.promises.specs.Room.{OnChain}
 use Rattle.grant.proofs.GrantedChunk.{given, filled}

@@ -6,6 +6,7 @@ use Prim.Native.Nat.{ℕ, _+_, _*_, _<_}
 use native.Mathlib.Omega.{arith}
 use lib.Dec.{leb, ltb}
 use borrow.Author.Tests.{ltb-true, leb-true}
+use Rattle.lists.proofs.SplitLaws.{in-split}
 use Rattle.record.specs.declared.answers.Refusal.{Refusal}
 use Rattle.record.specs.declared.answers.Refusal.the-variants.{HeapFails, NotLive, NoRoom, NoBinTakes}
 use Rattle.record.specs.declared.heap.Heap.{Heap}
@@ -19,7 +20,6 @@ use Rattle.rules.specs.Kinds.{overhead}
 use Rattle.rules.specs.Reallocate.{moved, shrunk, resized}
 use Rattle.rules.specs.Serve.{need, nowhere}
 use Rattle.rules.specs.Shape.{Entry}
-use Rattle.rules.proofs.SpotLaws.{in-split}
 use Rattle.grant.proofs.NeedLaws.{need-large, need-eight}
 use Rattle.grant.proofs.GrantKept.{grant-kept}
 use Rattle.release.proofs.ReleaseKept.{free-kept}

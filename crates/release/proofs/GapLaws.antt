@@ -7,38 +7,25 @@ use mathlib.Core.List.{List, [], _∷_, _++_, append-assoc, List·Memᴰ·head, 
 use Prim.Native.Nat.{ℕ, _+_, _-_, _%_, _≤_, _<_}
 use native.Mathlib.Omega.{arith}
 use Rattle.lists.specs.Lists.{Mem}
+use Rattle.lists.proofs.SplitLaws.{among, outer-in, middle-in}
 use Rattle.record.specs.declared.heap.Heap.{Heap}
-use Rattle.record.specs.declared.kinds.Kind.{Kind}
-use Rattle.record.specs.declared.kinds.Kind.the-variants.{Start, InUse, Ordinary, Donor, Top, End}
 use Rattle.region.specs.Words.{written}
 use Rattle.rules.specs.Shape.{Entry, entry}
-use Rattle.rules.specs.Kinds.{ordinaryKind, liveKind, kindOf, ordinary, live, unused, blockEnd, outside}
+use Rattle.rules.specs.Kinds.{ordinaryKind, kindOf, ordinary, live, unused, blockEnd, outside}
 use Rattle.rules.specs.Check.{usedBytes, Passes}
 use Rattle.rules.specs.Draft.{Draft, leaveBin}
-use Rattle.rules.proofs.KindsLaws.{Being, being, kind-top, kind-donor}
-use Rattle.rules.proofs.SpotLaws.{Tiled, tiled-empty}
-use Rattle.settling.proofs.LayoutLaws.{Laid, Layout, Cuts, cuts, outer-beside, beside-elsewhere, every-other, among, outer-in, middle-in, layout-replaced}
+use Rattle.rules.proofs.KindsLaws.{kind-top, kind-donor, ordinary-free, free-not-live}
+use Rattle.rules.proofs.TiledLaws.{Tiled, tiled-empty}
+use Rattle.settling.proofs.LayoutLaws.{Laid, Layout, Cuts, cuts, outer-beside, beside-elsewhere, every-other, layout-replaced}
 use Rattle.settling.proofs.HeaderLaws.{Headed, headed-cut, headed-below}
-use Rattle.settling.proofs.HalfwayLaws.{now, Halfway, halfway-fewer, ordinary-free, leave-headed, leave-halfway, leave-keeps, Opened}
+use Rattle.settling.proofs.HalfwayLaws.{now, Halfway, halfway-fewer, leave-headed, leave-halfway, leave-keeps, Opened}
 use Rattle.settling.proofs.PictureLaws.{Posts, used-replaced}
 
 -- the free chunk from one place to another
 abbrev pub filling : ℕ → ℕ → Entry
 filling from to = entry from (to - from) unused
 
--- a free chunk has no live block
-pub free-not-live : (h : Heap) (e : Entry) → e .flags ≡ 0 → live h e ≡ false
-free-not-live h e f = go (kindOf h e) (being (h .bytes) (h .donor .0) (h .top .0) e)
-  where
-    go : (k : Kind) → Being (h .bytes) (h .donor .0) (h .top .0) e k → liveKind k ≡ false
-    go InUse b = absurd (omega (arith, b .2))
-    go Start b = refl
-    go Ordinary b = refl
-    go Donor b = refl
-    go Top b = refl
-    go End b = refl
-
--- and counts for nothing
+-- a free chunk counts for nothing
 pub none-used : (h : Heap) (e : Entry) → e .flags ≡ 0 → usedBytes h (e ∷ []) ≡ 0
 none-used h e f = rw (free-not-live h e f)
 
@@ -50,7 +37,7 @@ ordinary-elsewhere : (h : Heap) (e : Entry) → Laid (h .bytes) e → ordinary h
 ordinary-elsewhere h e y o = (not-top, λ q. false≢true (ap ordinaryKind (kind-donor (h .bytes) (h .donor .0) (h .top .0) e start end even not-top q) ∙ o))
   where
     free : (8 ≤ e .place) × (24 ≤ e .size) × (blockEnd e + 8 ≤ h .bytes)
-    free = y .free (ordinary-free (h .bytes) h e y o)
+    free = y .free (ordinary-free h e o (y .flags))
 
     start : e .place ≢ 0
     start q = omega (arith, free .0)
@@ -59,7 +46,7 @@ ordinary-elsewhere h e y o = (not-top, λ q. false≢true (ap ordinaryKind (kind
     end q = omega (arith, free .1, free .2)
 
     even : e .flags % 2 ≢ 1
-    even q = omega (arith, ordinary-free (h .bytes) h e y o)
+    even q = omega (arith, ordinary-free h e o (y .flags))
 
     not-top : e .place ≢ h .top .0
     not-top q = false≢true (ap ordinaryKind (kind-top (h .bytes) (h .donor .0) (h .top .0) e start end even q) ∙ o)
@@ -329,7 +316,7 @@ module _ (ws : List ℕ) (h : Heap) (p : Passes ws h) (base : List Entry) (rest 
   below-joins low x from to high d g o posts =
       let m : Mem x (low ++ x ∷ [] ++ filling from to ∷ [] ++ high) = Memᴰ·append-left high (middle-in low (x ∷ []) (filling from to ∷ []) (List·Memᴰ·head refl)) in
       let y = g .layout .chunks x m in
-      let f = ordinary-free (h .bytes) h x y o in
+      let f = ordinary-free h x o (y .flags) in
       (widen-left low x (x ∷ filling from to ∷ []) (x .place) to high d (widens-down low x from to high d g f) o, posts-stay low x high y o posts)
 
   -- the chunk x above the gap
@@ -340,7 +327,7 @@ module _ (ws : List ℕ) (h : Heap) (p : Passes ws h) (base : List Entry) (rest 
     -- joins if it is ordinary
     pub above-joins : ordinary h x ≡ true → Posts h (low ++ x ∷ high) → Gap low from (blockEnd x) high (leaveBin x d) × Posts h (low ++ high)
     above-joins o posts =
-        let f = ordinary-free (h .bytes) h x above-laid o in (
+        let f = ordinary-free h x o (above-laid .flags) in (
           widen-left low x (filling from to ∷ x ∷ []) from (blockEnd x) high d (widens-up low from to x high d g f) o,
           posts-stay low x high above-laid o (subst (λ (l : List Entry). Posts h l) (over-stay low from to x high d g f) posts),
         )

@@ -7,13 +7,15 @@ use mathlib.Core.List.{List, [], _∷_, _++_, append-assoc, List·Memᴰ·head, 
 use Prim.Native.Nat.{ℕ, _+_, _<_}
 use native.Mathlib.Omega.{arith}
 use Rattle.lists.specs.Lists.{Mem, headOr, lastOr}
+use Rattle.lists.proofs.SplitLaws.{among, outer-in}
 use Rattle.record.specs.declared.heap.Heap.{Heap}
 use Rattle.rules.specs.Shape.{Entry, shape}
 use Rattle.rules.specs.Kinds.{ordinary, blockEnd, outside}
 use Rattle.rules.specs.Check.{Passes}
 use Rattle.rules.specs.Draft.{asRead}
-use Rattle.rules.proofs.SpotLaws.{tiled-empty, Between}
-use Rattle.settling.proofs.LayoutLaws.{Beside, Layout, Cuts, layout-read, cuts, outer-beside, beside-elsewhere, every-other, among, outer-in}
+use Rattle.rules.proofs.SpotLaws.{Between}
+use Rattle.rules.proofs.TiledLaws.{tiled-empty}
+use Rattle.settling.proofs.LayoutLaws.{Beside, Layout, Cuts, layout-read, cuts, outer-beside, beside-elsewhere, every-other}
 use Rattle.settling.proofs.HeaderLaws.{Header, Headed, headed-cut, headed-read}
 use Rattle.settling.proofs.HalfwayLaws.{Halfway, halfway-begins, halfway-fewer, Opened}
 
