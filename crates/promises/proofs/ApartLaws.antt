@@ -42,9 +42,10 @@ use Rattle.promises.specs.Ways.{ours}
 use Rattle.promises.specs.Room.{OnChain, HoldsBlock}
 use Rattle.promises.specs.Refused.{isSetup, recordOf}
 use Rattle.promises.specs.Apart.{SameWords, Keeps, KeepsAll, KeepsOthers, Gone, NoneNew, NoneNewBut, New, Clear, Stays, onlyLooks, Apart}
-use Rattle.promises.proofs.RefusedLaws.{live-iff, one-block, here-holds, refusing}
+use Rattle.promises.proofs.RefusedLaws.{refusing}
 use Rattle.promises.proofs.GrantedLaws.{kept-still, new-apart, new-clear, cleared-within, others-kept, none-others, moved-apart}
 use Rattle.promises.proofs.OddLaws.{Failed}
+use Rattle.promises.proofs.ReasonLaws.{live-iff, one-block, here-holds}
 
 -- a call that granted a block was not refused: its tests failed, and the outcome is what it made
 accepted : (h : Heap) (o : Outcome) (block : Block) (change : ℤ) (ts : Refusals) → judged h ts o .answer ≡ Granted block change

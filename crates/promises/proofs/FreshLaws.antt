@@ -24,7 +24,7 @@ use Rattle.rules.proofs.ShapeLaws.{read-none}
 use Rattle.rules.proofs.TiledLaws.{tiled-empty}
 use Rattle.settling.proofs.LayoutLaws.{Laid, Layout}
 use Rattle.settling.proofs.HeaderLaws.{Header, Headed, headed-backed, headed-sized, headed-last, reads-as}
-use Rattle.promises.proofs.RefusedLaws.{Fitting}
+use Rattle.promises.proofs.ReasonLaws.{Fitting}
 
 -- every place of an array of zeros, and every place past the sizes of a table
 zero-at : (n i : ℕ) → getD (replicate {A = ℕ} n 0) i 0 ≡ 0

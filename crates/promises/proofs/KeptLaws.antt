@@ -43,7 +43,7 @@ use Rattle.promises.specs.Room.{OnChain}
 use Rattle.grant.proofs.GrantedChunk.{given, filled}
 use Rattle.resize.proofs.MovedLaws.{copiedWords, copiedHeap, copied-passes, live-again, again-is, moved-words}
 use Rattle.promises.proofs.OddLaws.{Failed, not-false}
-use Rattle.promises.proofs.RefusedLaws.{fitting-iff}
+use Rattle.promises.proofs.ReasonLaws.{fitting-iff}
 
 -- what an outcome leaves for the next call
 abbrev left : List ℕ → Heap → Outcome → State

@@ -30,7 +30,8 @@ use Rattle.promises.specs.Ways.{ours}
 use Rattle.promises.specs.Room.{HoldsBlock, NoneServes}
 use Rattle.promises.specs.Refused.{NoBlock, Because, fails, freeNotLive, reallocateNotLive, allocateRoom, clearedRoom, reallocateRoom, allocateBin, clearedBin, freeBin, reallocateNewBin, reallocateBin, isSetup, NeverNine}
 use Rattle.promises.proofs.ServeLaws.{room-iff}
-use Rattle.promises.proofs.RefusedLaws.{passes?, live-iff, here, here-holds, one-block, refusing}
+use Rattle.promises.proofs.RefusedLaws.{refusing}
+use Rattle.promises.proofs.ReasonLaws.{passes?, live-iff, one-block, here, here-holds}
 
 -- the call is refused for no number below 9
 abbrev NoneBefore : List ℕ → Heap → Call → Type 0

@@ -40,8 +40,8 @@ use Rattle.rules.proofs.EvenLaws.{Agree, same-passes, same-read}
 use Rattle.rules.proofs.SpotLaws.{inside}
 use Rattle.promises.specs.Ways.{ours}
 use Rattle.promises.specs.Odd.{evenWords, oddWord, AlikeButOdd, OddApart}
-use Rattle.promises.proofs.RefusedLaws.{Fitting, fitting-iff}
 use Rattle.promises.proofs.InsideLaws.{found-below, cleared-below, resized-below}
+use Rattle.promises.proofs.ReasonLaws.{Fitting, fitting-iff}
 
 -- the tests before an acceptance have failed
 abbrev pub Failed : Refusals → Type 0
