@@ -19,6 +19,7 @@ used = 1
 abbrev pub endSize : ℕ
 endSize = 8
 
+-- the lowest flag says in use
 unfoldable pub inUse : Entry → Bool
 inUse e = eqb (e .flags % 2) 1
 
@@ -31,9 +32,11 @@ kindAt bytes donor top e =
     (cond (eqb (e .place) top) Top
     (cond (eqb (e .place) donor) Donor Ordinary))))
 
+-- the kind of a chunk by the record
 abbrev pub kindOf : Heap → Entry → Kind
 kindOf h e = kindAt (h .bytes) (h .donor .0) (h .top .0) e
 
+-- which kinds are ordinary; free; those of chunks with a live block
 abbrev pub ordinaryKind : Kind → Bool
 ordinaryKind Start = false
 ordinaryKind InUse = false
@@ -80,14 +83,6 @@ blockEnd e = e .place + e .size
 
 abbrev pub blockWords : Entry → ℕ
 blockWords e = (blockEnd e - blockOf e) / 4
-
--- a live block: its place and its length in bytes
-pub record Held : Type 0 where
-  pub at : ℕ
-  pub length : ℕ
-
-abbrev pub held : Entry → Held
-held e = record { at = blockOf e; length = blockEnd e - blockOf e }
 
 -- the chunk at a place, and the chunk of a live block at a place
 abbrev pub isAt : ℕ → Entry → Bool
