@@ -3,7 +3,7 @@
 use mathlib.Core.Path.{_≡_, refl, sym, ap, _∙_}
 use mathlib.Core.Logic.{_≢_, _⊎_, inl, inr}
 use mathlib.Core.Bool.{true, false, cond}
-use mathlib.Core.List.{List, [], _∷_, _++_, List·Memᴰ·head, List·Memᴰ·tail, List·Memᴰ·eq-of-singleton, Memᴰ·append-left, Memᴰ·append-right}
+use mathlib.Core.List.{List, [], _∷_, _++_, List·Memᴰ·head, List·Memᴰ·tail, List·Memᴰ·eq-of-singleton}
 use Prim.Native.Nat.{ℕ, _+_, _*_, _-_, _%_, _≤_, _<_}
 use native.Mathlib.Nat.{add-zero}
 use native.Mathlib.Omega.{arith}
@@ -16,18 +16,16 @@ use Rattle.record.specs.declared.heap.Heap.{Heap}
 use Rattle.record.specs.declared.kinds.Kind.{Kind}
 use Rattle.record.specs.declared.kinds.Kind.the-variants.{InUse, Ordinary, Donor, Top}
 use Rattle.record.specs.Heap.{withDonor, withTop}
-use Rattle.region.specs.Words.{written}
 use Rattle.rules.specs.Shape.{Entry, shape}
-use Rattle.rules.specs.Kinds.{ordinaryKind, freeKind, liveKind, kindAt, kindOf, ordinary, live, blockEnd, outside}
+use Rattle.rules.specs.Kinds.{ordinaryKind, freeKind, liveKind, kindAt, kindOf, ordinary, live, blockEnd}
 use Rattle.rules.specs.Check.{usedBytes, Passes}
 use Rattle.rules.specs.Draft.{Draft, asRead, leaveBin, relink, settle, nowUses}
 use Rattle.rules.specs.Cut.{Parts, chunksOf, leaveAs}
 use Rattle.rules.proofs.KindsLaws.{kind-in-use, kind-top, kind-donor, kind-ordinary, donor-moved, top-moved, free-not-live, free-kinds, being-as}
 use Rattle.rules.proofs.SpotLaws.{Free, IsTop, bounds, is-ordinary, is-top, is-donor}
-use Rattle.settling.proofs.LayoutLaws.{Beside, Laid, Layout, every-other, layout-replaced}
-use Rattle.settling.proofs.HeaderLaws.{Headed}
+use Rattle.settling.proofs.LayoutLaws.{Beside, Laid, Layout, layout-replaced, laid-between}
 use Rattle.settling.proofs.OpenLaws as opened
-use Rattle.settling.proofs.HalfwayLaws.{now, Halfway, leave-headed, leave-halfway, leave-keeps, Opened, Closed, closes}
+use Rattle.settling.proofs.HalfwayLaws.{now, Halfway, Opened, Closed, closes}
 use Rattle.settling.proofs.SettleLaws.{Settles, settles-named, settles-all, settles-in-bin, settles-as-donor, settles-as-top}
 use Rattle.settling.proofs.PictureLaws.{Pictured, Posts, used-replaced, kinds-after, settled-pictured}
 use Rattle.grant.proofs.CutLaws.{Cutting, Whole, Left}
@@ -59,36 +57,12 @@ module _ (ws : List ℕ) (h : Heap) (p : Passes ws h) (low : List Entry) (e : En
   start : Halfway ws h (low ++ e ∷ [] ++ high) (asRead ws h)
   start = opened.start ws h p low e high split (free .between)
 
-  -- the donor and the top are in no bin
+  -- the donor and the top are in no bin; an ordinary chunk leaves its own
   opens-kept : ordinary h e ≡ false → Opened ws h low e e high (asRead ws h)
   opens-kept = opened.opens-kept ws h p low e high split (free .between)
 
-  -- an ordinary chunk leaves its bin
-  module _ (o : ordinary h e ≡ true) where
-    here : Mem e (low ++ e ∷ [] ++ high)
-    here = middle-in low (e ∷ []) high (List·Memᴰ·head refl)
-
-    same-headed : (b : Entry) (es : List Entry) (n : Entry) → ((x : Entry) → Mem x es → Mem x (low ++ high)) → Headed ws b es n
-        → Headed (written ws (leaveBin e (asRead ws h) .stores)) b es n
-    unfolding asRead
-    same-headed b es n f k =
-        leave-headed ws h (low ++ e ∷ [] ++ high) (asRead ws h) start (low ++ e ∷ [] ++ high) laid-out (λ x m. m) e here o b es n
-        (λ x m. (x, outer-in low (e ∷ []) high (f x m), refl)) k
-
-    opens-left : Opened ws h low e e high (leaveBin e (asRead ws h))
-    unfolding asRead
-    opens-left =
-        let a = leave-keeps ws h (low ++ e ∷ [] ++ high) (asRead ws h) start (low ++ e ∷ [] ++ high) laid-out (λ x m. m) e here o in
-        record {
-          halfway =
-              leave-halfway ws h (low ++ e ∷ [] ++ high) (asRead ws h) start (low ++ e ∷ [] ++ high) laid-out (λ x m. m) e here o (low ++ high)
-              (λ x m. (outer-in low (e ∷ []) high m, elsewhere x m)) (every-other low e high);
-          lower = same-headed outside low e (λ x m. Memᴰ·append-left high m) (opened.headers-read ws h p low e high split (free .between) .0);
-          upper = same-headed e high outside (λ x m. Memᴰ·append-right low m) (opened.headers-read ws h p low e high split (free .between) .2);
-          donor = a .0;
-          top = a .1;
-          used = a .2;
-        }
+  opens-left : ordinary h e ≡ true → Opened ws h low e e high (leaveBin e (asRead ws h))
+  opens-left = opened.opens-left ws h p low e high split (free .between)
 
   opens : (k : Kind) → kindOf h e ≡ k → freeKind k ≡ true → Opened ws h low e e high (leaveAs k e (asRead ws h))
   opens k q f =
@@ -98,9 +72,6 @@ module _ (ws : List ℕ) (h : Heap) (p : Passes ws h) (low : List Entry) (e : En
   -- top and donor, where they are other chunks
   member : Mem e (shape ws (h .bytes))
   member = in-split low e high split
-
-  outer : (x : Entry) → Mem x (shape ws (h .bytes)) → x .place ≢ e .place → Mem x (low ++ high)
-  outer = opened.outer ws h p low e high split (free .between)
 
   top-outer : e .place ≢ h .top .0 → (t : Entry) × Mem t (low ++ high) × ((t .place ≡ h .top .0) × (t .flags ≡ 0) × (blockEnd t + 8 ≡ h .bytes))
   top-outer = opened.top-outer ws h p low e high split (free .between)
@@ -176,14 +147,8 @@ module _ (ws : List ℕ) (h : Heap) (p : Passes ws h) (low : List Entry) (e : En
       granted-laid =
           let f = free .between in
           let l = laid-out .chunks e (middle-in low (e ∷ []) high (List·Memᴰ·head refl)) .eight in
-          record {
-            eight = omega (arith, c .place);
-            some = omega (arith, c .enough);
-            ends = omega (arith, c .place, c .sum);
-            flags = omega (arith, c .flags);
-            room = λ lo hi. omega (arith, c .enough);
-            free = λ q. absurd (omega (arith, c .flags));
-          }
+          laid-between (h .bytes) granted (omega (arith, c .place)) (omega (arith, c .flags)) (omega (arith, c .place)) (omega (arith, c .enough))
+          (omega (arith, c .place, c .sum))
 
       granted-kind : (donor top : ℕ) → kindAt (h .bytes) donor top granted ≡ InUse
       granted-kind donor top =
@@ -232,15 +197,7 @@ module _ (ws : List ℕ) (h : Heap) (p : Passes ws h) (low : List Entry) (e : En
           let l = laid-out .chunks e (middle-in low (e ∷ []) high (List·Memᴰ·head refl)) .eight in
           let q : above .place ≡ e .place + n = omega (arith, c .next, w .exact) in
           let s : n + above .size ≡ e .size = omega (arith, c .sum, w .exact) in
-          let t = w .some in
-          record {
-            eight = omega arith;
-            some = omega arith;
-            ends = omega arith;
-            flags = omega (arith, c .free);
-            room = λ lo hi. t;
-            free = λ _. (omega arith, t, omega arith);
-          }
+          laid-between (h .bytes) above (omega arith) (omega (arith, c .free)) (omega arith) (w .some) (omega arith)
 
       abbrev news : List Entry
       news = granted ∷ above ∷ []

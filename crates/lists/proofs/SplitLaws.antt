@@ -2,7 +2,7 @@
 use mathlib.Core.Path.{_≡_, refl, sym, ap, _∙_}
 use mathlib.Core.Logic.{_⊎_, inl, inr}
 use mathlib.Core.Bool.{Bool, true, false, cond, _||_, false≢true}
-use mathlib.Core.List.{List, [], _∷_, _++_, List·Memᴰ·head, List·Memᴰ·tail, List·Memᴰ·not-nil, List·Memᴰ·append-cases, Memᴰ·append-left, Memᴰ·append-right}
+use mathlib.Core.List.{List, [], _∷_, _++_, List·Memᴰ·head, List·Memᴰ·tail, List·Memᴰ·not-nil, List·Memᴰ·append-cases, List·Memᴰ·eq-of-singleton, Memᴰ·append-left, Memᴰ·append-right}
 use Prim.Native.Nat.{ℕ}
 use lib.Dec.{eqb}
 use lib.ListN.{drop}
@@ -96,3 +96,11 @@ module _ {A : Type 0} {x : A} (low mid high : List A) where
 
   pub middle-in : Mem x mid → Mem x (low ++ mid ++ high)
   middle-in m = Memᴰ·append-left high (Memᴰ·append-right low m)
+
+-- all members but the one in the middle
+pub all-but : {A : Type 0} (low : List A) (e : A) (high : List A) {x : A} → Mem x (low ++ e ∷ [] ++ high) → (x ≡ e → ⊥) → Mem x (low ++ high)
+all-but low e high {x} m n = go (among low (e ∷ []) high m)
+  where
+    go : Mem x (low ++ high) ⊎ Mem x (e ∷ []) → Mem x (low ++ high)
+    go (inl k) = k
+    go (inr k) = absurd (n (List·Memᴰ·eq-of-singleton k))

@@ -18,7 +18,7 @@ use Rattle.rules.specs.Join.{release}
 use Rattle.rules.specs.Free.{isLive, blockSpot, freeBlock}
 use Rattle.rules.proofs.SpotLaws.{Between, is-top, is-donor}
 use Rattle.rules.proofs.KindsLaws.{live-kind}
-use Rattle.settling.proofs.LayoutLaws.{Laid, Layout, layout-replaced}
+use Rattle.settling.proofs.LayoutLaws.{Laid, Layout, layout-replaced, laid-between}
 use Rattle.settling.proofs.HeaderLaws.{headed-below}
 use Rattle.settling.proofs.HalfwayLaws.{Opened}
 use Rattle.settling.proofs.OpenLaws as opened
@@ -62,14 +62,7 @@ module _ (ws : List ℕ) (h : Heap) (p : Passes ws h) (low : List Entry) (e : En
   fill-laid =
       let b = between in
       let y = laid-out .chunks e (middle-in low (e ∷ []) high (List·Memᴰ·head refl)) .eight in
-      record {
-        eight = y;
-        some = omega arith;
-        ends = omega arith;
-        flags = omega arith;
-        room = λ lo hi. omega arith;
-        free = λ _. omega arith;
-      }
+      laid-between (h .bytes) (filling (e .place) (blockEnd e)) y (omega arith) (omega arith) (omega arith) (omega arith)
 
   pub filled : Layout (h .bytes) (low ++ filling (e .place) (blockEnd e) ∷ [] ++ high)
   filled =

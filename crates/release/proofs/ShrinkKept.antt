@@ -22,7 +22,7 @@ use Rattle.rules.specs.Cut.{Grant}
 use Rattle.rules.specs.Reallocate.{shrunk}
 use Rattle.rules.proofs.KindsLaws.{kind-in-use, ordinary-free, free-not-live}
 use Rattle.rules.proofs.SpotLaws.{Between, bounds}
-use Rattle.settling.proofs.LayoutLaws.{Beside, Laid, Layout, layout-replaced}
+use Rattle.settling.proofs.LayoutLaws.{Beside, Laid, Layout, layout-replaced, laid-between}
 use Rattle.settling.proofs.HeaderLaws.{Header, Headed, headed-below, headed-joined, headed-keeps, Spares}
 use Rattle.settling.proofs.HalfwayLaws.{now, Halfway, Passing, halfway-fewer, writes-halfway, Opened}
 use Rattle.settling.proofs.SettleLaws.{settles-all}
@@ -71,28 +71,14 @@ module _ (ws : List ℕ) (h : Heap) (p : Passes ws h) (low : List Entry) (e : En
   kept-laid =
       let b = between in
       let z = own-laid .eight in
-      record {
-        eight = z;
-        some = omega arith;
-        ends = omega arith;
-        flags = omega arith;
-        room = λ lo hi. some;
-        free = λ q. absurd (omega arith);
-      }
+      laid-between (h .bytes) kept z (omega arith) (omega arith) some (omega arith)
 
   -- what is above the kept chunk, in use or free
   rest-laid : (s f : ℕ) → s ≡ e .size - n → f ≤ 1 → Laid (h .bytes) (entry (e .place + n) s f)
   rest-laid s f q u =
       let b = between in
       let z = own-laid .eight in
-      record {
-        eight = omega arith;
-        some = omega arith;
-        ends = omega arith;
-        flags = u;
-        room = λ lo hi. omega arith;
-        free = λ _. omega arith;
-      }
+      laid-between (h .bytes) (entry (e .place + n) s f) (omega arith) u (omega arith) (omega arith) (omega arith)
 
   parted : (s f : ℕ) → s ≡ e .size - n → f ≤ 1 → Layout (h .bytes) (low ++ kept ∷ entry (e .place + n) s f ∷ [] ++ high)
   parted s f q u =

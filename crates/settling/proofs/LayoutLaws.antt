@@ -2,13 +2,13 @@
 -- start and end in use; and that they still do where some of them are replaced by others that fill the same bytes. Assumes nothing.
 use mathlib.Core.Path.{_≡_, sym, ap, _∙_}
 use mathlib.Core.Logic.{_≢_, _⊎_, inl, inr}
-use mathlib.Core.List.{List, [], _∷_, _++_, append-assoc, List·Memᴰ·append-cases, List·Memᴰ·eq-of-singleton}
+use mathlib.Core.List.{List, [], _∷_, _++_, append-assoc, List·Memᴰ·append-cases}
 use Prim.Native.Nat.{ℕ, _+_, _*_, _%_, _≤_, _<_}
 use native.Mathlib.Omega.{arith}
 use lib.ListN.{length}
 use Rattle.lists.specs.Lists.{Mem, headOr, lastOr}
 use Rattle.lists.proofs.MembersLaws.{last-append}
-use Rattle.lists.proofs.SplitLaws.{first-stays, last-stays, among, outer-in}
+use Rattle.lists.proofs.SplitLaws.{first-stays, last-stays, among, outer-in, all-but}
 use Rattle.record.specs.declared.heap.Heap.{Heap}
 use Rattle.rules.specs.Shape.{Entry, shape}
 use Rattle.rules.specs.Kinds.{blockEnd, outside}
@@ -19,11 +19,7 @@ use Rattle.rules.proofs.TiledLaws.{Tiled, tiled-cut, tiled-in, tiled-apart, til
 
 -- all chunks of a list but the one in its middle
 pub every-other : (low : List Entry) (e : Entry) (high : List Entry) (x : Entry) → Mem x (low ++ e ∷ [] ++ high) → x .place ≢ e .place → Mem x (low ++ high)
-every-other low e high x m n = go (among low (e ∷ []) high m)
-  where
-    go : Mem x (low ++ high) ⊎ Mem x (e ∷ []) → Mem x (low ++ high)
-    go (inl k) = k
-    go (inr k) = absurd (n (ap (λ (d : Entry). d .place) (List·Memᴰ·eq-of-singleton k)))
+every-other low e high x m n = all-but low e high m (λ q. n (ap (λ (d : Entry). d .place) q))
 
 -- one behind the other, whichever comes first
 abbrev pub Beside : Entry → Entry → Type 0
@@ -41,6 +37,11 @@ pub record Laid (bytes : ℕ) (e : Entry) : Type 0 where
   pub flags : e .flags ≤ 1
   pub room : 0 < e .place → e .place + 8 < bytes → 24 ≤ e .size
   pub free : e .flags ≡ 0 → (8 ≤ e .place) × (24 ≤ e .size) × (blockEnd e + 8 ≤ bytes)
+
+-- one that is neither start nor end, in use or free
+pub laid-between : (bytes : ℕ) (e : Entry) → e .place % 8 ≡ 0 → e .flags ≤ 1 → 8 ≤ e .place → 24 ≤ e .size → blockEnd e + 8 ≤ bytes → Laid bytes e
+laid-between bytes e eight flags above large below =
+    record { eight = eight; some = omega arith; ends = omega arith; flags = flags; room = λ _ _. large; free = λ _. (above, large, below) }
 
 pub record Layout (bytes : ℕ) (es : List Entry) : Type 0 where
   pub tiled : Tiled 0 es bytes
