@@ -12,8 +12,25 @@ use Rattle.record.specs.declared.answers.Answer.the-variants.{Refused}
 use Rattle.record.specs.declared.answers.Refusal.{Refusal}
 use Rattle.record.specs.declared.heap.Heap.{Heap}
 use Rattle.record.specs.Answers.{numberOf}
-use Rattle.rules.specs.Outcome.{Outcome, Refusals, judged}
+use Rattle.rules.specs.Outcome.{Outcome, Refusals, refused, judged}
 use Rattle.promises.specs.Kept.{Accepted}
+
+-- the tests before an acceptance have failed
+abbrev pub Failed : Refusals → Type 0
+Failed [] = Unit {0}
+Failed (t ∷ ts) = (t .0 ≡ false) × Failed ts
+
+-- what holds of every refusal, and of the acceptance where the tests have failed, holds of what is given
+pub judged-so : (P : Outcome → Type 0) (h : Heap) (o : Outcome) (ts : Refusals)
+    → ((r : Refusal) → P (refused h r)) → (Failed ts → P o) → P (judged h ts o)
+judged-so P h o [] f g = g tt
+judged-so P h o ((true, r) ∷ ts) f g = f r
+judged-so P h o ((false, r) ∷ ts) f g = judged-so P h o ts f (λ k. g (refl, k))
+
+-- where no refusal is given the tests have failed
+pub accepted-made : (h : Heap) (o : Outcome) (ts : Refusals) → Accepted (judged h ts o .answer) → Failed ts × (judged h ts o ≡ o)
+accepted-made h o ts =
+    judged-so (λ x. Accepted (x .answer) → Failed ts × (x ≡ o)) h o ts (λ r a. absurd (a r refl)) (λ k a. (k, refl))
 
 -- the tests decide the reasons B, each where those before it do not hold
 abbrev pub Decided : (Refusal → Type 0) → Refusals → Type 0
@@ -66,6 +83,5 @@ module _ (B : Refusal → Type 0) (h : Heap) (o : Outcome) (accepted : Accepted 
   -- and then nothing is changed
   pub judged-keeps : (ts : Refusals) (r : Refusal) → judged h ts o .answer ≡ Refused r
       → (judged h ts o .heap ≡ h) × (judged h ts o .stores ≡ [])
-  judged-keeps [] r e = absurd (accepted r e)
-  judged-keeps ((true, x) ∷ ts) r e = (refl, refl)
-  judged-keeps ((false, x) ∷ ts) r e = judged-keeps ts r e
+  judged-keeps ts r =
+      judged-so (λ x. x .answer ≡ Refused r → (x .heap ≡ h) × (x .stores ≡ [])) h o ts (λ q e. (refl, refl)) (λ _ e. absurd (accepted r e))

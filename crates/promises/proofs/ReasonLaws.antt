@@ -1,8 +1,8 @@
--- What the tests of a call decide, apart from any call: whether the heap passes, which numbers are in range, which donors fit, which blocks are live
+-- What the tests of a call decide, apart from any call: whether the heap passes, which numbers and lengths are in range, which donors fit, which blocks are live
 -- and outgrown, and which chunks a question is asked of. Assumes nothing.
 use mathlib.Core.Path.{_≡_, refl, sym, _∙_}
 use mathlib.Core.Logic.{_⊎_, inl, inr}
-use mathlib.Core.Bool.{Bool, true, false, not, cond, _&&_, false≢true}
+use mathlib.Core.Bool.{Bool, true, false, not, cond, _&&_, _||_, false≢true}
 use mathlib.Core.List.{List}
 use Prim.Native.Nat.{ℕ, _+_, _-_, _%_, _≤_, _<_}
 use native.Mathlib.Decide.{ℕ-discrete, decLt}
@@ -47,6 +47,14 @@ range-iff most z =
     inside : (z ≡ 0) ⊎ (most < z) → (1 ≤ z) × (z ≤ most) → ⊥
     inside (inl e) k = omega (arith, k .0)
     inside (inr l) k = omega (arith, k .1)
+
+-- the number of words, where setup's test of it fails
+pub length-in : (ws : List ℕ) → (ltb (length ws) 10 || ltb 16384 (length ws)) ≡ false → (10 ≤ length ws) × (length ws ≤ 16384)
+length-in ws q =
+    let wrong = or-else (less (length ws) 10) (less 16384 (length ws)) .1 in
+    let some : length ws < 10 → ⊥ = λ l. false≢true (sym q ∙ wrong (inl l)) in
+    let few : 16384 < length ws → ⊥ = λ l. false≢true (sym q ∙ wrong (inr l)) in
+    (omega arith, omega arith)
 
 -- a donor that fits, or none
 abbrev pub Fitting : List ℕ → ℕ → Type 0
