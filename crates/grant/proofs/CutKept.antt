@@ -25,7 +25,7 @@ use Rattle.rules.proofs.KindsLaws.{kind-in-use, kind-top, kind-donor, kind-ordi
 use Rattle.rules.proofs.SpotLaws.{Free, IsTop, bounds, is-ordinary, is-top, is-donor}
 use Rattle.settling.proofs.LayoutLaws.{Beside, Laid, Layout, layout-replaced, laid-between}
 use Rattle.settling.proofs.OpenLaws as opened
-use Rattle.settling.proofs.HalfwayLaws.{now, Halfway, Opened, Closed, closes}
+use Rattle.settling.proofs.HalfwayLaws.{now, Opened, Closed, closes}
 use Rattle.settling.proofs.SettleLaws.{Settles, settles-named, settles-all, settles-in-bin, settles-as-donor, settles-as-top}
 use Rattle.settling.proofs.PictureLaws.{Pictured, Posts, used-replaced, kinds-after, settled-pictured}
 use Rattle.grant.proofs.CutLaws.{Cutting, Whole, Left}
@@ -53,9 +53,6 @@ module _ (ws : List ℕ) (h : Heap) (p : Passes ws h) (low : List Entry) (e : En
 
   long : h .bytes ≤ 4 * length ws
   long = bounds ws h p .fits
-
-  start : Halfway ws h (low ++ e ∷ [] ++ high) (asRead ws h)
-  start = opened.start ws h p low e high split (free .between)
 
   -- the donor and the top are in no bin; an ordinary chunk leaves its own
   opens-kept : ordinary h e ≡ false → Opened ws h low e e high (asRead ws h)

@@ -21,7 +21,7 @@ use Rattle.rules.specs.Kinds.{unused, blockEnd, outside}
 use Rattle.rules.specs.Check.{Backed, Passes}
 use Rattle.rules.specs.Draft.{headers, sizeStores}
 use Rattle.rules.proofs.ShapeLaws.{chainFrom, shape-goes, shape-stops, shape-is}
-use Rattle.rules.proofs.SpotLaws.{tiled, inside, ends, Inside}
+use Rattle.rules.proofs.SpotLaws.{tiled, inside, Inside}
 use Rattle.rules.proofs.TiledLaws.{Tiled, tiled-up, tiled-in}
 use Rattle.settling.proofs.LayoutLaws.{Beside, Laid, Layout, Cuts, laid-beside, cuts, outer-beside}
 
