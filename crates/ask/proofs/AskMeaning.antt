@@ -18,28 +18,22 @@ use Rattle.record.specs.declared.table.Binned.the-variants.{NoBin}
 use Rattle.record.specs.Heap.{tableOf}
 use Rattle.record.specs.Table.{binOf}
 use Rattle.region.specs.Places.{blockAt}
-use Rattle.region.specs.Words.{word, forward, nextInBin, previousInBin}
+use Rattle.region.specs.Words.{word, nextInBin, previousInBin}
 use Rattle.rules.specs.Ask.{shown, onlyIf, firstOf, lastOf, numberOf, listOf, placesOf, chunkAnswers, binAnswers, askedSpot, isThere, isAsked, answerTo, askChunk, askBin}
 use Rattle.rules.specs.Check.{Linked, Passes, passes}
 use Rattle.rules.specs.Draft.{asRead, Spot, spot}
 use Rattle.rules.specs.Kinds.{ordinary, live, blockOf, blockEnd, isAt, holdsBlock}
 use Rattle.rules.specs.Outcome.{judged, unchanged}
-use Rattle.rules.specs.Shape.{Entry, entry, membersFrom, members, binList, shape}
+use Rattle.rules.specs.Shape.{Entry, entry, members, binList, shape}
 use Rattle.rules.proofs.ChainLaws.{shape-chain}
 use Rattle.rules.proofs.CheckLaws.{passes-iff}
-use Rattle.rules.proofs.ShapeLaws.{Up, lastEntry, upEntry, chain-by, shape-is}
+use Rattle.rules.proofs.ShapeLaws.{read-head}
+use Rattle.rules.proofs.TiledLaws.{Tiled, tiled-cut, tiled-up}
+use Rattle.rules.proofs.AskLaws.{shown-first, shown-last}
+use Rattle.rules.proofs.SpotLaws.{spot-member, spot-splits, tiled}
 use Rattle.seek.specs.Seek.{placed, soughtIn, liveAt, hasBlock}
 use Rattle.seek.proofs.SeekLaws.{live-is, sought-none, sought-spot, sought-block}
 use Rattle.ask.specs.Questions.{sizeOf, numberIn, binNumber, chainFigure, asksOfBin, memberFigure, figureOf, toldOf, holderOf, askChunkM, askBinM}
-
--- none is shown as 0
-shown-first : (xs : List ℕ) → headOr 0 xs ≡ shown (firstOf xs)
-shown-first [] = refl
-shown-first (x ∷ xs) = refl
-
-shown-last : (xs : List ℕ) → lastOr 0 xs ≡ shown (lastOf xs)
-shown-last [] = refl
-shown-last (x ∷ xs) = refl
 
 last-place : (d : Entry) (es : List Entry) → lastOr d es .place ≡ lastOr (d .place) (placesOf es)
 last-place d [] = refl
@@ -69,47 +63,11 @@ module _ (ws : List ℕ) (c : ℕ) where
 abbrev nextBy : ℕ → Entry → ℕ
 nextBy bytes e = cond (eqb (blockEnd e) bytes) 0 (blockEnd e)
 
-abbrev Tiled : ℕ → List Entry → Type 0
-Tiled bytes [] = Unit {0}
-Tiled bytes (e ∷ es) = (nextBy bytes e ≡ headOr 0 (placesOf es)) × Tiled bytes es
-
-shape-tiled : (ws : List ℕ) (bytes : ℕ) → Tiled bytes (shape ws bytes)
-shape-tiled ws bytes =
-    rw (shape-is ws bytes)
-    (chain-by ws bytes (λ c es. c ≤ bytes → Tiled bytes es × (headOr 0 (placesOf es) ≡ c)) last more 0 (omega arith) .0)
-  where
-    last : (c : ℕ) → (Up ws bytes c → ⊥) → c ≤ bytes
-        → Tiled bytes (lastEntry ws bytes c ∷ []) × (headOr 0 (placesOf (lastEntry ws bytes c ∷ [])) ≡ c)
-    last c n l = ((rw (eq-eqb (c + (bytes - c)) bytes (omega arith)) refl, tt), refl)
-
-    more : (c : ℕ) (es : List Entry) → Up ws bytes c
-        → (word ws c forward ≤ bytes → Tiled bytes es × (headOr 0 (placesOf es) ≡ word ws c forward))
-        → c ≤ bytes → Tiled bytes (upEntry ws bytes c ∷ es) × (headOr 0 (placesOf (upEntry ws bytes c ∷ es)) ≡ c)
-    more c es u f l =
-        let r = f (omega (arith, u .1)) in
-        let e : c + (word ws c forward - c) ≡ word ws c forward = omega (arith, u .0) in
-        ((rw (e, ne-eqb (word ws c forward) bytes (omega (arith, u .1))) (sym (r .1)), r .0), refl)
-
--- where the chain has a chunk that meets a test, the spot is there
-module _ (q : Entry → Bool) where
-  spot-there : (es : List Entry) → any q es ≡ true → Mem (spot q es .here) es
-  spot-there [] h = absurd (false≢true h)
-  spot-there (e ∷ es) h = go (q e) refl (spot-there es)
-    where
-      go : (t : Bool) → q e ≡ t → (any q es ≡ true → Mem (spot q es .here) es) → Mem (spot q (e ∷ es) .here) (e ∷ es)
-      go true k f = rw k (List·Memᴰ·head refl)
-      go false k f = rw k (List·Memᴰ·tail (f (rw k at h)))
-
-  spot-next : (bytes : ℕ) (es : List Entry) → any q es ≡ true → Tiled bytes es
-      → nextBy bytes (spot q es .here) ≡ headOr 0 (placesOf (spot q es .high))
-  spot-next bytes [] h t = absurd (false≢true h)
-  spot-next bytes (e ∷ es) h t = go (q e) refl (spot-next bytes es)
-    where
-      go : (b : Bool) → q e ≡ b
-          → (any q es ≡ true → Tiled bytes es → nextBy bytes (spot q es .here) ≡ headOr 0 (placesOf (spot q es .high)))
-          → nextBy bytes (spot q (e ∷ es) .here) ≡ headOr 0 (placesOf (spot q (e ∷ es) .high))
-      go true k f = rw k (t .0)
-      go false k f = rw k (f (rw k at h) (t .1))
+next-behind : (bytes : ℕ) (e : Entry) (high : List Entry) → Tiled (blockEnd e) high bytes → nextBy bytes e ≡ headOr 0 (placesOf high)
+next-behind bytes e [] t = rw (eq-eqb (blockEnd e) bytes t)
+next-behind bytes e (d ∷ ds) t =
+    let u = tiled-up (blockEnd d) bytes ds (t .2) in
+    rw (ne-eqb (blockEnd e) bytes (omega (arith, t .0, t .1))) (sym (t .0))
 
 -- of a heap that passes only the question itself is refused
 judged-answer : (h : Heap) (p b : Bool) (v : ℕ) → p ≡ true
@@ -169,7 +127,7 @@ module _ (ws : List ℕ) (h : Heap) (k : Passes ws h) where
 
     member : Mem (here .here) (shape ws (h .bytes))
     unfolding here
-    member = spot-there p (shape ws (h .bytes)) found
+    member = spot-member p (shape ws (h .bytes)) found
 
     size-is : here .here .place + here .here .size - here .here .place ≡ here .here .size
     size-is = omega arith
@@ -177,8 +135,9 @@ module _ (ws : List ℕ) (h : Heap) (k : Passes ws h) where
     next-place : nextBy (h .bytes) (here .here) ≡ shown (firstOf (placesOf (here .high)))
     unfolding here
     next-place =
-        spot-next p (h .bytes) (shape ws (h .bytes)) found (shape-tiled ws (h .bytes))
-        ∙ shown-first (placesOf (spot p (shape ws (h .bytes)) .high))
+        let s : Spot = spot p (shape ws (h .bytes)) in
+        let t = tiled-cut 0 (h .bytes) (s .low) (s .here ∷ s .high) (rw (spot-splits p (shape ws (h .bytes)) found .0) at (tiled ws h k)) in
+        next-behind (h .bytes) (s .here) (s .high) (t .2 .2) ∙ shown-first (placesOf (s .high))
 
     figure : ℕ → ℕ
     figure q =
@@ -244,15 +203,6 @@ module _ (ws : List ℕ) (h : Heap) (k : Passes ws h) where
       go (yes e) = rw e (holder-is place _ refl)
       go (no n) = rw (ne-eqb q 3 n) (told-is q place n _ _ refl refl)
 
-  -- a bin's list is read from its head, which is 0 if there is none
-  first-is : (steps c : ℕ) → 0 < steps → c ≡ headOr 0 (membersFrom steps ws c)
-  first-is zero c l = absurd (omega arith)
-  first-is (suc steps) c l = go (ℕ-discrete c 0)
-    where
-      go : Dec (c ≡ 0) → c ≡ headOr 0 (membersFrom (suc steps) ws c)
-      go (yes e) = rw e refl
-      go (no n) = rw (ne-eqb c 0 n, membersFrom)
-
   -- the answers about the list of a bin below the bin count
   list-is : (q i : ℕ) → i < h .bins
       → askBinM ws (h .heads) (h .tails) (h .bins) (h .bytes) q i
@@ -262,7 +212,7 @@ module _ (ws : List ℕ) (h : Heap) (k : Passes ws h) where
   list-is (suc zero) i l = rw (lt-leb (h .bins) i l)
   list-is (suc (suc zero)) i l =
       rw (lt-leb (h .bins) i l)
-      (ap Told (first-is (h .bytes) (getD (h .heads) i 0) (some-bytes .0) ∙ shown-first (binList ws h i)))
+      (ap Told (read-head ws (h .bytes) (getD (h .heads) i 0) (some-bytes .0) ∙ shown-first (binList ws h i)))
   list-is (suc (suc (suc zero))) i l =
       rw (lt-leb (h .bins) i l) (ap Told (k .bins i l .tail ∙ shown-last (binList ws h i)))
   list-is (suc (suc (suc (suc q)))) i l =

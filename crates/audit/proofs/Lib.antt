@@ -5,4 +5,5 @@ pub mod MarksMeaning
 pub mod SweepLaws
 pub mod SweepMeaning
 pub mod AuditLaws
+pub mod WalksMeaning
 pub mod AuditMeaning

@@ -8,6 +8,7 @@ use native.Mathlib.Nat.{zero-add, add-zero, add-assoc}
 use native.Mathlib.Omega.{arith}
 use lib.ListN.{length}
 use Rattle.lists.specs.Lists.{lastOr, total}
+use Rattle.lists.proofs.TotalLaws.{total-le, total-one}
 use Rattle.chain.specs.Chain.{endOf}
 use Rattle.chain.proofs.EndLaws.{endAt, hereAt, chain-here, chain-next, end-link}
 use Rattle.record.specs.declared.kinds.Kind.{Kind}
@@ -34,15 +35,6 @@ share-small Ordinary s = omega arith
 share-small Donor s = omega arith
 share-small Top s = omega arith
 share-small End s = omega arith
-
--- what holds of each member holds of the sums
-total-le : {A : Type 0} (f g : A → ℕ) → ((x : A) → f x ≤ g x) → (xs : List A) → total f xs ≤ total g xs
-total-le f g h [] = omega arith
-total-le f g h (x ∷ xs) = let a = h x in let r = total-le f g h xs in omega arith
-
-total-one : {A : Type 0} (f : A → ℕ) → ((x : A) → f x ≤ 1) → (xs : List A) → total f xs ≤ length xs
-total-one f h [] = omega arith
-total-one f h (x ∷ xs) = let a = h x in let r = total-one f h xs in omega arith
 
 module _ (ws : List ℕ) (bytes : ℕ) where
   -- the sizes of the chain come to what is left of the heap, and there are no more chunks than that

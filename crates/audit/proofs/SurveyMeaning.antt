@@ -1,14 +1,14 @@
 -- The walk of the chain and three tests after it find exactly the check's facts about the chain (`found-facts`, `facts-found`),
 -- and its counts are the check's counts. Assumes nothing.
 use mathlib.Core.Path.{_≡_, refl, sym, _∙_}
-use mathlib.Core.Bool.{Bool, true, false, cond}
+use mathlib.Core.Bool.{true, cond}
 use mathlib.Core.List.{List, [], _∷_, List·Memᴰ·head, List·Memᴰ·tail, List·Memᴰ·not-nil}
 use Prim.Native.Nat.{ℕ, _+_, _-_, _%_, _≤_, _<_}
-use native.Mathlib.Decide.{decLt}
 use native.Mathlib.Omega.{arith}
 use lib.ListN.{length}
-use Rattle.lists.specs.Lists.{Mem, headOr, lastOr, keep, total}
+use Rattle.lists.specs.Lists.{Mem, headOr, lastOr, keep}
 use Rattle.lists.proofs.ListsLaws.{Decides, number-is, at-most, less, meaning, both}
+use Rattle.lists.proofs.TotalLaws.{total-ones, some-of-total, total-of-some, total-kept}
 use Rattle.record.specs.declared.heap.Heap.{Heap}
 use Rattle.record.specs.declared.kinds.Kind.{Kind}
 use Rattle.record.specs.declared.kinds.Kind.the-variants.{Start, InUse, Ordinary, Donor, Top, End}
@@ -41,19 +41,6 @@ pub record Found (ws : List ℕ) (h : Heap) : Type 0 where
   pub end : tallyFor h (shape ws (h .bytes)) .end + 8 ≡ h .bytes
   pub top : 0 < tallyFor h (shape ws (h .bytes)) .tops
   pub donor : 0 < h .donor .0 → 0 < tallyFor h (shape ws (h .bytes)) .donors
-
--- a sum is above 0 exactly if one of its figures is
-some-of-total : {A : Type 0} (f : A → ℕ) (xs : List A) → 0 < total f xs → (x : A) × Mem x xs × (0 < f x)
-some-of-total f [] h = absurd (omega arith)
-some-of-total f (x ∷ xs) h =
-    elim (decLt 0 (f x)) [
-      | yes l ↦ (x, List·Memᴰ·head refl, l)
-      | no n ↦ let r = some-of-total f xs (omega arith) in (r .0, List·Memᴰ·tail (r .1), r .2)
-    ]
-
-total-of-some : {A : Type 0} (f : A → ℕ) {x : A} {xs : List A} → Mem x xs → 0 < f x → 0 < total f xs
-total-of-some f (List·Memᴰ·head e) h = let g : 0 < f _ = rw e at h in omega arith
-total-of-some f (List·Memᴰ·tail m) h = let r = total-of-some f m h in omega arith
 
 -- only a top chunk counts as one, and only a donor
 counted-as : (k : Kind) (s : ℕ) → (0 < shareOf k s .tops → Top ≡ k) × (0 < shareOf k s .donors → Donor ≡ k)
@@ -256,21 +243,6 @@ module _ (ws : List ℕ) (h : Heap) where
           top = let t = facts .top in counts-top (t .0) (t .1) (t .2);
           donor = λ some. let t = facts .donor some in counts-donor (t .0) (t .1) (t .2);
         }
-
--- a sum over all that counts nothing but what passes a test is a sum over what passes it
-total-kept : {A : Type 0} (f g : A → ℕ) (p : A → Bool) → ((x : A) → f x ≡ cond (p x) (g x) 0)
-    → (xs : List A) → total f xs ≡ total g (keep p xs)
-total-kept f g p s [] = refl
-total-kept f g p s (x ∷ xs) = go (p x) (s x) (total-kept f g p s xs)
-  where
-    go : (t : Bool) → f x ≡ cond t (g x) 0 → total f xs ≡ total g (keep p xs)
-        → f x + total f xs ≡ total g (cond t (x ∷ keep p xs) (keep p xs))
-    go true e r = omega arith
-    go false e r = omega arith
-
-total-ones : {A : Type 0} (xs : List A) → total (λ x. 1) xs ≡ length xs
-total-ones [] = refl
-total-ones (x ∷ xs) = let r = total-ones xs in omega arith
 
 -- what a chunk of each kind counts for
 shares-are : (k : Kind) (s : ℕ)

@@ -19,6 +19,7 @@ use Rattle.record.proofs.TableLaws.{takes-iff}
 use Rattle.region.specs.Words.{word, size, nextInBin, previousInBin, bin}
 use Rattle.rules.specs.Check.{Linked}
 use Rattle.rules.specs.Shape.{membersFrom}
+use Rattle.rules.proofs.ShapeLaws.{read-head}
 use Rattle.audit.proofs.SweepLaws.{off-eights}
 use Rattle.audit.specs.Sweep.{flipAll, listedAt, combed, beyond, listAt, allWhole}
 
@@ -118,11 +119,7 @@ module _ (ws table : List ℕ) (valid : ValidTable table) (all : List ℕ) where
   -- a reading that ends at 0 begins with its first member
   next-head : (k c : ℕ) → beyond ws c (membersFrom k ws c) ≡ 0 → c ≡ headOr 0 (membersFrom k ws c)
   next-head zero c h = h
-  next-head (suc k) c h = go (ℕ-discrete c 0)
-    where
-      go : Dec (c ≡ 0) → c ≡ headOr 0 (membersFrom (suc k) ws c)
-      go (yes e) = rw e refl
-      go (no n) = rw (ne-eqb c 0 n, membersFrom)
+  next-head (suc k) c h = read-head ws (suc k) c (omega arith)
 
   -- members that name each other backwards along a reading are linked both ways
   read-linked : (i k c p : ℕ) (met : List ℕ) → beyond ws c (membersFrom k ws c) ≡ 0 → CombedIs i met p (membersFrom k ws c)

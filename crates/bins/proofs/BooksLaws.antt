@@ -10,12 +10,12 @@ use lib.Seq.{getD-set-same, getD-set-other, set-getD}
 use borrow.Author.Tests.{ne-eqb}
 use Rattle.lists.specs.Lists.{Mem, headOr, lastOr, Distinct}
 use Rattle.region.specs.Words.{word, store, Store, put, written, nextInBin, previousInBin, bin}
-use Rattle.region.proofs.WordsLaws.{Off, off, word-same, word-other, length-store, length-written, written-append}
+use Rattle.region.proofs.WordsLaws.{Off, off, word-same, word-other, length-store, length-written, written-append, off-both}
 use Rattle.rules.specs.Check.{Linked}
 use Rattle.rules.specs.Draft.{followedBy, precededBy, meet}
 use Rattle.bins.specs.Books.{Books, books, side, linkM, leaveM, putM}
 use Rattle.lists.proofs.MembersLaws.{head-append, last-append, last-member, member-with, member-without, distinct-without, distinct-with, distinct-parts}
-use Rattle.bins.proofs.RunsLaws.{Node, Nodes, Run, whole-run, run-whole, run-cut, run-joined, Clear, run-keeps, run-followed, run-preceded, clear-followed, clear-preceded, NoLink, meet-off, followed-off, preceded-off, links-apart, off-both}
+use Rattle.bins.proofs.RunsLaws.{Node, Nodes, Run, whole-run, run-whole, run-cut, run-joined, Clear, run-keeps, run-followed, run-preceded, clear-followed, clear-preceded, NoLink, meet-off, followed-off, preceded-off, links-apart}
 
 -- bin i of the books is the list cs
 pub record Holds (b : Books) (i : ℕ) (cs : List ℕ) : Type 0 where

@@ -4,11 +4,10 @@ use mathlib.Core.Path.{_≡_, refl, sym, ap, _∙_}
 use mathlib.Core.Logic.{_≢_, _⊎_, inl, inr}
 use mathlib.Core.Bool.{true}
 use mathlib.Core.List.{List, [], _∷_, map, List·Memᴰ·head, List·Memᴰ·tail, Memᴰ·map, Memᴰ·cast}
-use Prim.Native.Nat.{ℕ, zero, suc, _+_, _*_, _≤_, _<_}
-use native.Mathlib.Decide.{ℕ-discrete, decLt}
+use Prim.Native.Nat.{ℕ, _+_, _*_, _≤_, _<_}
+use native.Mathlib.Decide.{decLt}
 use native.Mathlib.Omega.{arith}
 use lib.ListN.{length, getD, length-map}
-use borrow.Author.Tests.{ne-eqb}
 use Rattle.lists.specs.Lists.{Mem, headOr}
 use Rattle.lists.proofs.CountLaws.{distinct-fits}
 use Rattle.record.specs.declared.heap.Heap.{Heap}
@@ -16,20 +15,14 @@ use Rattle.record.specs.declared.table.Binned.the-variants.{Bin}
 use Rattle.record.specs.Heap.{tableOf}
 use Rattle.record.specs.Table.{binOf}
 use Rattle.region.specs.Words.{word, size, bin}
-use Rattle.rules.specs.Shape.{Entry, shape, membersFrom, members, binList}
+use Rattle.rules.specs.Shape.{Entry, shape, members, binList}
 use Rattle.rules.specs.Kinds.{ordinary, blockEnd}
 use Rattle.rules.specs.Check.{Linked, Passes}
-use Rattle.rules.proofs.ShapeLaws.{Leads, read-none}
+use Rattle.rules.proofs.ShapeLaws.{Leads, read-none, read-head}
 use Rattle.rules.proofs.SpotLaws.{IsOrdinary, bounds, inside, apart, far, few-chunks, is-ordinary}
 use Rattle.bins.specs.Books.{books}
 use Rattle.bins.proofs.RunsLaws.{Node}
 use Rattle.bins.proofs.BooksLaws.{Holds, Far}
-
--- a reading with at least one step begins where it is read from
-read-head : (ws : List ℕ) (k c : ℕ) → 0 < k → c ≡ headOr 0 (membersFrom k ws c)
-read-head ws zero c l = absurd (omega arith)
-read-head ws (suc k) c l =
-    elim (ℕ-discrete c 0) [ yes z ↦ rw z refl | no n ↦ rw (ne-eqb c 0 n, membersFrom) ]
 
 -- along the links of a list the reading goes
 pub linked-leads : (ws : List ℕ) (q : ℕ) (cs : List ℕ) → Linked ws q cs → ((c : ℕ) → Mem c cs → 0 < c) → Leads ws cs

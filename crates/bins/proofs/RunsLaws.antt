@@ -8,7 +8,7 @@ use native.Mathlib.Omega.{arith}
 use lib.ListN.{length}
 use Rattle.lists.specs.Lists.{Mem, headOr, lastOr, Distinct}
 use Rattle.region.specs.Words.{word, Store, put, written, nextInBin, previousInBin}
-use Rattle.region.proofs.WordsLaws.{Off, off, word-same, word-other}
+use Rattle.region.proofs.WordsLaws.{Off, off, word-same, word-other, off-both}
 use Rattle.rules.specs.Check.{Linked}
 use Rattle.rules.specs.Draft.{followedBy, precededBy, meet}
 use Rattle.lists.proofs.MembersLaws.{head-append, last-member}
@@ -57,10 +57,6 @@ run-keeps ss ws p n [] f h = tt
 run-keeps ss ws p n (c ∷ cs) f h =
     let o = f c (List·Memᴰ·head refl) in
     (off ss ws c previousInBin (o .1) ∙ h .0, off ss ws c nextInBin (o .0) ∙ h .1, run-keeps ss ws c n cs (λ d m. f d (List·Memᴰ·tail m)) (h .2))
-
-pub off-both : (x : ℕ) (ss ts : List Store) → Off x ss → Off x ts → Off x (ss ++ ts)
-off-both x [] ts h k = k
-off-both x (s ∷ ss) ts h k = (h .0, off-both x ss ts (h .1) k)
 
 -- the word at index x is no link of a member
 abbrev pub NoLink : ℕ → List ℕ → Type 0

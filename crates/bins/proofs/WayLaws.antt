@@ -1,9 +1,9 @@
 -- Books half-way through a call, when chunks have left bins or were put into them and other words were written in between:
 -- step by step the bins hold the lists that the rules name, and words elsewhere stay as they were. Assumes nothing.
-use mathlib.Core.Path.{_≡_, refl, sym, ap, _∙_}
+use mathlib.Core.Path.{_≡_, refl, sym, _∙_}
 use mathlib.Core.Logic.{_≢_, _⊎_, inl, inr}
-use mathlib.Core.Bool.{Bool, true, false, cond}
-use mathlib.Core.List.{List, [], _∷_, _++_, append-nil, List·Memᴰ·head, List·Memᴰ·tail, List·Memᴰ·not-nil, Memᴰ·append-left, Memᴰ·append-right, List·Memᴰ·append-cases}
+use mathlib.Core.Bool.{cond}
+use mathlib.Core.List.{List, [], _∷_, _++_, append-nil, List·Memᴰ·head, List·Memᴰ·tail, Memᴰ·append-left, Memᴰ·append-right, List·Memᴰ·append-cases}
 use Prim.Native.Nat.{ℕ, _+_, _*_, _/_, _%_, _≤_, _<_}
 use native.Mathlib.Decide.{ℕ-discrete, decLt}
 use native.Mathlib.Omega.{arith}
@@ -12,6 +12,7 @@ use lib.ListN.{length, getD, length-set}
 use borrow.Author.Tests.{eq-eqb, ne-eqb}
 use Rattle.lists.specs.Lists.{Mem, headOr, lastOr, upTo, past}
 use Rattle.lists.proofs.MembersLaws.{member-with, member-without, distinct-parts}
+use Rattle.lists.proofs.SplitLaws.{before-from, after-from, split-at-member}
 use Rattle.record.specs.declared.heap.Heap.{Heap}
 use Rattle.region.specs.Words.{word, Store, put, written, nextInBin, previousInBin, bin}
 use Rattle.region.proofs.WordsLaws.{Off, off, word-same, length-written, written-append}
@@ -45,13 +46,6 @@ module _ (i : ℕ) (cs : List ℕ) (lists : ℕ → List ℕ) where
   pub relisted-other : (j : ℕ) → j ≢ i → relisted i cs lists j ≡ lists j
   relisted-other j ne = rw (ne-eqb j i ne)
 
-  pub relisted-id : lists i ≡ cs → (j : ℕ) → relisted i cs lists j ≡ lists j
-  relisted-id e j = go (ℕ-discrete j i)
-    where
-      go : Dec (j ≡ i) → relisted i cs lists j ≡ lists j
-      go (yes q) = rw (eq-eqb j i q, q) (sym e)
-      go (no ne) = relisted-other j ne
-
   pub member-relisted : (j : ℕ) {d : ℕ} → Mem d (relisted i cs lists j) → ((j ≡ i) × Mem d cs) ⊎ ((j ≢ i) × Mem d (lists j))
   member-relisted j {d} m = go (ℕ-discrete j i)
     where
@@ -59,45 +53,12 @@ module _ (i : ℕ) (cs : List ℕ) (lists : ℕ → List ℕ) where
       go (yes q) = inl (q, rw (eq-eqb j i q) at m)
       go (no ne) = inr (ne, rw (ne-eqb j i ne) at m)
 
--- a list taken apart at a member
-pub split-at-member : {c : ℕ} {cs : List ℕ} → Mem c cs → cs ≡ upTo (eqb c) cs ++ c ∷ past (eqb c) cs
-split-at-member {c} (List·Memᴰ·head {x = x} {xs = xs} e) = rw (eq-eqb c x e) (ap (λ (y : ℕ). y ∷ xs) (sym e))
-split-at-member {c} (List·Memᴰ·tail {x = x} {xs = xs} m) = go (split-at-member m) (ℕ-discrete c x)
-  where
-    go : xs ≡ upTo (eqb c) xs ++ c ∷ past (eqb c) xs → Dec (c ≡ x)
-        → x ∷ xs ≡ upTo (eqb c) (x ∷ xs) ++ c ∷ past (eqb c) (x ∷ xs)
-    go r (yes e) = rw (eq-eqb c x e) (ap (λ (y : ℕ). y ∷ xs) (sym e))
-    go r (no ne) = rw (ne-eqb c x ne) (ap (λ (l : List ℕ). x ∷ l) r)
-
--- what stands before and after it is of the list
-module _ (p : ℕ → Bool) where
-  pub before-from : (cs : List ℕ) {d : ℕ} → Mem d (upTo p cs) → Mem d cs
-  before-from [] m = absurd (List·Memᴰ·not-nil m)
-  before-from (x ∷ xs) {d} m = go (p x) m (λ k. before-from xs k)
-    where
-      go : (t : Bool) → Mem d (cond t [] (x ∷ upTo p xs)) → (Mem d (upTo p xs) → Mem d xs) → Mem d (x ∷ xs)
-      go true k f = absurd (List·Memᴰ·not-nil k)
-      go false (List·Memᴰ·head e) f = List·Memᴰ·head e
-      go false (List·Memᴰ·tail k) f = List·Memᴰ·tail (f k)
-
-  pub after-from : (cs : List ℕ) {d : ℕ} → Mem d (past p cs) → Mem d cs
-  after-from [] m = absurd (List·Memᴰ·not-nil m)
-  after-from (x ∷ xs) {d} m = go (p x) m (λ k. after-from xs k)
-    where
-      go : (t : Bool) → Mem d (cond t xs (past p xs)) → (Mem d (past p xs) → Mem d xs) → Mem d (x ∷ xs)
-      go true k f = List·Memᴰ·tail k
-      go false k f = List·Memᴰ·tail (f k)
-
 -- words that a step leaves alone: none but the links of members, and the links and the bin word of the chunk that is put
 pub leave-off : (c : ℕ) (cs : List ℕ) (x : ℕ) → NoLink x cs → Off x (meet (upTo (eqb c) cs) (past (eqb c) cs))
 leave-off c cs x f =
     meet-off x (upTo (eqb c) cs) (past (eqb c) cs) (λ d m. f d (before-from (eqb c) cs m)) (λ d m. f d (after-from (eqb c) cs m))
 
 module _ (b : Books) (i c d k : ℕ) where
-  pub leave-word : (cs : List ℕ) → NoLink (d / 4 + k) cs
-      → word (left b i (upTo (eqb c) cs) (past (eqb c) cs) .words) d k ≡ word (b .words) d k
-  leave-word cs f = off (meet (upTo (eqb c) cs) (past (eqb c) cs)) (b .words) d k (leave-off c cs (d / 4 + k) f)
-
   pub put-word : (xs ys : List ℕ) → NoLink (d / 4 + k) (xs ++ ys)
       → (d / 4 + k ≢ c / 4 + nextInBin) × (d / 4 + k ≢ c / 4 + previousInBin) × (d / 4 + k ≢ c / 4 + bin)
       → word (putAt b i xs c ys .words) d k ≡ word (b .words) d k
@@ -123,12 +84,6 @@ header-no-link d k cs s z f = λ c m. at c (f c m .0) (f c m .1) (decLt c d)
     at c e g (yes q) = let r = g q in omega arith
     at c e g (no ne) = omega arith
 
-pub left-length : (b : Books) (i : ℕ) (xs ys : List ℕ) → length (left b i xs ys .words) ≡ length (b .words)
-left-length b i xs ys = length-written (meet xs ys) (b .words)
-
-pub put-length : (b : Books) (i : ℕ) (xs : List ℕ) (c : ℕ) (ys : List ℕ) → length (putAt b i xs c ys .words) ≡ length (b .words)
-put-length b i xs c ys = length-written (putStores i xs c ys) (b .words)
-
 pub way-begins : (ws : List ℕ) (h : Heap) → Passes ws h → OnWay (books ws (h .heads) (h .tails)) (binList ws h) (h .bins)
 way-begins ws h p =
     let t = p .table in
@@ -145,19 +100,6 @@ way-begins ws h p =
 module _ (b : Books) (lists : ℕ → List ℕ) (n : ℕ) (w : OnWay b lists n) where
   pub way-leads : (j : ℕ) → j < n → Leads (b .words) (lists j)
   way-leads j l = let h = w .holds j l in linked-leads (b .words) 0 (lists j) (h .links) (λ c m. h .nodes c m .some)
-
-  -- only what the lists are counts
-  pub way-same : (same : ℕ → List ℕ) → ((j : ℕ) → j < n → same j ≡ lists j) → OnWay b same n
-  way-same same e =
-      record {
-        few = w .few;
-        heads = w .heads;
-        tails = w .tails;
-        holds = λ j l. rw (e j l) (w .holds j l);
-        apart = λ i j li lj ne c m k. w .apart i j li lj ne c (rw (e i li) at m) (rw (e j lj) at k);
-        far = λ i j c d li lj m k ne. w .far i j c d li lj (rw (e i li) at m) (rw (e j lj) at k) ne;
-        binned = λ j c l m. w .binned j c l (rw (e j l) at m);
-      }
 
   -- stores that are to no link and to no bin word of a member
   pub way-keeps : (ss : List Store)

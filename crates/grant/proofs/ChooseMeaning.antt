@@ -7,7 +7,6 @@ use native.Mathlib.Decide.{ℕ-discrete}
 use native.Mathlib.Omega.{arith}
 use lib.Dec.{leb}
 use lib.ListN.{length}
-use lib.Seq.{length-take-le}
 use borrow.Author.Tests.{eq-eqb}
 use Rattle.bins.specs.Books.{firstFitM, nextOccupiedM}
 use Rattle.bins.proofs.HeapBooks.{member-entry, list-head, list-nodes, list-short, leads-is}
@@ -28,14 +27,12 @@ use Rattle.rules.specs.Draft.{asRead}
 use Rattle.rules.specs.Serve.{sizeOn, fromBin, ownBin, tryDonor, largerBin, tryTop, chosen}
 use Rattle.rules.specs.Shape.{Entry, shape, binList}
 use Rattle.rules.proofs.SpotLaws.{spot-at, top-here, donor-here}
+use Rattle.rules.proofs.CheckLaws.{table-bins}
 use Rattle.grant.specs.Choose.{ownM, largerM, donorM, topM, chooseM}
 
 module _ (ws : List ℕ) (h : Heap) (p : Passes ws h) (n : ℕ) where
   abbrev pub es : List Entry
   es = shape ws (h .bytes)
-
-  bins-are : length (tableOf h) ≡ h .bins
-  bins-are = let a = p .table .bins in let b = p .table .sizePlaces in length-take-le (h .bins) (h .sizes) (omega arith)
 
   -- the size word of a member, of the donor and of the top is the distance to the next chunk
   pub size-on : (c : ℕ) (e : Entry) → Mem e es → e .place ≡ c → sizeOn es c ≡ e .size
@@ -55,7 +52,7 @@ module _ (ws : List ℕ) (h : Heap) (p : Passes ws h) (n : ℕ) where
   own-is : (b : Binned) → TakenBy (tableOf h) n b → fromBin (ownM ws (h .heads) n b) ≡ ownBin es (binList ws h) n b
   unfolding ownM
   own-is (Bin i) k =
-      let l : i < h .bins = rw bins-are at (k .inside) in
+      let l : i < h .bins = rw (table-bins h (p .table)) at (k .inside) in
       ap fromBin
       (ap (firstFitM 8192 ws n) (list-head ws h p i)
       ∙ first-fit-is ws n (binList ws h i) (leads-is ws h p i l) (list-short ws h p i)
@@ -66,7 +63,7 @@ module _ (ws : List ℕ) (h : Heap) (p : Passes ws h) (n : ℕ) where
   unfolding largerM
   larger-is (Bin i) k =
       ap fromBin
-      (ap (nextOccupiedM (h .heads) i) bins-are
+      (ap (nextOccupiedM (h .heads) i) (table-bins h (p .table))
       ∙ next-occupied-is (h .heads) (binList ws h) (h .bins) (λ j l. list-head ws h p j) (λ j l c m. list-nodes ws h p j l c m .some) i)
   larger-is NoBin k = refl
 

@@ -11,6 +11,7 @@ use native.Mathlib.Omega.{arith}
 use lib.ListN.{length}
 use borrow.Author.Tests.{eq-eqb, ne-eqb, le-leb, lt-leb}
 use Rattle.lists.specs.Lists.{Mem, headOr, lastOr}
+use Rattle.lists.proofs.SplitLaws.{in-split}
 use Rattle.record.specs.declared.heap.Heap.{Heap}
 use Rattle.record.specs.declared.kinds.Kind.{Kind}
 use Rattle.record.specs.declared.kinds.Kind.the-variants.{Start, InUse, Ordinary, Donor, Top, End}
@@ -21,9 +22,9 @@ use Rattle.rules.specs.Shape.{Entry, entry, shape, binList, flagsAt}
 use Rattle.rules.specs.Kinds.{kindOf, ordinaryKind, freeKind, ordinary, unused, used, blockEnd, outside}
 use Rattle.rules.specs.Check.{Passes}
 use Rattle.rules.specs.Draft.{Draft, asRead, nowUses, relink, settle}
-use Rattle.rules.specs.Join.{joinedAs}
 use Rattle.rules.specs.Cut.{Grant, cut, grantAt, leaveAs}
-use Rattle.rules.proofs.SpotLaws.{Free, Around, bounds, inside, around, apart, in-split, one-chunk}
+use Rattle.rules.proofs.SpotLaws.{Free, Around, bounds, inside, around, apart, one-chunk}
+use Rattle.rules.proofs.KindsLaws.{ordinary-kind, free-kinds}
 use Rattle.bins.specs.Books.{books}
 use Rattle.bins.proofs.BooksLaws.{Far}
 use Rattle.bins.proofs.HeapBooks.{member-entry, member-below, ordinary-listed}
@@ -259,18 +260,10 @@ module _ (ws : List ℕ) (h : Heap) (p : Passes ws h) where
       unfolding relink
       part-settles k₁ f =
           let i = lies in
-          go (settle-step ws h cutUp part-follows p (e .place + n) (e .size - n) unused (omega arith)
-          (record { eight = omega arith; some = omega arith; fits = omega arith })
-          (λ j x lj m. rest-far j x lj m l)) k₁ f
-        where
-          go : ((over : Kind) → Settled ws h (booksOf ws cutUp) (joinedAs over) (e .place + n) (e .size - n) (settle (joinedAs over) rest cutUp))
-              → (k₂ : Kind) → freeKind k₂ ≡ true → Settled ws h (booksOf ws cutUp) k₂ (e .place + n) (e .size - n) (settle k₂ rest cutUp)
-          go t Start f = absurd (false≢true f)
-          go t InUse f = absurd (false≢true f)
-          go t Ordinary f = t Ordinary
-          go t Donor f = t Donor
-          go t Top f = t Top
-          go t End f = absurd (false≢true f)
+          let t =
+          settle-step ws h cutUp part-follows p (e .place + n) (e .size - n) unused (omega arith)
+          (record { eight = omega arith; some = omega arith; fits = omega arith }) (λ j x lj m. rest-far j x lj m l) in
+          free-kinds (λ k₂. Settled ws h (booksOf ws cutUp) k₂ (e .place + n) (e .size - n) (settle k₂ rest cutUp)) (t Ordinary) (t Donor) (t Top) k₁ f
 
       part-taken : takeM (books ws (h .heads) (h .tails)) (tableOf h) k (cutM ws (e .place) n) ≡ booksOf ws (settle k rest cutUp)
       unfolding takeM
@@ -318,12 +311,7 @@ module _ (ws : List ℕ) (h : Heap) (p : Passes ws h) where
           go false f = let g = f refl in absurd (omega arith)
 
       stays : (k₁ : Kind) → ordinaryKind k₁ ≡ true → (c x : ℕ) → (donorAfter k₁ c x ≡ x) × (topAfter k₁ c x ≡ x)
-      stays Start o = absurd (false≢true o)
-      stays InUse o = absurd (false≢true o)
-      stays Ordinary o = λ c x. (refl, refl)
-      stays Donor o = absurd (false≢true o)
-      stays Top o = absurd (false≢true o)
-      stays End o = absurd (false≢true o)
+      stays k₁ o c x = rw (ordinary-kind k₁ o) (refl, refl)
 
       takes-all : Taken (e .size) grantRuled
       unfolding relink

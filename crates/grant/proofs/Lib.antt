@@ -7,6 +7,7 @@ pub mod CutLaws
 pub mod CutMeaning
 pub mod ServeSteps
 pub mod ServeMeaning
+pub mod CutKept
 pub mod GrantKept
 pub mod GrantedChunk
 pub mod GrantSpares

@@ -1,6 +1,6 @@
 -- What the chosen source is on a heap that passes: a free chunk of the chain, large enough for the need, and for a need and 24 bytes more
 -- if it is the donor or the top; and where the chain is taken apart for the grant (`source-can`). Assumes nothing.
-use mathlib.Core.Path.{_≡_, refl, sym, subst}
+use mathlib.Core.Path.{_≡_, refl, subst}
 use mathlib.Core.Bool.{Bool, true, false, cond, not, _&&_, true≢false}
 use mathlib.Core.List.{List, [], _∷_, _++_, List·Memᴰ·head}
 use Prim.Native.Nat.{ℕ, suc, _+_, _-_, _≤_, _<_}
@@ -14,8 +14,6 @@ use Rattle.lists.proofs.ListsLaws.{at-most, number-is, denied, itself, both}
 use Rattle.lists.proofs.MembersLaws.{kept-from}
 use Rattle.lists.proofs.CountLaws.{gathered-from}
 use Rattle.record.specs.declared.heap.Heap.{Heap}
-use Rattle.record.specs.declared.kinds.Kind.{Kind}
-use Rattle.record.specs.declared.kinds.Kind.the-variants.{Start, InUse, Ordinary, Donor, Top, End}
 use Rattle.record.specs.declared.sources.Source.{Source}
 use Rattle.record.specs.declared.sources.Source.the-variants.{FromBin, FromDonor, FromTop, Nowhere}
 use Rattle.record.specs.declared.table.Binned.{Binned}
@@ -31,6 +29,7 @@ use Rattle.rules.specs.Cut.{grantAt, grantFrom}
 use Rattle.rules.specs.Serve.{sizeOn, fromBin, ownBin, tryDonor, largerBin, tryTop, firstOf, chosen, nowhere}
 use Rattle.rules.specs.Allocate.{sourceOf}
 use Rattle.rules.proofs.SpotLaws.{Free, spot-at, top-here, donor-here}
+use Rattle.rules.proofs.KindsLaws.{ordinary-kind}
 use Rattle.bins.proofs.HeapBooks.{member-entry}
 use Rattle.grant.specs.Serve.{placeIn, kindIn}
 use Rattle.grant.proofs.ChooseMeaning.{size-on}
@@ -86,20 +85,20 @@ if-good : (P : Source → Type 0) (s : Source) (t : Bool) → (t ≡ true → P 
 if-good P s true f = λ some. f refl
 if-good P s false f = λ some. absurd (true≢false some)
 
-is-ordinary-kind : (k : Kind) → ordinaryKind k ≡ true → k ≡ Ordinary
-is-ordinary-kind Ordinary t = refl
-is-ordinary-kind Start t = absurd (true≢false (sym t))
-is-ordinary-kind InUse t = absurd (true≢false (sym t))
-is-ordinary-kind Donor t = absurd (true≢false (sym t))
-is-ordinary-kind Top t = absurd (true≢false (sym t))
-is-ordinary-kind End t = absurd (true≢false (sym t))
-
 module _ (ws : List ℕ) (h : Heap) (p : Passes ws h) (n : ℕ) where
   abbrev es : List Entry
   es = shape ws (h .bytes)
 
   abbrev Can : Source → Type 0
   Can s = (e : Entry) × CanGrant ws h n s e
+
+  -- the chain is taken apart at the chunk's own place
+  can-at : (s : Source) (e : Entry) → Mem e es → e .place ≡ placeIn (h .donor .0) (h .top .0) s → kindOf h e ≡ kindIn s → Free ws h e → n ≤ e .size
+      → (ordinaryKind (kindIn s) ≡ false → n + 24 ≤ e .size) → (s ≡ FromDonor → small (tableOf h) n ≡ true)
+      → grantFrom s n (asRead ws h) ≡ grantAt (kindIn s) (spot (isAt (e .place)) es) n (asRead ws h) → Can s
+  can-at s e m q k f enough spare little is =
+      let t = spot-at ws h p (e .place) e m refl in
+      (e, record { member = m; place = q; kind = k; free = f; enough = enough; spare = spare; little = little; here = t .1; split = t .2; is = is })
 
   -- a member of a bin with n bytes
   from-bin-can : (i c : ℕ) → i < h .bins → Mem c (binList ws h i) → ((e : Entry) → Mem e es → e .place ≡ c → binOf (tableOf h) (e .size) ≡ Bin i → n ≤ e .size)
@@ -108,21 +107,8 @@ module _ (ws : List ℕ) (h : Heap) (p : Passes ws h) (n : ℕ) where
   from-bin-can i c l m large =
       let k = member-entry ws h p i c l m in
       let r = k .1 in
-      let s = spot-at ws h p (k .0 .place) (k .0) (r .member) refl in (
-        k .0,
-        record {
-          member = r .member;
-          place = r .place;
-          kind = is-ordinary-kind (kindOf h (k .0)) (r .kind);
-          free = r .is .free;
-          enough = large (k .0) (r .member) (r .place) (r .takes);
-          spare = λ q. absurd (true≢false q);
-          little = λ q. cc;
-          here = s .1;
-          split = s .2;
-          is = rw (r .place);
-        },
-      )
+      can-at (FromBin (at c)) (k .0) (r .member) (r .place) (ordinary-kind (kindOf h (k .0)) (r .kind)) (r .is .free)
+      (large (k .0) (r .member) (r .place) (r .takes)) (λ q. absurd (true≢false q)) (λ q. cc) (rw (r .place))
 
   own-good : (b : Binned) → TakenBy (tableOf h) n b → Good Can (ownBin es (binList ws h) n b)
   own-good (Bin i) k =
@@ -153,22 +139,7 @@ module _ (ws : List ℕ) (h : Heap) (p : Passes ws h) (n : ℕ) where
       let f = both (both (itself (small (tableOf h) n)) (denied (number-is (h .donor .0) 0))) (at-most (n + 24) (sizeOn es (h .donor .0))) .0 t in
       let some : 0 < h .donor .0 = omega (arith, f .0 .1) in
       let d = donor-here ws h p some in
-      let e : Entry = spot (isAt (h .donor .0)) es .here in
-      let s = spot-at ws h p (e .place) e (d .member) refl in (
-        e,
-        record {
-          member = d .member;
-          place = d .place;
-          kind = d .kind;
-          free = d .free;
-          enough = omega (arith, f .1);
-          spare = λ q. f .1;
-          little = λ q. f .0 .0;
-          here = s .1;
-          split = s .2;
-          is = rw (d .place);
-        },
-      ))
+      can-at FromDonor (spot (isAt (h .donor .0)) es .here) (d .member) (d .place) (d .kind) (d .free) (omega (arith, f .1)) (λ q. f .1) (λ q. f .0 .0) (rw (d .place)))
 
   top-good : Good Can (tryTop h es n)
   unfolding grantFrom asRead
@@ -177,22 +148,7 @@ module _ (ws : List ℕ) (h : Heap) (p : Passes ws h) (n : ℕ) where
       (λ t.
       let f = leb-true (n + 24) (sizeOn es (h .top .0)) t in
       let d = top-here ws h p in
-      let e : Entry = spot (isAt (h .top .0)) es .here in
-      let s = spot-at ws h p (e .place) e (d .member) refl in (
-        e,
-        record {
-          member = d .member;
-          place = d .place;
-          kind = d .kind;
-          free = d .free;
-          enough = omega arith;
-          spare = λ q. f;
-          little = λ q. cc;
-          here = s .1;
-          split = s .2;
-          is = rw (d .place);
-        },
-      ))
+      can-at FromTop (spot (isAt (h .top .0)) es .here) (d .member) (d .place) (d .kind) (d .free) (omega arith) (λ q. f) (λ q. cc) (rw (d .place)))
 
   -- a source that is chosen can grant
   pub source-can : nowhere (sourceOf n (asRead ws h)) ≡ false → (e : Entry) × CanGrant ws h n (sourceOf n (asRead ws h)) e

@@ -9,9 +9,10 @@ use native.Mathlib.Decide.{ℕ-discrete}
 use native.Mathlib.Omega.{arith}
 use lib.Dec.{eqb}
 use lib.ListN.{length, length-append}
-use Rattle.lists.specs.Lists.{Mem, any, total, numbersFrom, gathered, Distinct}
+use Rattle.lists.specs.Lists.{Mem, any, total, upTo, past, numbersFrom, gathered, Distinct}
 use Rattle.lists.proofs.ListsLaws.{is-member}
 use Rattle.lists.proofs.MembersLaws.{member-without}
+use Rattle.lists.proofs.SplitLaws.{split-at-member}
 
 pub member? : (c : ℕ) (xs : List ℕ) → Dec (Mem c xs)
 member? c xs = by (any (eqb c) xs) refl
@@ -20,25 +21,20 @@ member? c xs = by (any (eqb c) xs) refl
     by true e = yes (is-member c xs .0 e)
     by false e = no (λ m. false≢true (sym e ∙ is-member c xs .1 m))
 
--- a list taken apart at a member
-pub member-split : {c : ℕ} {cs : List ℕ} → Mem c cs → (xs : List ℕ) × (ys : List ℕ) × (cs ≡ xs ++ c ∷ ys)
-member-split {c} (List·Memᴰ·head {x = x} {xs = xs} e) = ([], xs, rw e refl)
-member-split {c} (List·Memᴰ·tail {x = x} m) =
-    let r = member-split m in
-    (x ∷ r .0, r .1, ap (λ (l : List ℕ). x ∷ l) (r .2))
-
 pub distinct-fits : (xs ys : List ℕ) → Distinct xs → ((x : ℕ) → Mem x xs → Mem x ys) → length xs ≤ length ys
 distinct-fits [] ys u h = omega arith
 distinct-fits (x ∷ xs) ys u h =
-    let s = member-split (h x (List·Memᴰ·head refl)) in
-    let r = distinct-fits xs (s .0 ++ s .1) (u .1) (λ z m. elsewhere s z m) in
-    let l : length ys ≡ length (s .0 ++ x ∷ s .1) = ap length (s .2) in
-    omega (arith, length-append (s .0) (s .1), length-append (s .0) (x ∷ s .1))
+    let us : List ℕ = upTo (eqb x) ys in
+    let vs : List ℕ = past (eqb x) ys in
+    let s : ys ≡ us ++ x ∷ vs = split-at-member (h x (List·Memᴰ·head refl)) in
+    let r = distinct-fits xs (us ++ vs) (u .1) (elsewhere us vs s) in
+    let l : length ys ≡ length (us ++ x ∷ vs) = ap length s in
+    omega (arith, length-append us vs, length-append us (x ∷ vs))
   where
-    elsewhere : (s : (us : List ℕ) × (vs : List ℕ) × (ys ≡ us ++ x ∷ vs)) (z : ℕ) → Mem z xs → Mem z (s .0 ++ s .1)
-    elsewhere s z m = go (member-without (s .0) x (s .1) (rw (s .2) at (h z (List·Memᴰ·tail m))))
+    elsewhere : (us vs : List ℕ) → ys ≡ us ++ x ∷ vs → (z : ℕ) → Mem z xs → Mem z (us ++ vs)
+    elsewhere us vs s z m = go (member-without us x vs (rw s at (h z (List·Memᴰ·tail m))))
       where
-        go : (z ≡ x) ⊎ Mem z (s .0 ++ s .1) → Mem z (s .0 ++ s .1)
+        go : (z ≡ x) ⊎ Mem z (us ++ vs) → Mem z (us ++ vs)
         go (inl e) = absurd (u .0 (rw e at m))
         go (inr k) = k
 

@@ -3,7 +3,7 @@
 use mathlib.Core.Path.{_≡_, refl, sym, ap, subst, _∙_}
 use mathlib.Core.Logic.{_≢_, _⊎_, inl, inr}
 use mathlib.Core.Bool.{Bool, true, false, cond, true≢false, false≢true}
-use mathlib.Core.List.{List, [], _∷_}
+use mathlib.Core.List.{List}
 use Prim.Native.Nat.{ℕ, _+_, _*_, _≤_, _<_}
 use native.Mathlib.Decide.{ℕ-discrete}
 use native.Mathlib.Omega.{arith}
@@ -42,16 +42,15 @@ use Rattle.promises.specs.Ways.{ours}
 use Rattle.promises.specs.Room.{OnChain, HoldsBlock}
 use Rattle.promises.specs.Refused.{isSetup, recordOf}
 use Rattle.promises.specs.Apart.{SameWords, Keeps, KeepsAll, KeepsOthers, Gone, NoneNew, NoneNewBut, New, Clear, Stays, onlyLooks, Apart}
-use Rattle.promises.proofs.RefusedLaws.{live-iff, one-block, here-holds, refusing}
+use Rattle.promises.proofs.RefusedLaws.{refusing}
 use Rattle.promises.proofs.GrantedLaws.{kept-still, new-apart, new-clear, cleared-within, others-kept, none-others, moved-apart}
-use Rattle.promises.proofs.OddLaws.{Failed}
+use Rattle.promises.proofs.JudgedLaws.{Failed, judged-so, accepted-made}
+use Rattle.promises.proofs.ReasonLaws.{live-iff, one-block, here-holds}
 
 -- a call that granted a block was not refused: its tests failed, and the outcome is what it made
 accepted : (h : Heap) (o : Outcome) (block : Block) (change : ℤ) (ts : Refusals) → judged h ts o .answer ≡ Granted block change
     → Failed ts × (judged h ts o ≡ o)
-accepted h o block change [] q = (tt, refl)
-accepted h o block change ((true, r) ∷ ts) q = let z : _≡_ {A = ℕ} 0 1 = cc in absurd (omega arith)
-accepted h o block change ((false, r) ∷ ts) q = let k = accepted h o block change ts q in ((refl, k .0), k .1)
+accepted h o block change ts q = accepted-made h o ts (λ r e. let z : _≡_ {A = ℕ} 0 1 = cc in omega arith)
 
 -- the block of an answer
 block-of : (before : ℕ) (e : Entry) (block : Block) (change : ℤ) → grants before e ≡ Granted block change → blockOf e ≡ block .0
@@ -243,9 +242,7 @@ module _ (ws : List ℕ) (h : Heap) (p : Passes ws h) (b : ℕ) (e : Entry) (k :
 
 -- a question changes nothing, answered or refused
 unchanged-judged : (h : Heap) (a : Answer) (ts : Refusals) → judged h ts (unchanged h a) ≡ unchanged h (judged h ts (unchanged h a) .answer)
-unchanged-judged h a [] = refl
-unchanged-judged h a ((true, r) ∷ ts) = refl
-unchanged-judged h a ((false, r) ∷ ts) = unchanged-judged h a ts
+unchanged-judged h a ts = judged-so (λ x. x ≡ unchanged h (x .answer)) h (unchanged h a) ts (λ r. refl) (λ _. refl)
 
 module _ (ws : List ℕ) (h : Heap) (p : Passes ws h) where
   still : KeepsAll ws h (leftBy ws (unchanged h Done)) × NoneNew ws h (leftBy ws (unchanged h Done))

@@ -3,7 +3,7 @@
 use mathlib.Core.Path.{_≡_, refl, sym, ap, _∙_}
 use mathlib.Core.Bool.{true, cond}
 use mathlib.Core.List.{List, [], _∷_, List·Memᴰ·head, List·Memᴰ·tail, Memᴰ·map, Memᴰ·cast}
-use Prim.Native.Nat.{ℕ, _+_, _≤_, _<_}
+use Prim.Native.Nat.{ℕ, _+_, _<_}
 use native.Mathlib.Omega.{arith}
 use lib.ListN.{length, length-map, drop}
 use borrow.Author.Tests.{lt-ltb}
@@ -20,28 +20,16 @@ use Rattle.rules.specs.Kinds.{kindOf, liveKind, freeKind, ordinary, isFree, liv
 use Rattle.rules.specs.Check.{Passes, passes, usedBytes, freeBytes, countsOf}
 use Rattle.rules.specs.Draft.{asRead}
 use Rattle.rules.specs.Merge.{check, checked}
-use Rattle.rules.specs.Ask.{placesOf, askBin, shown, firstOf, lastOf}
+use Rattle.rules.specs.Ask.{placesOf, askBin}
 use Rattle.rules.specs.Calls.{Check, AskBin, step}
 use Rattle.rules.proofs.ChainLaws.{places-once, shape-chain}
 use Rattle.rules.proofs.CheckLaws.{passes-iff}
 use Rattle.rules.proofs.KindsLaws.{Being, being, kind-start}
-use Rattle.rules.proofs.SpotLaws.{Inside, Between, Tiled, tiled, tiled-up, inside, between, bounds, ends}
+use Rattle.rules.proofs.SpotLaws.{Inside, Between, tiled, inside, between, bounds, ends}
+use Rattle.rules.proofs.TiledLaws.{Tiled, tiled-none}
+use Rattle.rules.proofs.AskLaws.{shown-first, shown-last}
 use Rattle.promises.specs.Ways.{ours}
 use Rattle.promises.specs.Counts.{Right, Counting}
-
--- none is shown as 0
-first-shown : (cs : List ℕ) → shown (firstOf cs) ≡ headOr 0 cs
-first-shown [] = refl
-first-shown (c ∷ cs) = refl
-
-last-shown : (cs : List ℕ) → shown (lastOf cs) ≡ lastOr 0 cs
-last-shown [] = refl
-last-shown (c ∷ cs) = refl
-
--- nothing lies between a place and one that is not above it
-tiled-none : (a b : ℕ) (ds : List Entry) → Tiled a ds b → b ≤ a → ds ≡ []
-tiled-none a b [] t l = refl
-tiled-none a b (d ∷ ds) t l = let u = tiled-up (blockEnd d) b ds (t .2) in absurd (omega (arith, t .0, t .1))
 
 -- the start is neither used nor free
 start-share : (h : Heap) (s : Entry) (ds : List Entry) → s .place ≡ 0
@@ -142,11 +130,11 @@ module _ (ws : List ℕ) (h : Heap) (p : Passes ws h) where
 
     firsts : ours (AskBin 2 i) ws h .answer ≡ Told (headOr 0 (binList ws h i))
     unfolding ours step askBin asRead
-    firsts = rw (well, lt-ltb i (h .bins) l) (ap Told (first-shown (binList ws h i)))
+    firsts = rw (well, lt-ltb i (h .bins) l) (ap Told (sym (shown-first (binList ws h i))))
 
     lasts : ours (AskBin 3 i) ws h .answer ≡ Told (lastOr 0 (binList ws h i))
     unfolding ours step askBin asRead
-    lasts = rw (well, lt-ltb i (h .bins) l) (ap Told (last-shown (binList ws h i)))
+    lasts = rw (well, lt-ltb i (h .bins) l) (ap Told (sym (shown-last (binList ws h i))))
 
 pub counting : Counting ours
 counting =

@@ -21,10 +21,10 @@ use Rattle.rules.specs.Draft.{headers, noBinWords}
 use Rattle.rules.specs.Setup.{fresh, firstHeaders}
 use Rattle.rules.proofs.KindsLaws.{kind-start, kind-end, kind-top, kind-donor}
 use Rattle.rules.proofs.ShapeLaws.{read-none}
-use Rattle.rules.proofs.SpotLaws.{tiled-empty}
-use Rattle.settling.proofs.LayoutLaws.{Laid, Layout}
+use Rattle.rules.proofs.TiledLaws.{tiled-empty}
+use Rattle.settling.proofs.LayoutLaws.{Laid, Layout, laid-between}
 use Rattle.settling.proofs.HeaderLaws.{Header, Headed, headed-backed, headed-sized, headed-last, reads-as}
-use Rattle.promises.proofs.RefusedLaws.{Fitting}
+use Rattle.promises.proofs.ReasonLaws.{Fitting}
 
 -- every place of an array of zeros, and every place past the sizes of a table
 zero-at : (n i : ℕ) → getD (replicate {A = ℕ} n 0) i 0 ≡ 0
@@ -147,13 +147,9 @@ module _ (ws table : List ℕ) (merge : Bool) (valid : ValidTable table) (enough
   end-laid =
       record { eight = omega arith; some = omega arith; ends = omega arith; flags = omega arith; room = λ l r. absurd (omega arith); free = λ f. absurd (omega arith) }
 
-  free-laid : (c s : ℕ) → c % 8 ≡ 0 → 8 ≤ c → 24 ≤ s → c + s + 8 ≤ bytes → Laid bytes (entry c s 0)
-  free-laid c s eight above large below =
-      record { eight = eight; some = omega arith; ends = omega arith; flags = omega arith; room = λ l r. large; free = λ f. (above, large, below) }
-
   module _ (donor : ℕ) (eight : donor % 8 ≡ 0) (room : donor + 40 ≤ bytes) where
     top-laid : Laid bytes (topOf donor)
-    top-laid = free-laid (8 + donor) (bytes - 8 - (8 + donor)) (omega arith) (omega arith) (omega arith) (omega arith)
+    top-laid = laid-between bytes (topOf donor) (omega arith) (omega arith) (omega arith) (omega arith) (omega arith)
 
     start-neither : Neither donor start
     start-neither = rw (← kind-start bytes (opened donor .donor .0) (8 + donor) start refl) (refl, refl)
@@ -245,7 +241,7 @@ module _ (ws table : List ℕ) (merge : Bool) (valid : ValidTable table) (enough
       where
         each : (e : Entry) → Mem e donated → Laid bytes e
         each e (List·Memᴰ·head q) = rw q start-laid
-        each e (List·Memᴰ·tail (List·Memᴰ·head q)) = rw q (free-laid 8 donor refl (omega arith) large (omega arith))
+        each e (List·Memᴰ·tail (List·Memᴰ·head q)) = rw q (laid-between bytes (donorOf donor) refl (omega arith) (omega arith) large (omega arith))
         each e (List·Memᴰ·tail (List·Memᴰ·tail (List·Memᴰ·head q))) = rw q (top-laid donor eight room)
         each e (List·Memᴰ·tail (List·Memᴰ·tail (List·Memᴰ·tail (List·Memᴰ·head q)))) = rw q end-laid
 

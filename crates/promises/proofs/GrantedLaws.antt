@@ -38,7 +38,7 @@ use Rattle.settling.proofs.FillLaws.{Within, filled-within, below-block, above-
 use Rattle.promises.specs.Room.{OnChain, HoldsBlock}
 use Rattle.promises.specs.Apart.{SameWords, Keeps, KeepsAll, KeepsOthers, Gone, NoneNewBut, CutFrom, New}
 use Rattle.promises.proofs.ServeLaws.{top-can, donor-can, ordinary-can}
-use Rattle.promises.proofs.RefusedLaws.{one-block}
+use Rattle.promises.proofs.ReasonLaws.{one-block}
 
 -- words that were written one after the other from number i on are read back
 fill-reads : (value : ℕ → ℕ) (b n i : ℕ) (ws : List ℕ) → b / 4 + i + n ≤ length ws → (k : ℕ) → i ≤ k → k < i + n

@@ -1,37 +1,50 @@
--- On a heap that passes no call that grants or moves a block writes past the heap bytes, whatever goes into the block. Assumes nothing.
+-- Where the stores of a call fall: on a heap that passes a grant, a move and whatever goes into the block write nothing past the heap bytes;
+-- so no call on any region writes an odd last word (`stores-below`). Assumes nothing.
 use mathlib.Core.Path.{_≡_, refl}
-use mathlib.Core.Bool.{Bool, true, false, cond, _&&_}
+use mathlib.Core.Logic.{inl, inr}
+use mathlib.Core.Bool.{Bool, true, false, not, cond, _&&_, _||_}
 use mathlib.Core.List.{List, [], _∷_, _++_, map}
-use Prim.Native.Nat.{ℕ, _+_, _/_, _%_, _≤_, _<_}
+use Prim.Native.Nat.{ℕ, _+_, _/_, _%_, _≤_, _<_, _*_}
 use native.Mathlib.Omega.{arith}
-use lib.Dec.{leb, ltb}
-use borrow.Author.Tests.{leb-true, ltb-true}
+use lib.Dec.{leb, ltb, eqb}
+use lib.ListN.{length}
+use borrow.Author.Tests.{leb-true, ltb-true, not-false}
+use Rattle.lists.specs.Lists.{Mem, numbersFrom}
+use Rattle.lists.proofs.SplitLaws.{in-split}
+use Rattle.record.specs.declared.heap.Heap.{Heap}
+use Rattle.record.specs.declared.answers.Answer.{Answer}
+use Rattle.record.specs.declared.answers.Answer.the-variants.{Done, Told}
+use Rattle.record.specs.declared.answers.Refusal.the-variants.{NotThere}
+use Rattle.record.specs.Heap.{empty, withMerge}
+use Rattle.region.specs.Words.{Store, put, word}
+use Rattle.region.proofs.PrefixLaws.{Below, below-both}
+use Rattle.region.proofs.WordsLaws.{length-written}
+use Rattle.rules.specs.Shape.{Entry, shape, heapBytes}
+use Rattle.rules.specs.Kinds.{live, blockOf, blockEnd, blockWords, overhead}
+use Rattle.rules.specs.Check.{Passes, passes}
+use Rattle.rules.specs.Draft.{Draft, Spot, asRead, alsoWrites}
+use Rattle.rules.specs.Serve.{nowhere, need}
+use Rattle.rules.specs.Cut.{Grant}
+use Rattle.rules.specs.Allocate.{sourceOf, grant, asFound, cleared, allocateWith, allocate, allocateCleared, allocateRefusals, allocated}
+use Rattle.rules.specs.Free.{isLive, blockSpot, freeBlock, free, freeRefusals, freed}
+use Rattle.rules.specs.Reallocate.{shrunk, moved, resized, resize, reallocate, resizeRefusals, resizedTo}
+use Rattle.rules.specs.Outcome.{Outcome, Refusals, judged, heapFails, unchanged}
+use Rattle.rules.specs.Setup.{setup, donorFits, setupRefusals, opened}
+use Rattle.rules.specs.Merge.{setMerge, check}
+use Rattle.rules.specs.Ask.{askChunk, askBin, chunkAnswers, askedSpot, isAsked, isThere, answerTo, binAnswers}
+use Rattle.rules.specs.Calls.{Call, Setup, Allocate, AllocateCleared, Free, Reallocate, SetMerge, Check, AskChunk, AskBin, step}
+use Rattle.rules.proofs.CheckLaws.{passes-iff}
+use Rattle.rules.proofs.SpotLaws.{inside}
+use Rattle.opening.proofs.LayoutLaws.{first-below}
+use Rattle.settling.proofs.FillLaws.{Within, filled-within}
 use Rattle.grant.proofs.GrantedChunk.{grantedWords, kept, new-there}
 use Rattle.grant.proofs.GrantSpares.{grant-inside}
-use Rattle.lists.specs.Lists.{Mem, numbersFrom}
-use Rattle.record.specs.declared.heap.Heap.{Heap}
-use Rattle.region.specs.Words.{Store, put, word}
-use Rattle.region.proofs.PrefixLaws.{Below}
-use Rattle.region.proofs.WordsLaws.{length-written}
+use Rattle.grant.proofs.NeedLaws.{need-large, need-eight}
 use Rattle.release.proofs.ReleaseMeaning.{splits}
 use Rattle.release.proofs.ReleaseSpares.{free-inside, shrink-inside}
 use Rattle.resize.proofs.MovedLaws.{fits, copiedOver, copiedWords, copiedHeap, copied-passes, live-again, again-is}
-use Rattle.rules.specs.Shape.{Entry, shape}
-use Rattle.rules.specs.Kinds.{live, blockOf, blockEnd, blockWords}
-use Rattle.rules.specs.Check.{Passes}
-use Rattle.rules.specs.Draft.{Draft, Spot, asRead, alsoWrites}
-use Rattle.rules.specs.Serve.{nowhere}
-use Rattle.rules.specs.Cut.{Grant}
-use Rattle.rules.specs.Allocate.{sourceOf, grant, asFound, cleared}
-use Rattle.rules.specs.Free.{isLive, blockSpot, freeBlock}
-use Rattle.rules.specs.Reallocate.{shrunk, moved, resized}
-use Rattle.rules.proofs.SpotLaws.{inside, in-split}
-use Rattle.settling.proofs.FillLaws.{Within, filled-within}
-
--- stores one after the other
-below-both : (m : ℕ) (ss ts : List Store) → Below m ss → Below m ts → Below m (ss ++ ts)
-below-both m [] ts a b = b
-below-both m (s ∷ ss) ts a b = (a .0, below-both m ss ts (a .1) b)
+use Rattle.promises.proofs.JudgedLaws.{Failed, judged-so}
+use Rattle.promises.proofs.ReasonLaws.{Fitting, fitting-iff, length-in}
 
 -- what is written into a block is below its end
 within-below : (m : ℕ) (e : Entry) (ss : List Store) → blockEnd e / 4 ≤ m → Within e ss → Below m ss
@@ -107,3 +120,101 @@ module _ (ws : List ℕ) (h : Heap) (p : Passes ws h) (n : ℕ) (large : 24 ≤ 
         go true e q u f = moved-below q (ltb-true (at .here .size) n e)
         go false e q true f = shrink-inside ws h p b l n large eight (leb-true (n + 24) (at .here .size) f)
         go false e q false f = tt
+
+-- a refusal writes nothing
+judged-below : (m : ℕ) (h : Heap) (o : Outcome) (ts : Refusals) → (Failed ts → Below m (o .stores)) → Below m (judged h ts o .stores)
+judged-below m h o ts = judged-so (λ x. Below m (x .stores)) h o ts (λ r. tt)
+
+-- each store falls below an odd last word
+module _ (ws : List ℕ) (h : Heap) where
+  abbrev even : ℕ
+  even = length ws / 2 * 2
+
+  passing : not (passes ws h) ≡ false → Passes ws h
+  passing q = passes-iff ws h .0 (not-false (passes ws h) q)
+
+  heap-even : Passes ws h → h .bytes / 4 ≡ even
+  heap-even p = omega (arith, p .fits .bytes)
+
+  -- a block that is granted, whatever is written into it
+  with-below : (fill : Entry → List Store) (z : ℕ)
+      → ((p : Passes ws h) → nowhere (sourceOf (need overhead z) (asRead ws h)) ≡ false
+      → let g = grant (need overhead z) (asRead ws h) in Below (h .bytes / 4) (alsoWrites (fill (g .granted)) (g .draft) .stores))
+      → Below even (allocateWith fill ws h z .stores)
+  with-below fill z b =
+      judged-below even h (allocated fill (asRead ws h) z) (allocateRefusals (heapFails ws h) (asRead ws h) z)
+      (λ (f, (_, (some, _))). let p = passing f in rw (← heap-even p) (b p some))
+
+  allocate-below : (z : ℕ) → Below even (allocate ws h z .stores)
+  unfolding allocate
+  allocate-below z = with-below asFound z (λ p some. found-below ws h p (need overhead z) (need-large z) (need-eight z) some)
+
+  cleared-all-below : (count size : ℕ) → Below even (allocateCleared ws h count size .stores)
+  unfolding allocateCleared
+  cleared-all-below count size = with-below cleared (count * size) (λ p some. cleared-below ws h p (need overhead (count * size)) (need-large (count * size)) (need-eight (count * size)) some)
+
+  free-all-below : (b : ℕ) → Below even (free ws h b .stores)
+  unfolding free asRead
+  free-all-below b =
+      judged-below even h (freed (asRead ws h) b) (freeRefusals (heapFails ws h) (asRead ws h) b) (λ (f, (l, _)). go (passing f) (eqb b 0) l)
+    where
+      go : Passes ws h → (t : Bool) → (not t && not (isLive (asRead ws h) b)) ≡ false
+          → Below even (cond t (asRead ws h) (freeBlock b (asRead ws h)) .stores)
+      go p true l = tt
+      go p false l = rw (← heap-even p) (free-inside ws h p b (not-false (isLive (asRead ws h) b) l))
+
+  resize-below : (b z : ℕ) → Below even (resize ws h b z .stores)
+  unfolding resize
+  resize-below b z =
+      judged-below even h (resizedTo ws (asRead ws h) b z) (resizeRefusals (heapFails ws h) ws (asRead ws h) b z)
+      (λ (f, (_, (l, (room, _)))).
+      let p = passing f in
+      rw (← heap-even p) (resized-below ws h p (need overhead z) (need-large z) (need-eight z) b (not-false (isLive (asRead ws h) b) l) room))
+
+  reallocate-below : (b z : ℕ) → Below even (reallocate ws h b z .stores)
+  unfolding reallocate
+  reallocate-below b z = go (eqb b 0)
+    where
+      go : (t : Bool) → Below even (cond t (allocate ws h z) (resize ws h b z) .stores)
+      go true = allocate-below z
+      go false = resize-below b z
+
+  setup-below : (table : List ℕ) (donor : ℕ) (merge : Bool) → Below even (setup ws table donor merge .stores)
+  unfolding setup
+  setup-below table donor merge =
+      let bytes = heapBytes (length ws) in
+      judged-below even empty (opened bytes table donor merge) (setupRefusals ws table donor)
+      (λ (size, (_, (fits, _))).
+      let n = length-in ws size in
+      rw (← whole) (first-below bytes donor (fitting (omega arith) (fitting-iff ws donor .0 (not-false (donorFits bytes donor) fits))) (omega arith)))
+    where
+      whole : heapBytes (length ws) / 4 ≡ even
+      whole = omega arith
+
+      fitting : 10 ≤ length ws → Fitting ws donor → donor + 40 ≤ heapBytes (length ws)
+      fitting some (inl z) = omega arith
+      fitting some (inr (k, l)) = omega arith
+
+  merge-below : (on : Bool) → Below even (setMerge ws h on .stores)
+  unfolding setMerge
+  merge-below on = judged-below even h (unchanged (withMerge h on) Done) (heapFails ws h ∷ []) (λ _. tt)
+
+  question-below : (a : Answer) (t : Bool) → Below even (judged h (heapFails ws h ∷ (t, NotThere) ∷ []) (unchanged h a) .stores)
+  question-below a t = judged-below even h (unchanged h a) (heapFails ws h ∷ (t, NotThere) ∷ []) (λ _. tt)
+
+  pub stores-below : (call : Call) → Below even (step call ws h .stores)
+  unfolding step check askChunk askBin
+  stores-below (Setup table donor merge) = setup-below table donor merge
+  stores-below (Allocate z) = allocate-below z
+  stores-below (AllocateCleared count size) = cleared-all-below count size
+  stores-below (Free b) = free-all-below b
+  stores-below (Reallocate b z) = reallocate-below b z
+  stores-below (SetMerge on) = merge-below on
+  stores-below Check = tt
+  stores-below (AskChunk q p) =
+      let d = asRead ws h in
+      let answers = chunkAnswers d (askedSpot d q p) in
+      question-below (Told (answerTo q answers)) (not (isAsked q answers) || not (isThere d q p))
+  stores-below (AskBin q i) =
+      let answers = binAnswers (asRead ws h .lists i) in
+      question-below (Told (answerTo q answers)) (not (isAsked q answers) || not (ltb i (h .bins)))

@@ -1,16 +1,16 @@
 -- An accepted setup makes a heap that passes, and every call on such a heap and every write inside its live blocks leaves one (`keeping`).
 -- Assumes nothing.
-use mathlib.Core.Path.{_≡_, refl, sym, _∙_}
-use mathlib.Core.Logic.{inl, inr}
-use mathlib.Core.Bool.{Bool, true, false, not, cond, _&&_, false≢true}
+use mathlib.Core.Path.{_≡_, refl}
+use mathlib.Core.Bool.{Bool, true, false, not, cond, _&&_}
 use mathlib.Core.List.{List, [], _∷_, _++_}
 use Prim.Native.Nat.{ℕ, _+_, _*_, _%_, _≤_, _<_}
 use native.Mathlib.Omega.{arith}
 use lib.Dec.{eqb, leb, ltb}
 use lib.ListN.{length}
-use borrow.Author.Tests.{leb-true, ltb-true}
+use borrow.Author.Tests.{leb-true, ltb-true, not-false}
 use Rattle.grant.proofs.NeedLaws.{need-large, need-eight}
-use Rattle.lists.proofs.ListsLaws.{less, or-else}
+use Rattle.lists.proofs.ListsLaws.{less}
+use Rattle.lists.proofs.SplitLaws.{in-split}
 use Rattle.record.specs.declared.answers.Answer.{Answer}
 use Rattle.record.specs.declared.answers.Answer.the-variants.{Done, Granted, Returned, Told, Counted, Refused}
 use Rattle.record.specs.declared.heap.Heap.{Heap}
@@ -37,13 +37,12 @@ use Rattle.settling.proofs.FillLaws.{Within, filled-within, fills}
 use Rattle.promises.specs.Ways.{ours}
 use Rattle.promises.specs.Kept.{Passing, Accepted, OnLiveBlocks, afterStores, Keeping}
 use Rattle.promises.proofs.FreshLaws.{fresh-passes}
-use Rattle.rules.proofs.SpotLaws.{in-split}
 use Rattle.release.proofs.ReleaseMeaning.{splits}
 use Rattle.promises.specs.Room.{OnChain}
 use Rattle.grant.proofs.GrantedChunk.{given, filled}
 use Rattle.resize.proofs.MovedLaws.{copiedWords, copiedHeap, copied-passes, live-again, again-is, moved-words}
-use Rattle.promises.proofs.OddLaws.{Failed, not-false}
-use Rattle.promises.proofs.RefusedLaws.{fitting-iff}
+use Rattle.promises.proofs.JudgedLaws.{Failed, judged-so, accepted-made}
+use Rattle.promises.proofs.ReasonLaws.{fitting-iff, length-in}
 
 -- what an outcome leaves for the next call
 abbrev left : List ℕ → Heap → Outcome → State
@@ -62,17 +61,9 @@ same-record h (Refused r) = refl
 setup-passes : (ws table : List ℕ) (donor : ℕ) (merge : Bool) → Failed (setupRefusals ws table donor)
     → Passes (written ws (firstHeaders (heapBytes (length ws)) donor)) (fresh (heapBytes (length ws)) table donor merge)
 setup-passes ws table donor merge (size, (t, (d, _))) =
-    let wrong = or-else (less (length ws) 10) (less 16384 (length ws)) .1 in
-    let some : length ws < 10 → ⊥ = λ l. false≢true (sym size ∙ wrong (inl l)) in
-    let few : 16384 < length ws → ⊥ = λ l. false≢true (sym size ∙ wrong (inr l)) in
+    let n = length-in ws size in
     fresh-passes ws table merge (valid-iff table .0 (not-false (validTable table) t)) (omega arith) (omega arith) donor
     (fitting-iff ws donor .0 (not-false (donorFits (heapBytes (length ws)) donor) d))
-
--- an accepted call has passed its tests
-accepted-made : (h : Heap) (o : Outcome) (ts : Refusals) → Accepted (judged h ts o .answer) → Failed ts × (judged h ts o ≡ o)
-accepted-made h o [] a = (tt, refl)
-accepted-made h o ((true, r) ∷ ts) a = absurd (a r refl)
-accepted-made h o ((false, r) ∷ ts) a = let k = accepted-made h o ts a in ((refl, k .0), k .1)
 
 setup-kept : (table : List ℕ) (donor : ℕ) (merge : Bool) (ws : List ℕ) (h : Heap) → Accepted (ours (Setup table donor merge) ws h .answer)
     → Passes (ours (Setup table donor merge) ws h .words) (ours (Setup table donor merge) ws h .heap)
@@ -85,9 +76,7 @@ setup-kept table donor merge ws h a =
 module _ (ws : List ℕ) (h : Heap) (p : Passes ws h) where
   -- a refusal leaves the heap as it was
   judged-passes : (came : Heap) (o : Outcome) (ts : Refusals) → (Failed ts → Passing (left ws h o)) → Passing (left ws h (judged came ts o))
-  judged-passes came o [] f = f tt
-  judged-passes came o ((true, r) ∷ ts) f = p
-  judged-passes came o ((false, r) ∷ ts) f = judged-passes came o ts (λ k. f (refl, k))
+  judged-passes came o ts = judged-so (λ x. Passing (left ws h x)) came o ts (λ r. p)
 
   -- a block of n bytes that was granted, whatever is written into it
   module _ (n : ℕ) (large : 24 ≤ n) (eight : n % 8 ≡ 0) where

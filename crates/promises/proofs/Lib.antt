@@ -1,4 +1,6 @@
 pub mod ServeLaws
+pub mod JudgedLaws
+pub mod ReasonLaws
 pub mod RefusedLaws
 pub mod RoomLaws
 pub mod CountsLaws

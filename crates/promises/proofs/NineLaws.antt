@@ -6,6 +6,7 @@ use Prim.Native.Nat.{ℕ, _+_, _*_, _<_}
 use native.Mathlib.Omega.{arith}
 use lib.Dec.{leb, ltb}
 use borrow.Author.Tests.{ltb-true, leb-true}
+use Rattle.lists.proofs.SplitLaws.{in-split}
 use Rattle.record.specs.declared.answers.Refusal.{Refusal}
 use Rattle.record.specs.declared.answers.Refusal.the-variants.{HeapFails, NotLive, NoRoom, NoBinTakes}
 use Rattle.record.specs.declared.heap.Heap.{Heap}
@@ -14,12 +15,11 @@ use Rattle.rules.specs.Allocate.{sourceOf, grant}
 use Rattle.rules.specs.Calls.{Call, Allocate, AllocateCleared, Free, Reallocate}
 use Rattle.rules.specs.Check.{Passes}
 use Rattle.rules.specs.Draft.{Draft, asRead, Spot}
-use Rattle.rules.specs.Free.{isLive, blockSpot, freeBlock}
+use Rattle.rules.specs.Free.{isLive, blockSpot}
 use Rattle.rules.specs.Kinds.{overhead}
 use Rattle.rules.specs.Reallocate.{moved, shrunk, resized}
 use Rattle.rules.specs.Serve.{need, nowhere}
 use Rattle.rules.specs.Shape.{Entry}
-use Rattle.rules.proofs.SpotLaws.{in-split}
 use Rattle.grant.proofs.NeedLaws.{need-large, need-eight}
 use Rattle.grant.proofs.GrantKept.{grant-kept}
 use Rattle.release.proofs.ReleaseKept.{free-kept}
@@ -30,7 +30,8 @@ use Rattle.promises.specs.Ways.{ours}
 use Rattle.promises.specs.Room.{HoldsBlock, NoneServes}
 use Rattle.promises.specs.Refused.{NoBlock, Because, fails, freeNotLive, reallocateNotLive, allocateRoom, clearedRoom, reallocateRoom, allocateBin, clearedBin, freeBin, reallocateNewBin, reallocateBin, isSetup, NeverNine}
 use Rattle.promises.proofs.ServeLaws.{room-iff}
-use Rattle.promises.proofs.RefusedLaws.{passes?, live-iff, here, here-holds, one-block, refusing}
+use Rattle.promises.proofs.RefusedLaws.{refusing}
+use Rattle.promises.proofs.ReasonLaws.{passes?, live-iff, one-block, here, here-holds}
 
 -- the call is refused for no number below 9
 abbrev NoneBefore : List ℕ → Heap → Call → Type 0

@@ -1,160 +1,41 @@
 -- An odd last word of the region decides nothing and is not written, whatever the call (`odd-apart`). Assumes nothing.
 use mathlib.Core.Path.{_≡_, refl, sym, ap, ap₂, _∙_}
-use mathlib.Core.Logic.{_⊎_, inl, inr}
-use mathlib.Core.Bool.{Bool, true, false, not, cond, _&&_, _||_, false≢true}
+use mathlib.Core.Bool.{Bool, true, false, not, cond}
 use mathlib.Core.List.{List, [], _∷_, map, List·Memᴰ·head}
 use Prim.Native.Nat.{ℕ, zero, suc, _+_, _*_, _/_, _≤_, _<_}
 use native.Mathlib.Omega.{arith}
 use lib.Dec.{eqb, ltb}
 use lib.ListN.{length, getD, take, drop}
 use lib.Seq.{getD-take, length-take-le, take-at, drop-at}
-use Rattle.grant.proofs.NeedLaws.{need-large, need-eight}
 use Rattle.lists.specs.Lists.{headOr, keep, numbersFrom}
-use Rattle.lists.proofs.ListsLaws.{Decides, less, or-else}
+use Rattle.lists.proofs.ListsLaws.{Decides}
 use Rattle.lists.proofs.MembersLaws.{kept-from}
-use Rattle.opening.proofs.LayoutLaws.{first-below}
-use Rattle.record.specs.declared.answers.Answer.{Answer}
-use Rattle.record.specs.declared.answers.Answer.the-variants.{Done, Told, Counted, Refused}
-use Rattle.record.specs.declared.answers.Refusal.the-variants.{HeapFails, NotThere}
+use Rattle.record.specs.declared.answers.Answer.the-variants.{Done, Counted, Refused}
+use Rattle.record.specs.declared.answers.Refusal.the-variants.{HeapFails}
 use Rattle.record.specs.declared.heap.Heap.{Heap}
-use Rattle.record.specs.Heap.{empty, withMerge}
+use Rattle.record.specs.Heap.{withMerge}
 use Rattle.region.specs.Words.{Store, put, word, written}
 use Rattle.region.proofs.WordsLaws.{length-written}
 use Rattle.region.proofs.PrefixLaws.{Below, written-prefix}
-use Rattle.release.proofs.ReleaseSpares.{free-inside}
-use Rattle.rules.specs.Shape.{Entry, shape, heapBytes}
+use Rattle.rules.specs.Shape.{Entry, shape}
 use Rattle.rules.specs.Kinds.{overhead, blockOf, blockEnd, blockWords, outside, holdsBlock}
 use Rattle.rules.specs.Check.{Fits, Passes, passes, countsOf}
-use Rattle.rules.specs.Draft.{Draft, asRead, alsoWrites}
-use Rattle.rules.specs.Serve.{need, nowhere}
-use Rattle.rules.specs.Outcome.{Outcome, Refusals, judged, heapFails, unchanged}
-use Rattle.rules.specs.Setup.{setup, donorFits, setupRefusals, opened}
-use Rattle.rules.specs.Allocate.{sourceOf, grant, asFound, cleared, allocateWith, allocate, allocateCleared, allocateRefusals, allocated}
-use Rattle.rules.specs.Free.{isLive, blockSpot, freeBlock, free, freeRefusals, freed}
+use Rattle.rules.specs.Draft.{Draft, asRead}
+use Rattle.rules.specs.Serve.{need}
+use Rattle.rules.specs.Outcome.{Outcome, judged, unchanged}
+use Rattle.rules.specs.Setup.{setup}
+use Rattle.rules.specs.Allocate.{grant, asFound, cleared, allocateWith, allocate, allocateCleared, allocateRefusals, allocated}
+use Rattle.rules.specs.Free.{blockSpot, free, freeRefusals, freed}
 use Rattle.rules.specs.Reallocate.{copied, resized, resize, reallocate, resizeRefusals, resizedTo}
 use Rattle.rules.specs.Merge.{setMerge, checked, check}
-use Rattle.rules.specs.Ask.{askChunk, askBin, chunkAnswers, askedSpot, isAsked, isThere, answerTo, binAnswers, askRefusals, asked}
+use Rattle.rules.specs.Ask.{askChunk, askBin, chunkAnswers, askedSpot, isThere, binAnswers, askRefusals, asked}
 use Rattle.rules.specs.Calls.{Call, Setup, Allocate, AllocateCleared, Free, Reallocate, SetMerge, Check, AskChunk, AskBin, step}
 use Rattle.rules.proofs.CheckLaws.{passes-iff}
 use Rattle.rules.proofs.EvenLaws.{Agree, same-passes, same-read}
 use Rattle.rules.proofs.SpotLaws.{inside}
 use Rattle.promises.specs.Ways.{ours}
 use Rattle.promises.specs.Odd.{evenWords, oddWord, AlikeButOdd, OddApart}
-use Rattle.promises.proofs.RefusedLaws.{Fitting, fitting-iff}
-use Rattle.promises.proofs.InsideLaws.{found-below, cleared-below, resized-below}
-
--- the tests before an acceptance have failed
-abbrev pub Failed : Refusals → Type 0
-Failed [] = Unit {0}
-Failed (t ∷ ts) = (t .0 ≡ false) × Failed ts
-
--- a refusal writes nothing
-judged-below : (m : ℕ) (h : Heap) (o : Outcome) (ts : Refusals) → (Failed ts → Below m (o .stores)) → Below m (judged h ts o .stores)
-judged-below m h o [] f = f tt
-judged-below m h o ((true, r) ∷ ts) f = tt
-judged-below m h o ((false, r) ∷ ts) f = judged-below m h o ts (λ k. f (refl, k))
-
-pub not-false : (t : Bool) → not t ≡ false → t ≡ true
-not-false true q = refl
-not-false false q = sym q
-
--- each store falls below an odd last word
-module _ (ws : List ℕ) (h : Heap) where
-  abbrev even : ℕ
-  even = length ws / 2 * 2
-
-  passing : not (passes ws h) ≡ false → Passes ws h
-  passing q = passes-iff ws h .0 (not-false (passes ws h) q)
-
-  heap-even : Passes ws h → h .bytes / 4 ≡ even
-  heap-even p = omega (arith, p .fits .bytes)
-
-  -- a block that is granted, whatever is written into it
-  with-below : (fill : Entry → List Store) (z : ℕ)
-      → ((p : Passes ws h) → nowhere (sourceOf (need overhead z) (asRead ws h)) ≡ false
-      → let g = grant (need overhead z) (asRead ws h) in Below (h .bytes / 4) (alsoWrites (fill (g .granted)) (g .draft) .stores))
-      → Below even (allocateWith fill ws h z .stores)
-  with-below fill z b =
-      judged-below even h (allocated fill (asRead ws h) z) (allocateRefusals (heapFails ws h) (asRead ws h) z)
-      (λ (f, (_, (some, _))). let p = passing f in rw (← heap-even p) (b p some))
-
-  allocate-below : (z : ℕ) → Below even (allocate ws h z .stores)
-  unfolding allocate
-  allocate-below z = with-below asFound z (λ p some. found-below ws h p (need overhead z) (need-large z) (need-eight z) some)
-
-  cleared-all-below : (count size : ℕ) → Below even (allocateCleared ws h count size .stores)
-  unfolding allocateCleared
-  cleared-all-below count size = with-below cleared (count * size) (λ p some. cleared-below ws h p (need overhead (count * size)) (need-large (count * size)) (need-eight (count * size)) some)
-
-  free-all-below : (b : ℕ) → Below even (free ws h b .stores)
-  unfolding free asRead
-  free-all-below b =
-      judged-below even h (freed (asRead ws h) b) (freeRefusals (heapFails ws h) (asRead ws h) b) (λ (f, (l, _)). go (passing f) (eqb b 0) l)
-    where
-      go : Passes ws h → (t : Bool) → (not t && not (isLive (asRead ws h) b)) ≡ false
-          → Below even (cond t (asRead ws h) (freeBlock b (asRead ws h)) .stores)
-      go p true l = tt
-      go p false l = rw (← heap-even p) (free-inside ws h p b (not-false (isLive (asRead ws h) b) l))
-
-  resize-below : (b z : ℕ) → Below even (resize ws h b z .stores)
-  unfolding resize
-  resize-below b z =
-      judged-below even h (resizedTo ws (asRead ws h) b z) (resizeRefusals (heapFails ws h) ws (asRead ws h) b z)
-      (λ (f, (_, (l, (room, _)))).
-      let p = passing f in
-      rw (← heap-even p) (resized-below ws h p (need overhead z) (need-large z) (need-eight z) b (not-false (isLive (asRead ws h) b) l) room))
-
-  reallocate-below : (b z : ℕ) → Below even (reallocate ws h b z .stores)
-  unfolding reallocate
-  reallocate-below b z = go (eqb b 0)
-    where
-      go : (t : Bool) → Below even (cond t (allocate ws h z) (resize ws h b z) .stores)
-      go true = allocate-below z
-      go false = resize-below b z
-
-  setup-below : (table : List ℕ) (donor : ℕ) (merge : Bool) → Below even (setup ws table donor merge .stores)
-  unfolding setup
-  setup-below table donor merge =
-      let bytes = heapBytes (length ws) in
-      judged-below even empty (opened bytes table donor merge) (setupRefusals ws table donor)
-      (λ (size, (_, (fits, _))).
-      let some : length ws < 10 → ⊥ = λ l. false≢true (sym size ∙ length-iff .1 (inl l)) in
-      let few : 16384 < length ws → ⊥ = λ l. false≢true (sym size ∙ length-iff .1 (inr l)) in
-      rw (← whole) (first-below bytes donor (fitting (omega arith) (fitting-iff ws donor .0 (not-false (donorFits bytes donor) fits))) (omega arith)))
-    where
-      length-iff : Decides (ltb (length ws) 10 || ltb 16384 (length ws)) ((length ws < 10) ⊎ (16384 < length ws))
-      length-iff = or-else (less (length ws) 10) (less 16384 (length ws))
-
-      whole : heapBytes (length ws) / 4 ≡ even
-      whole = omega arith
-
-      fitting : 10 ≤ length ws → Fitting ws donor → donor + 40 ≤ heapBytes (length ws)
-      fitting some (inl z) = omega arith
-      fitting some (inr (k, l)) = omega arith
-
-  merge-below : (on : Bool) → Below even (setMerge ws h on .stores)
-  unfolding setMerge
-  merge-below on = judged-below even h (unchanged (withMerge h on) Done) (heapFails ws h ∷ []) (λ _. tt)
-
-  question-below : (a : Answer) (t : Bool) → Below even (judged h (heapFails ws h ∷ (t, NotThere) ∷ []) (unchanged h a) .stores)
-  question-below a t = judged-below even h (unchanged h a) (heapFails ws h ∷ (t, NotThere) ∷ []) (λ _. tt)
-
-  stores-below : (call : Call) → Below even (step call ws h .stores)
-  unfolding step check askChunk askBin
-  stores-below (Setup table donor merge) = setup-below table donor merge
-  stores-below (Allocate z) = allocate-below z
-  stores-below (AllocateCleared count size) = cleared-all-below count size
-  stores-below (Free b) = free-all-below b
-  stores-below (Reallocate b z) = reallocate-below b z
-  stores-below (SetMerge on) = merge-below on
-  stores-below Check = tt
-  stores-below (AskChunk q p) =
-      let d = asRead ws h in
-      let answers = chunkAnswers d (askedSpot d q p) in
-      question-below (Told (answerTo q answers)) (not (isAsked q answers) || not (isThere d q p))
-  stores-below (AskBin q i) =
-      let answers = binAnswers (asRead ws h .lists i) in
-      question-below (Told (answerTo q answers)) (not (isAsked q answers) || not (ltb i (h .bins)))
+use Rattle.promises.proofs.InsideLaws.{stores-below}
 
 -- two tests that decide facts which follow from each other are the same
 same-test : {t u : Bool} {P Q : Type 0} → Decides t P → Decides u Q → (P → Q) → (Q → P) → t ≡ u

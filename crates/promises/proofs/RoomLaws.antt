@@ -18,9 +18,10 @@ use Rattle.rules.specs.Check.{Passes}
 use Rattle.rules.specs.Serve.{mostBytes, need, permitted}
 use Rattle.rules.specs.Calls.{Allocate, AllocateCleared, Reallocate}
 use Rattle.promises.specs.Ways.{Way, ours}
-use Rattle.promises.specs.Room.{HoldsBlock, NoneServes, OnlyForRoom, Room}
+use Rattle.promises.specs.Room.{HoldsBlock, OnlyForRoom, Room}
 use Rattle.promises.specs.Refused.{WrongSize, NoBlock, NoPlace, Because, fails, allocateSize, clearedSize, reallocateSize, reallocateNotLive, allocateRoom, clearedRoom, reallocateRoom, allocateBin, clearedBin, reallocateNewBin, reallocateBin, Refusing}
-use Rattle.promises.proofs.RefusedLaws.{one-block, refusing}
+use Rattle.promises.proofs.RefusedLaws.{refusing}
+use Rattle.promises.proofs.ReasonLaws.{one-block}
 
 -- a permitted size is no wrong one
 not-wrong : (z : ℕ) → permitted z ≡ true → WrongSize z → ⊥
@@ -33,13 +34,10 @@ not-wrong z t w = go (both (at-most 1 z) (at-most z mostBytes) .0 t) w
 module _ (way : Way) (refuses : Refusing way) (ws : List ℕ) (h : Heap) (p : Passes ws h) where
   allocates : (z : ℕ) → permitted z ≡ true → OnlyForRoom way (Allocate z) ws h z
   allocates z t = (
-    λ e. of (refuses .exactly (Allocate z) ws h NoRoom .0 e .because),
+    λ e. elim (refuses .exactly (Allocate z) ws h NoRoom .0 e .because) [ allocateRoom w ↦ w ],
     λ none. refuses .exactly (Allocate z) ws h NoRoom .1 (record { because = allocateRoom none; before = before }),
   )
     where
-      of : Because ws h (Allocate z) NoRoom → NoneServes ws h (need overhead z)
-      of (allocateRoom w) = w
-
       before : (q : Refusal) → numberOf q < numberOf NoRoom → Because ws h (Allocate z) q → ⊥
       before q l (fails s n) = n p
       before q l (allocateSize w) = not-wrong z t w
@@ -48,13 +46,10 @@ module _ (way : Way) (refuses : Refusing way) (ws : List ℕ) (h : Heap) (p : Pa
 
   clears : (count size : ℕ) → permitted (count * size) ≡ true → OnlyForRoom way (AllocateCleared count size) ws h (count * size)
   clears count size t = (
-    λ e. of (refuses .exactly (AllocateCleared count size) ws h NoRoom .0 e .because),
+    λ e. elim (refuses .exactly (AllocateCleared count size) ws h NoRoom .0 e .because) [ clearedRoom w ↦ w ],
     λ none. refuses .exactly (AllocateCleared count size) ws h NoRoom .1 (record { because = clearedRoom none; before = before }),
   )
     where
-      of : Because ws h (AllocateCleared count size) NoRoom → NoneServes ws h (need overhead (count * size))
-      of (clearedRoom w) = w
-
       before : (q : Refusal) → numberOf q < numberOf NoRoom → Because ws h (AllocateCleared count size) q → ⊥
       before q l (fails s n) = n p
       before q l (clearedSize w) = not-wrong (count * size) t w
@@ -63,10 +58,7 @@ module _ (way : Way) (refuses : Refusing way) (ws : List ℕ) (h : Heap) (p : Pa
 
   -- what a reallocation refused for want of room says
   no-place : (b z : ℕ) → way (Reallocate b z) ws h .answer ≡ Refused NoRoom → NoPlace ws h b (need overhead z)
-  no-place b z e = of (refuses .exactly (Reallocate b z) ws h NoRoom .0 e .because)
-    where
-      of : Because ws h (Reallocate b z) NoRoom → NoPlace ws h b (need overhead z)
-      of (reallocateRoom w) = w
+  no-place b z e = elim (refuses .exactly (Reallocate b z) ws h NoRoom .0 e .because) [ reallocateRoom w ↦ w ]
 
   reallocates : (b z : ℕ) → permitted z ≡ true → (NoBlock ws h b → ⊥) → ((e : Entry) → HoldsBlock ws h b e → e .size < need overhead z)
       → OnlyForRoom way (Reallocate b z) ws h z

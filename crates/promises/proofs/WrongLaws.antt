@@ -34,7 +34,7 @@ use Rattle.promises.specs.Room.{HoldsBlock, Room}
 use Rattle.promises.specs.Counts.{Counting}
 use Rattle.promises.specs.Apart.{Apart}
 use Rattle.promises.specs.Wrong.{refusesAlways, sameBlock, idleFree, inventedCount, inventedUsed}
-use Rattle.promises.proofs.RefusedLaws.{live-iff}
+use Rattle.promises.proofs.ReasonLaws.{live-iff}
 
 -- the demonstration's heap after so many of its calls, in a region of zeros
 abbrev after : ℕ → State

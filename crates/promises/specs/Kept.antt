@@ -39,6 +39,7 @@ OnLiveBlocks t [] = Unit {0}
 OnLiveBlocks t (s ∷ ss) =
     ((e : Entry) × OnChain (t .words) (t .heap) e × (live (t .heap) e ≡ true) × OnBlock e s) × OnLiveBlocks t ss
 
+-- the state once they are written
 abbrev pub afterStores : List Store → State → State
 afterStores ss s = record { words = written (s .words) ss; heap = s .heap }
 

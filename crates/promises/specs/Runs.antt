@@ -20,6 +20,7 @@ pub data Step : Type 0 where
   Calls : Call → Step
   Writes : List Store → Step
 
+-- the state that a step leaves
 abbrev pub afterStep : Way → Step → State → State
 afterStep way (Calls call) s = after way call s
 afterStep way (Writes ss) s = afterStores ss s

@@ -185,20 +185,13 @@ module _ (t : List ℕ) (v : ValidTable t) where
       let e : suc (i + (j - suc i)) ≡ j = omega arith in
       rw e at (table-grows i (j - suc i) (omega arith))
 
-  -- there is a bin for every size from 24 on, and none below
+  -- there is a bin for every size from 24 on
   pub bin-from : (s : ℕ) → 24 ≤ s → (i : ℕ) × (binOf t s ≡ Bin i) × Takes t s i
   bin-from s h = go (binOf t s) refl (bin-taken t s)
     where
       go : (r : Binned) → binOf t s ≡ r → TakenBy t s r → (i : ℕ) × (binOf t s ≡ Bin i) × Takes t s i
       go (Bin i) e k = (i, e, k)
       go NoBin e k = let a = k 0 (omega (arith, v .some)) in absurd (omega (arith, v .first))
-
-  pub bin-none : (s : ℕ) → s < 24 → binOf t s ≡ NoBin
-  bin-none s h = sym (bin-is t s NoBin above)
-    where
-      above : (i : ℕ) → i < length t → s < sizeAt t i
-      above zero l = omega (arith, v .first)
-      above (suc i) l = let a = table-up 0 (suc i) (omega arith) l in omega (arith, v .first)
 
   -- the small array: the bin of a size is found by division
   pub bin-small : (s : ℕ) → 24 ≤ s → s < 24 + 8 * smallBins t → binOf t s ≡ Bin (s / 8 - 3)

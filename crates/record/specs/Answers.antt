@@ -8,6 +8,7 @@ use Rattle.record.specs.declared.answers.Counts.{Counts}
 use Rattle.record.specs.declared.answers.Refusal.{Refusal}
 use Rattle.record.specs.declared.answers.Refusal.the-variants.{RegionLength, BadTable, DonorSize, HeapFails, BlockSize, NotLive, NoRoom, NotThere, NoBinTakes}
 
+-- refusals are numbered in the order of the paper's table
 abbrev pub numberOf : Refusal → ℕ
 numberOf RegionLength = 1
 numberOf BadTable = 2
@@ -19,6 +20,7 @@ numberOf NoRoom = 7
 numberOf NotThere = 8
 numberOf NoBinTakes = 9
 
+-- the four counts of every answer but the check's
 abbrev pub noCounts : Counts
 noCounts = record { chunks = 0; ordinary = 0; used = 0; free = 0 }
 

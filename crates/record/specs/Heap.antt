@@ -10,9 +10,11 @@ use Rattle.record.specs.declared.heap.Heap.{Heap}
 abbrev pub places : ℕ
 places = 32
 
+-- the place of a chunk
 abbrev pub at : ℕ → Chunk
 at c = record { 0 = c }
 
+-- heads or tails where no bin has a chunk
 abbrev pub zeros : List ℕ
 zeros = replicate places 0
 

@@ -46,6 +46,7 @@ abbrev pub TakenBy : List ℕ → ℕ → Binned → Type 0
 TakenBy t s (Bin i) = Takes t s i
 TakenBy t s NoBin = (i : ℕ) → i < length t → s < sizeAt t i
 
+-- the bin in a table from the bin in its rest: that one, one further on, or else the first if its size is not above
 abbrev pub oneOn : Binned → Bool → Binned
 oneOn (Bin i) notAbove = Bin (suc i)
 oneOn NoBin true = Bin 0

@@ -11,6 +11,10 @@ abbrev pub Below : ℕ → List Store → Type 0
 Below m [] = Unit {0}
 Below m (s ∷ ss) = (s .chunk / 4 + s .number < m) × Below m ss
 
+pub below-both : (m : ℕ) (ss ts : List Store) → Below m ss → Below m ts → Below m (ss ++ ts)
+below-both m [] ts a b = b
+below-both m (s ∷ ss) ts a b = (a .0, below-both m ss ts (a .1) b)
+
 module _ (m : ℕ) (ws : List ℕ) (c k v : ℕ) (h : c / 4 + k < m) where
   pub take-store : take m (store ws c k v) ≡ store (take m ws) c k v
   unfolding store

@@ -34,6 +34,10 @@ abbrev pub Off : ℕ → List Store → Type 0
 Off i [] = Unit {0}
 Off i (s ∷ ss) = (i ≢ s .chunk / 4 + s .number) × Off i ss
 
+pub off-both : (x : ℕ) (ss ts : List Store) → Off x ss → Off x ts → Off x (ss ++ ts)
+off-both x [] ts h k = k
+off-both x (s ∷ ss) ts h k = (h .0, off-both x ss ts (h .1) k)
+
 pub off : (ss : List Store) (ws : List ℕ) (d j : ℕ) → Off (d / 4 + j) ss → word (written ws ss) d j ≡ word ws d j
 off [] ws d j h = refl
 off (s ∷ ss) ws d j h =

@@ -4,6 +4,8 @@ use Prim.Native.Nat.{ℕ, _+_, _/_}
 use mathlib.Core.List.{List, [], _∷_}
 use lib.ListN.{getD, set}
 
+-- the words of a header by their numbers: where the next chunk is, where the one before is, with the flags in its low bits;
+-- and of a free chunk its size, the next and the one before in its bin, and eight times the bin's number
 abbrev pub forward : ℕ
 forward = 0
 
@@ -22,9 +24,11 @@ previousInBin = 4
 abbrev pub bin : ℕ
 bin = 5
 
+-- word k of the chunk at c
 unfoldable pub word : List ℕ → ℕ → ℕ → ℕ
 word ws c k = getD ws (c / 4 + k) 0
 
+-- the words once v is stored there
 unfoldable pub store : List ℕ → ℕ → ℕ → ℕ → List ℕ
 store ws c k v = set ws (c / 4 + k) v
 

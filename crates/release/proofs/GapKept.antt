@@ -8,6 +8,7 @@ use Prim.Native.Nat.{ℕ, _+_, _*_, _-_, _≤_, _<_}
 use native.Mathlib.Omega.{arith}
 use lib.ListN.{length, drop}
 use Rattle.lists.specs.Lists.{Mem, headOr, lastOr, butLast}
+use Rattle.lists.proofs.SplitLaws.{begins-with, ends-with, among, outer-in, middle-in}
 use Rattle.record.specs.declared.heap.Heap.{Heap}
 use Rattle.record.specs.declared.kinds.Kind.{Kind}
 use Rattle.record.specs.declared.kinds.Kind.the-variants.{Start, InUse, Ordinary, Donor, Top, End}
@@ -17,14 +18,15 @@ use Rattle.rules.specs.Kinds.{ordinaryKind, freeKind, liveKind, kindAt, kindOf,
 use Rattle.rules.specs.Check.{usedBytes, Passes}
 use Rattle.rules.specs.Draft.{Draft, leaveBin, relink, settle, nowUses}
 use Rattle.rules.specs.Join.{Joined, joinedAs, joining, leaveBins, release}
-use Rattle.rules.proofs.KindsLaws.{Being, being, kind-top, kind-donor, kind-ordinary, donor-moved, top-moved}
-use Rattle.rules.proofs.SpotLaws.{tiled-empty, begins-with, ends-with, bounds}
-use Rattle.settling.proofs.LayoutLaws.{Beside, cuts, outer-beside, beside-elsewhere, among, outer-in, middle-in}
+use Rattle.rules.proofs.KindsLaws.{kind-top, kind-donor, kind-ordinary, donor-moved, top-moved, free-not-live, being-as}
+use Rattle.rules.proofs.SpotLaws.{bounds}
+use Rattle.rules.proofs.TiledLaws.{tiled-empty}
+use Rattle.settling.proofs.LayoutLaws.{Beside, cuts, outer-beside, beside-elsewhere}
 use Rattle.settling.proofs.HalfwayLaws.{now, Closed, closes}
 use Rattle.settling.proofs.SettleLaws.{Settles, settles-named, settles-in-bin, settles-as-donor, settles-as-top}
 use Rattle.settling.proofs.PictureLaws.{Pictured, Posts, posts-in, used-replaced, kinds-after, settled-pictured}
 use Rattle.release.proofs.JoinMeaning.{sees, joinedBy, joining-sees, sees-ordinary}
-use Rattle.release.proofs.GapLaws.{filling, free-not-live, none-used, Gap, below-joins, above-laid, above-joins, above-widens, above-apart, above-higher, above-else}
+use Rattle.release.proofs.GapLaws.{filling, none-used, Gap, below-joins, above-laid, above-joins, above-widens, above-apart, above-higher, above-else}
 
 -- a chunk that joining sees as free is of the kind that it sees
 sees-kind : (t : Bool) (k : Kind) → freeKind (cond t k InUse) ≡ true → k ≡ cond t k InUse
@@ -303,10 +305,6 @@ module _ (ws : List ℕ) (h : Heap) (p : Passes ws h) (base : List Entry) (rest 
               (t, k, (r, f, omega arith))
           go t r f b (inr k) = let s = ap (λ (e : Entry). e .place) k in absurd (omega arith)
 
-    -- what a kind says of the chunk
-    is-kind : (k : Kind) → kindOf h above ≡ k → Being (h .bytes) (h .donor .0) (h .top .0) above k
-    is-kind k q = subst (λ (k : Kind). Being (h .bytes) (h .donor .0) (h .top .0) above k) q (being (h .bytes) (h .donor .0) (h .top .0) above)
-
     flags-small : above .flags ≤ 1
     flags-small = above-laid ws h p base rest low from to above beyond d opened .flags
 
@@ -317,11 +315,11 @@ module _ (ws : List ℕ) (h : Heap) (p : Passes ws h) (base : List Entry) (rest 
         (relink low (filling from end ∷ []) (cond (freeKind k) beyond high) (leaveBins (cond (ordinaryKind k) (above ∷ []) []) d))))
     joins-above Ordinary q = joins-ordinary (q refl)
     joins-above Donor q =
-        let b = is-kind Donor (q refl) in
+        let b = being-as h above Donor (q refl) in
         let f = flags-small in
         joins-donor (omega (arith, b .2)) (ap ordinaryKind (q refl)) (omega (arith, b .0, b .3)) (b .3)
     joins-above Top q =
-        let b = is-kind Top (q refl) in
+        let b = being-as h above Top (q refl) in
         let f = flags-small in
         joins-top (omega (arith, b .2)) (ap ordinaryKind (q refl)) (b .3)
     joins-above Start q = ordinary-given low from to high d g gone new count posts

@@ -7,38 +7,26 @@ use mathlib.Core.List.{List, [], _∷_, _++_, append-assoc, List·Memᴰ·head, 
 use Prim.Native.Nat.{ℕ, _+_, _-_, _%_, _≤_, _<_}
 use native.Mathlib.Omega.{arith}
 use Rattle.lists.specs.Lists.{Mem}
+use Rattle.lists.proofs.SplitLaws.{among, outer-in, middle-in, all-but}
 use Rattle.record.specs.declared.heap.Heap.{Heap}
-use Rattle.record.specs.declared.kinds.Kind.{Kind}
-use Rattle.record.specs.declared.kinds.Kind.the-variants.{Start, InUse, Ordinary, Donor, Top, End}
 use Rattle.region.specs.Words.{written}
 use Rattle.rules.specs.Shape.{Entry, entry}
-use Rattle.rules.specs.Kinds.{ordinaryKind, liveKind, kindOf, ordinary, live, unused, blockEnd, outside}
+use Rattle.rules.specs.Kinds.{ordinaryKind, ordinary, live, unused, blockEnd, outside}
 use Rattle.rules.specs.Check.{usedBytes, Passes}
 use Rattle.rules.specs.Draft.{Draft, leaveBin}
-use Rattle.rules.proofs.KindsLaws.{Being, being, kind-top, kind-donor}
-use Rattle.rules.proofs.SpotLaws.{Tiled, tiled-empty}
-use Rattle.settling.proofs.LayoutLaws.{Laid, Layout, Cuts, cuts, outer-beside, beside-elsewhere, every-other, among, outer-in, middle-in, layout-replaced}
+use Rattle.rules.proofs.KindsLaws.{kind-top, kind-donor, ordinary-free, free-not-live}
+use Rattle.rules.proofs.TiledLaws.{Tiled, tiled-empty}
+use Rattle.settling.proofs.LayoutLaws.{Laid, Layout, Cuts, cuts, outer-beside, beside-elsewhere, layout-replaced, laid-between}
 use Rattle.settling.proofs.HeaderLaws.{Headed, headed-cut, headed-below}
-use Rattle.settling.proofs.HalfwayLaws.{now, Halfway, halfway-fewer, ordinary-free, leave-headed, leave-halfway, leave-keeps, Opened}
+use Rattle.settling.proofs.HalfwayLaws.{Halfway, Opened}
 use Rattle.settling.proofs.PictureLaws.{Posts, used-replaced}
+use Rattle.settling.proofs.OpenLaws.{opened-kept, opened-left}
 
 -- the free chunk from one place to another
 abbrev pub filling : ℕ → ℕ → Entry
 filling from to = entry from (to - from) unused
 
--- a free chunk has no live block
-pub free-not-live : (h : Heap) (e : Entry) → e .flags ≡ 0 → live h e ≡ false
-free-not-live h e f = go (kindOf h e) (being (h .bytes) (h .donor .0) (h .top .0) e)
-  where
-    go : (k : Kind) → Being (h .bytes) (h .donor .0) (h .top .0) e k → liveKind k ≡ false
-    go InUse b = absurd (omega (arith, b .2))
-    go Start b = refl
-    go Ordinary b = refl
-    go Donor b = refl
-    go Top b = refl
-    go End b = refl
-
--- and counts for nothing
+-- a free chunk counts for nothing
 pub none-used : (h : Heap) (e : Entry) → e .flags ≡ 0 → usedBytes h (e ∷ []) ≡ 0
 none-used h e f = rw (free-not-live h e f)
 
@@ -50,7 +38,7 @@ ordinary-elsewhere : (h : Heap) (e : Entry) → Laid (h .bytes) e → ordinary h
 ordinary-elsewhere h e y o = (not-top, λ q. false≢true (ap ordinaryKind (kind-donor (h .bytes) (h .donor .0) (h .top .0) e start end even not-top q) ∙ o))
   where
     free : (8 ≤ e .place) × (24 ≤ e .size) × (blockEnd e + 8 ≤ h .bytes)
-    free = y .free (ordinary-free (h .bytes) h e y o)
+    free = y .free (ordinary-free h e o (y .flags))
 
     start : e .place ≢ 0
     start q = omega (arith, free .0)
@@ -59,7 +47,7 @@ ordinary-elsewhere h e y o = (not-top, λ q. false≢true (ap ordinaryKind (kind
     end q = omega (arith, free .1, free .2)
 
     even : e .flags % 2 ≢ 1
-    even q = omega (arith, ordinary-free (h .bytes) h e y o)
+    even q = omega (arith, ordinary-free h e o (y .flags))
 
     not-top : e .place ≢ h .top .0
     not-top q = false≢true (ap ordinaryKind (kind-top (h .bytes) (h .donor .0) (h .top .0) e start end even q) ∙ o)
@@ -118,20 +106,13 @@ module _ (ws : List ℕ) (h : Heap) (p : Passes ws h) (base : List Entry) (rest 
         omega arith
 
     others-live : (z : Entry) → Mem z base → live h z ≡ true → Mem z (low ++ high)
-    others-live z m l = go (among low (x ∷ []) high (w .lives z m l))
-      where
-        go : Mem z (low ++ high) ⊎ Mem z (x ∷ []) → Mem z (low ++ high)
-        go (inl k) = k
-        go (inr k) = absurd (false≢true (sym (free-not-live h x (w .free)) ∙ ap (live h) (sym (List·Memᴰ·eq-of-singleton k)) ∙ l))
+    others-live z m l =
+        all-but low x high (w .lives z m l) (λ q. false≢true (sym (free-not-live h x (w .free)) ∙ ap (live h) (sym q) ∙ l))
 
     elsewhere : (z : Entry) → Mem z (low ++ high) → z .place ≢ x .place
     elsewhere z m =
         beside-elsewhere z x (outer-beside (h .bytes) low two high (w .layout) z x m (w .there)) (w .layout .chunks z (outer-in low two high m) .some)
         (w .layout .chunks x (middle-in low two high (w .there)) .some)
-
-    -- the draft's record names the donor and the top of before
-    same-kind : (z : Entry) → kindOf (now h d) z ≡ kindOf h z
-    same-kind z = rw (w .donor, w .top)
 
     -- a donor or a top was in no bin
     widen-kept : ordinary h x ≡ false → Gap low from to high d
@@ -139,69 +120,32 @@ module _ (ws : List ℕ) (h : Heap) (p : Passes ws h) (base : List Entry) (rest 
         record {
           layout = filled;
           last = w .last;
-          opened =
-              record {
-                halfway =
-                    halfway-fewer ws h (low ++ x ∷ [] ++ high) (low ++ high) d (w .halfway) (λ z m. outer-in low (x ∷ []) high m)
-                    (λ z m u. go z u (among low (x ∷ []) high m));
-                lower = w .lower;
-                upper = w .upper;
-                donor = w .donor;
-                top = w .top;
-                used = w .before;
-              };
+          opened = opened-kept ws h low x high (filling from to) (w .last) d (w .halfway) (w .lower) (w .upper) (w .donor) (w .top) (w .before) o;
           used = still-used;
           some = λ z m. w .some z (outer-in low (x ∷ []) high m);
           lives = others-live;
         }
-      where
-        go : (z : Entry) → ordinary (now h d) z ≡ true → Mem z (low ++ high) ⊎ Mem z (x ∷ []) → Mem z (low ++ high)
-        go z u (inl k) = k
-        go z u (inr k) =
-            absurd (false≢true (sym o ∙ ap (ordinary h) (sym (List·Memᴰ·eq-of-singleton k)) ∙ ap ordinaryKind (sym (same-kind z)) ∙ u))
 
     -- an ordinary chunk leaves its bin
-    module _ (o : ordinary h x ≡ true) where
-      stays : (z : Entry) → Mem z (low ++ x ∷ [] ++ high) → Mem z (low ++ two ++ high)
-      stays z m = go (among low (x ∷ []) high m)
-        where
-          go : Mem z (low ++ high) ⊎ Mem z (x ∷ []) → Mem z (low ++ two ++ high)
-          go (inl k) = outer-in low two high k
-          go (inr k) = middle-in low two high (rw (List·Memᴰ·eq-of-singleton k) (w .there))
+    stays : (z : Entry) → Mem z (low ++ x ∷ [] ++ high) → Mem z (low ++ two ++ high)
+    stays z m = go (among low (x ∷ []) high m)
+      where
+        go : Mem z (low ++ high) ⊎ Mem z (x ∷ []) → Mem z (low ++ two ++ high)
+        go (inl k) = outer-in low two high k
+        go (inr k) = middle-in low two high (rw (List·Memᴰ·eq-of-singleton k) (w .there))
 
-      own : Mem x (low ++ x ∷ [] ++ high)
-      own = middle-in low (x ∷ []) high (List·Memᴰ·head refl)
-
-      was-ordinary : ordinary (now h d) x ≡ true
-      was-ordinary = ap ordinaryKind (same-kind x) ∙ o
-
-      same-headed : (b : Entry) (es : List Entry) (n : Entry) → ((z : Entry) → Mem z es → Mem z (low ++ high)) → Headed (written ws (d .stores)) b es n
-          → Headed (written ws (leaveBin x d .stores)) b es n
-      same-headed b es n f k =
-          leave-headed ws h (low ++ x ∷ [] ++ high) d (w .halfway) (low ++ two ++ high) (w .layout) stays x own was-ordinary b es n
-          (λ z m. (z, outer-in low two high (f z m), refl)) k
-
-      widen-left : Gap low from to high (leaveBin x d)
-      widen-left =
-          let a = leave-keeps ws h (low ++ x ∷ [] ++ high) d (w .halfway) (low ++ two ++ high) (w .layout) stays x own was-ordinary in
-          record {
-            layout = filled;
-            last = w .last;
-            opened =
-                record {
-                  halfway =
-                      leave-halfway ws h (low ++ x ∷ [] ++ high) d (w .halfway) (low ++ two ++ high) (w .layout) stays x own was-ordinary (low ++ high)
-                      (λ z m. (outer-in low (x ∷ []) high m, elsewhere z m)) (every-other low x high);
-                  lower = same-headed outside low (filling from to) (λ z m. Memᴰ·append-left high m) (w .lower);
-                  upper = same-headed (w .last) high outside (λ z m. Memᴰ·append-right low m) (w .upper);
-                  donor = a .0 ∙ w .donor;
-                  top = a .1 ∙ w .top;
-                  used = a .2 ∙ w .before;
-                };
-            used = still-used;
-            some = λ z m. w .some z (outer-in low (x ∷ []) high m);
-            lives = others-live;
-          }
+    widen-left : ordinary h x ≡ true → Gap low from to high (leaveBin x d)
+    widen-left o =
+        record {
+          layout = filled;
+          last = w .last;
+          opened =
+              opened-left ws h low x high (filling from to) (w .last) d (w .halfway) (w .lower) (w .upper) (w .donor) (w .top) (w .before)
+              (low ++ two ++ high) (w .layout) stays elsewhere o;
+          used = still-used;
+          some = λ z m. w .some z (outer-in low (x ∷ []) high m);
+          lives = others-live;
+        }
 
   -- the chunk below the gap
   module _ (low : List Entry) (x : Entry) (from to : ℕ) (high : List Entry) (d : Draft) (g : Gap (low ++ x ∷ []) from to high d) (free : x .flags ≡ 0) where
@@ -217,17 +161,7 @@ module _ (ws : List ℕ) (h : Heap) (p : Passes ws h) (base : List Entry) (rest 
         let l = under-laid .chunks x (middle-in low (x ∷ filling from to ∷ []) high (List·Memᴰ·head refl)) in
         let f = l .free free in
         let k = under-laid .chunks (filling from to) (middle-in low (x ∷ filling from to ∷ []) high (List·Memᴰ·tail (List·Memᴰ·head refl))) .free refl in
-        let e = l .eight in
-        let some : 24 ≤ to - x .place = omega (arith, f .1, k .1) in
-        let ends : x .place + (to - x .place) + 8 ≤ h .bytes = omega (arith, f .1, k .1, k .2) in
-        record {
-          eight = e;
-          some = omega arith;
-          ends = omega arith;
-          flags = omega arith;
-          room = λ lo hi. some;
-          free = λ _. (f .0, some, ends);
-        }
+        laid-between (h .bytes) (filling (x .place) to) (l .eight) (omega arith) (f .0) (omega (arith, f .1, k .1)) (omega (arith, f .1, k .1, k .2))
 
     widens-down : Widens low x (x ∷ filling from to ∷ []) (x .place) to high d
     widens-down =
@@ -271,17 +205,7 @@ module _ (ws : List ℕ) (h : Heap) (p : Passes ws h) (base : List Entry) (rest 
         let f = over-laid .chunks x (middle-in low (filling from to ∷ x ∷ []) high (List·Memᴰ·tail (List·Memᴰ·head refl))) .free free in
         let l = over-laid .chunks (filling from to) (middle-in low (filling from to ∷ x ∷ []) high (List·Memᴰ·head refl)) in
         let k = l .free refl in
-        let e = l .eight in
-        let some : 24 ≤ blockEnd x - from = omega (arith, f .1, k .1) in
-        let ends : from + (blockEnd x - from) + 8 ≤ h .bytes = omega (arith, f .1, f .2, k .1) in
-        record {
-          eight = e;
-          some = omega arith;
-          ends = omega arith;
-          flags = omega arith;
-          room = λ lo hi. some;
-          free = λ _. (k .0, some, ends);
-        }
+        laid-between (h .bytes) (filling from (blockEnd x)) (l .eight) (omega arith) (k .0) (omega (arith, f .1, k .1)) (omega (arith, f .1, f .2, k .1))
 
     over-stay : low ++ x ∷ high ≡ low ++ x ∷ [] ++ high
     over-stay = sym (append-assoc low (x ∷ []) high)
@@ -317,11 +241,7 @@ module _ (ws : List ℕ) (h : Heap) (p : Passes ws h) (base : List Entry) (rest 
       }
     where
       other : (t : Entry) {c : ℕ} → t .place ≡ c → x .place ≢ c → Mem t (low ++ x ∷ [] ++ high) → Mem t (low ++ high)
-      other t {c} q n m = go (among low (x ∷ []) high m)
-        where
-          go : Mem t (low ++ high) ⊎ Mem t (x ∷ []) → Mem t (low ++ high)
-          go (inl k) = k
-          go (inr k) = absurd (n (ap (λ (e : Entry). e .place) (sym (List·Memᴰ·eq-of-singleton k)) ∙ q))
+      other t q n m = all-but low x high m (λ r. n (ap (λ (e : Entry). e .place) (sym r) ∙ q))
 
   -- an ordinary chunk below the gap joins
   pub below-joins : (low : List Entry) (x : Entry) (from to : ℕ) (high : List Entry) (d : Draft) → Gap (low ++ x ∷ []) from to high d → ordinary h x ≡ true
@@ -329,7 +249,7 @@ module _ (ws : List ℕ) (h : Heap) (p : Passes ws h) (base : List Entry) (rest 
   below-joins low x from to high d g o posts =
       let m : Mem x (low ++ x ∷ [] ++ filling from to ∷ [] ++ high) = Memᴰ·append-left high (middle-in low (x ∷ []) (filling from to ∷ []) (List·Memᴰ·head refl)) in
       let y = g .layout .chunks x m in
-      let f = ordinary-free (h .bytes) h x y o in
+      let f = ordinary-free h x o (y .flags) in
       (widen-left low x (x ∷ filling from to ∷ []) (x .place) to high d (widens-down low x from to high d g f) o, posts-stay low x high y o posts)
 
   -- the chunk x above the gap
@@ -340,7 +260,7 @@ module _ (ws : List ℕ) (h : Heap) (p : Passes ws h) (base : List Entry) (rest 
     -- joins if it is ordinary
     pub above-joins : ordinary h x ≡ true → Posts h (low ++ x ∷ high) → Gap low from (blockEnd x) high (leaveBin x d) × Posts h (low ++ high)
     above-joins o posts =
-        let f = ordinary-free (h .bytes) h x above-laid o in (
+        let f = ordinary-free h x o (above-laid .flags) in (
           widen-left low x (filling from to ∷ x ∷ []) from (blockEnd x) high d (widens-up low from to x high d g f) o,
           posts-stay low x high above-laid o (subst (λ (l : List Entry). Posts h l) (over-stay low from to x high d g f) posts),
         )

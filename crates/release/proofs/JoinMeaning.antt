@@ -8,6 +8,7 @@ use Prim.Native.Nat.{ℕ, _+_, _-_, _%_, _≤_, _<_}
 use native.Mathlib.Omega.{arith}
 use lib.ListN.{drop}
 use Rattle.lists.specs.Lists.{Mem, headOr, lastOr, butLast}
+use Rattle.lists.proofs.SplitLaws.{in-split}
 use Rattle.record.specs.declared.heap.Heap.{Heap}
 use Rattle.record.specs.declared.kinds.Kind.{Kind}
 use Rattle.record.specs.declared.kinds.Kind.the-variants.{Start, InUse, Ordinary, Donor, Top, End}
@@ -16,7 +17,7 @@ use Rattle.rules.specs.Shape.{Entry, entry, flagsAt, shape, binList}
 use Rattle.rules.specs.Kinds.{kindAt, inUse, kindOf, ordinaryKind, freeKind, ordinary, isFree, live, unused, blockEnd, outside}
 use Rattle.rules.specs.Check.{Passes}
 use Rattle.rules.specs.Join.{Joined, joinedAs, joining}
-use Rattle.rules.proofs.SpotLaws.{Between, Around, inside, around, apart, one-chunk, in-split, live-between, kind-free, is-ordinary}
+use Rattle.rules.proofs.SpotLaws.{Between, Around, inside, around, apart, one-chunk, live-between, kind-free, is-ordinary}
 use Rattle.bins.proofs.BooksLaws.{Far}
 use Rattle.bins.proofs.HeapBooks.{member-entry}
 use Rattle.release.specs.declared.Joined.{Joined as Union}

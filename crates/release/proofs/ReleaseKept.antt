@@ -2,23 +2,23 @@
 -- becomes live. Assumes nothing.
 use mathlib.Core.Path.{_≡_, refl, sym, ap, subst, _∙_}
 use mathlib.Core.Logic.{_≢_}
-use mathlib.Core.Bool.{true, false, false≢true}
+use mathlib.Core.Bool.{true}
 use mathlib.Core.List.{List, [], _∷_, _++_, List·Memᴰ·head, List·Memᴰ·eq-of-singleton}
 use Prim.Native.Nat.{ℕ, _+_, _-_}
 use native.Mathlib.Nat.{add-zero}
 use native.Mathlib.Omega.{arith}
 use Rattle.lists.specs.Lists.{Mem}
+use Rattle.lists.proofs.SplitLaws.{outer-in, middle-in}
 use Rattle.record.specs.declared.heap.Heap.{Heap}
-use Rattle.record.specs.declared.kinds.Kind.{Kind}
-use Rattle.record.specs.declared.kinds.Kind.the-variants.{Start, InUse, Ordinary, Donor, Top, End}
 use Rattle.rules.specs.Shape.{Entry, shape}
-use Rattle.rules.specs.Kinds.{ordinaryKind, liveKind, kindOf, live, blockOf, blockEnd, outside}
+use Rattle.rules.specs.Kinds.{ordinaryKind, kindOf, live, blockOf, blockEnd, outside}
 use Rattle.rules.specs.Check.{usedBytes, Passes}
 use Rattle.rules.specs.Draft.{Spot, asRead, nowUses}
 use Rattle.rules.specs.Join.{release}
 use Rattle.rules.specs.Free.{isLive, blockSpot, freeBlock}
 use Rattle.rules.proofs.SpotLaws.{Between, is-top, is-donor}
-use Rattle.settling.proofs.LayoutLaws.{Laid, Layout, outer-in, middle-in, layout-replaced}
+use Rattle.rules.proofs.KindsLaws.{live-kind}
+use Rattle.settling.proofs.LayoutLaws.{Laid, Layout, layout-replaced, laid-between}
 use Rattle.settling.proofs.HeaderLaws.{headed-below}
 use Rattle.settling.proofs.HalfwayLaws.{Opened}
 use Rattle.settling.proofs.OpenLaws as opened
@@ -27,15 +27,6 @@ use Rattle.release.proofs.JoinMeaning.{here, own}
 use Rattle.release.proofs.ReleaseMeaning.{splits}
 use Rattle.release.proofs.GapLaws.{filling, none-used, Gap}
 use Rattle.release.proofs.GapKept.{Given, gap-given}
-
--- a chunk with a live block is not ordinary
-live-not-ordinary : (k : Kind) → liveKind k ≡ true → ordinaryKind k ≡ false
-live-not-ordinary InUse q = refl
-live-not-ordinary Ordinary q = absurd (false≢true q)
-live-not-ordinary Donor q = refl
-live-not-ordinary Top q = refl
-live-not-ordinary Start q = refl
-live-not-ordinary End q = refl
 
 -- the chunk e of a live block, at which the chain is taken apart
 module _ (ws : List ℕ) (h : Heap) (p : Passes ws h) (low : List Entry) (e : Entry) (high : List Entry)
@@ -48,7 +39,7 @@ module _ (ws : List ℕ) (h : Heap) (p : Passes ws h) (low : List Entry) (e : En
 
   -- it is in no bin, and neither the donor nor the top
   pub opens : Opened ws h low e e high (asRead ws h)
-  opens = opened.opens-kept ws h p low e high split between (live-not-ordinary (kindOf h e) l)
+  opens = opened.opens-kept ws h p low e high split between (ap ordinaryKind (live-kind (kindOf h e) l))
 
   pub posts : Posts h (low ++ high)
   posts =
@@ -71,14 +62,7 @@ module _ (ws : List ℕ) (h : Heap) (p : Passes ws h) (low : List Entry) (e : En
   fill-laid =
       let b = between in
       let y = laid-out .chunks e (middle-in low (e ∷ []) high (List·Memᴰ·head refl)) .eight in
-      record {
-        eight = y;
-        some = omega arith;
-        ends = omega arith;
-        flags = omega arith;
-        room = λ lo hi. omega arith;
-        free = λ _. omega arith;
-      }
+      laid-between (h .bytes) (filling (e .place) (blockEnd e)) y (omega arith) (omega arith) (omega arith) (omega arith)
 
   pub filled : Layout (h .bytes) (low ++ filling (e .place) (blockEnd e) ∷ [] ++ high)
   filled =

@@ -9,6 +9,7 @@ use native.Mathlib.Omega.{arith}
 use lib.ListN.{drop}
 use Rattle.lists.specs.Lists.{Mem, headOr, lastOr}
 use Rattle.lists.proofs.MembersLaws.{last-member}
+use Rattle.lists.proofs.SplitLaws.{outer-in, middle-in}
 use Rattle.record.specs.declared.heap.Heap.{Heap}
 use Rattle.region.specs.Words.{backward}
 use Rattle.region.proofs.PrefixLaws.{Below}
@@ -21,8 +22,8 @@ use Rattle.rules.specs.Join.{Joined, leaveBins, release}
 use Rattle.rules.specs.Free.{isLive, blockSpot, freeBlock}
 use Rattle.rules.specs.Reallocate.{shrunk}
 use Rattle.rules.proofs.SpotLaws.{one-chunk, live-between}
-use Rattle.settling.proofs.LayoutLaws.{Layout, outer-in, middle-in}
-use Rattle.settling.proofs.HalfwayLaws.{ordinary-free}
+use Rattle.rules.proofs.KindsLaws.{ordinary-free}
+use Rattle.settling.proofs.LayoutLaws.{Layout}
 use Rattle.settling.proofs.OpenLaws as opened
 use Rattle.settling.proofs.SparesLaws.{Outside, link-word, free-word, Spared, read-spared, writes-spared, leave-spared, relink-spared, settle-spared, uses-spared, blocks-spared, heap-stores}
 use Rattle.release.proofs.JoinMeaning.{sees, joinedBy, sees-ordinary, here, own, seen-free, summit}
@@ -89,7 +90,7 @@ module _ (ws : List ℕ) (h : Heap) (p : Passes ws h) (low : List Entry) (e : En
   from-words : (t : Bool) → (t ≡ true → ordinary h below ≡ true) → (k : ℕ) → k < 6 → Open (cond t (below .place) (part .place) / 4 + k)
   from-words true o =
       let m = outer-in lows (fill ∷ []) high (Memᴰ·append-left high (last-there h lows (o refl))) in
-      free-words below m (ordinary-free (h .bytes) h below (y .chunks below m) (o refl))
+      free-words below m (ordinary-free h below (o refl) (y .chunks below m .flags))
   from-words false o = free-words fill (middle-in lows (fill ∷ []) high (List·Memᴰ·head refl)) refl
 
   end-link : (t : Bool) → (t ≡ true → isFree h (headOr outside high) ≡ true) → Open (headOr outside (cond t (drop 1 high) high) .place / 4 + backward)

@@ -8,6 +8,7 @@ use Prim.Native.Nat.{ℕ, _+_, _*_, _-_, _/_, _%_, _≤_}
 use native.Mathlib.Nat.{add-zero}
 use native.Mathlib.Omega.{arith}
 use Rattle.lists.specs.Lists.{Mem, lastOr}
+use Rattle.lists.proofs.SplitLaws.{among, outer-in, middle-in}
 use Rattle.record.specs.declared.heap.Heap.{Heap}
 use Rattle.region.specs.Words.{Store, put, written, forward, backward, size}
 use Rattle.region.proofs.WordsLaws.{Off, word-same, word-other}
@@ -19,18 +20,18 @@ use Rattle.rules.specs.Join.{release}
 use Rattle.rules.specs.Free.{isLive, blockSpot}
 use Rattle.rules.specs.Cut.{Grant}
 use Rattle.rules.specs.Reallocate.{shrunk}
-use Rattle.rules.proofs.KindsLaws.{kind-in-use}
+use Rattle.rules.proofs.KindsLaws.{kind-in-use, ordinary-free, free-not-live}
 use Rattle.rules.proofs.SpotLaws.{Between, bounds}
-use Rattle.settling.proofs.LayoutLaws.{Beside, Laid, Layout, among, outer-in, middle-in, layout-replaced}
+use Rattle.settling.proofs.LayoutLaws.{Beside, Laid, Layout, layout-replaced, laid-between}
 use Rattle.settling.proofs.HeaderLaws.{Header, Headed, headed-below, headed-joined, headed-keeps, Spares}
-use Rattle.settling.proofs.HalfwayLaws.{now, Halfway, Passing, halfway-fewer, ordinary-free, writes-halfway, Opened}
+use Rattle.settling.proofs.HalfwayLaws.{now, Halfway, Passing, halfway-fewer, writes-halfway, Opened}
 use Rattle.settling.proofs.SettleLaws.{settles-all}
 use Rattle.settling.proofs.OpenLaws as opened
 use Rattle.settling.proofs.PictureLaws.{Pictured, Posts, posts-in, used-replaced}
 use Rattle.release.proofs.JoinMeaning.{own}
 use Rattle.release.proofs.ReleaseMeaning.{splits}
 use Rattle.release.proofs.TailMeaning.{keptChunk, tailChunk, splitDraft}
-use Rattle.release.proofs.GapLaws.{filling, free-not-live, Gap}
+use Rattle.release.proofs.GapLaws.{filling, Gap}
 use Rattle.release.proofs.GapKept.{Given, gap-given}
 use Rattle.release.proofs.ReleaseKept.{laid-out, opens, posts, used-with, own-used, others-outer, outer-others}
 
@@ -70,28 +71,14 @@ module _ (ws : List ℕ) (h : Heap) (p : Passes ws h) (low : List Entry) (e : En
   kept-laid =
       let b = between in
       let z = own-laid .eight in
-      record {
-        eight = z;
-        some = omega arith;
-        ends = omega arith;
-        flags = omega arith;
-        room = λ lo hi. some;
-        free = λ q. absurd (omega arith);
-      }
+      laid-between (h .bytes) kept z (omega arith) (omega arith) some (omega arith)
 
   -- what is above the kept chunk, in use or free
   rest-laid : (s f : ℕ) → s ≡ e .size - n → f ≤ 1 → Laid (h .bytes) (entry (e .place + n) s f)
   rest-laid s f q u =
       let b = between in
       let z = own-laid .eight in
-      record {
-        eight = omega arith;
-        some = omega arith;
-        ends = omega arith;
-        flags = u;
-        room = λ lo hi. omega arith;
-        free = λ _. omega arith;
-      }
+      laid-between (h .bytes) (entry (e .place + n) s f) (omega arith) u (omega arith) (omega arith) (omega arith)
 
   parted : (s f : ℕ) → s ≡ e .size - n → f ≤ 1 → Layout (h .bytes) (low ++ kept ∷ entry (e .place + n) s f ∷ [] ++ high)
   parted s f q u =
@@ -159,7 +146,7 @@ module _ (ws : List ℕ) (h : Heap) (p : Passes ws h) (low : List Entry) (e : En
       go x o (inr (List·Memᴰ·tail k)) =
           let q = List·Memᴰ·eq-of-singleton k in
           let f = ap (λ (d : Entry). d .flags) q in
-          absurd (omega (arith, ordinary-free (h .bytes) (now h begun) x (rw q (rest-laid (e .size - n) used refl (omega arith))) o))
+          absurd (omega (arith, ordinary-free (now h begun) x o (rw q (rest-laid (e .size - n) used refl (omega arith) .flags))))
 
   -- the kept chunk's header reaches up to the tail
   kept-header : Header (written ws splitStores) (lastOr outside low) kept fill

@@ -5,7 +5,8 @@ use mathlib.Core.Bool.{Bool, true, false, cond, false≢true}
 use mathlib.Core.List.{List, [], _∷_, _++_}
 use Prim.Native.Nat.{ℕ, _+_, _-_, _/_, _%_, _≤_, _<_}
 use native.Mathlib.Omega.{arith}
-use Rattle.lists.specs.Lists.{Mem, headOr, lastOr}
+use Rattle.lists.specs.Lists.{Mem, headOr}
+use Rattle.lists.proofs.MembersLaws.{last-append}
 use Rattle.record.specs.declared.heap.Heap.{Heap}
 use Rattle.record.specs.declared.kinds.Kind.{Kind}
 use Rattle.record.specs.declared.kinds.Kind.the-variants.{InUse}
@@ -27,10 +28,6 @@ use Rattle.release.specs.declared.Joined.{Joined}
 use Rattle.release.specs.Release.{neighbourM, joinedM, joinM, giveBackM}
 use Rattle.release.proofs.JoinMeaning.{Agrees, Lies, sees, joining-sees, here, own, sides, neighbour-is, seen-free, seen-above, part-far, part-joins, part-lies}
 use Rattle.release.proofs.GivingMeaning.{Released, given-back}
-
-last-is : (d : Entry) (low : List Entry) (e : Entry) → lastOr d (low ++ e ∷ []) ≡ e
-last-is d [] e = refl
-last-is d (x ∷ xs) e = last-is x xs e
 
 in-use-seen : (t : Bool) → cond t InUse InUse ≡ InUse
 in-use-seen true = refl
@@ -124,8 +121,8 @@ module _ (ws : List ℕ) (h : Heap) (p : Passes ws h) (low : List Entry) (e : En
 
   tail-joins : Agrees (joining h (low ++ keptChunk ∷ []) tailChunk high) keptChunk above tailJoined
   tail-joins =
-      rw (joining-sees (low ++ keptChunk ∷ []) tailChunk high h, join-sees, last-is outside low keptChunk, used-seen keptChunk refl refl)
-      (rw (last-is outside low keptChunk) at
+      rw (joining-sees (low ++ keptChunk ∷ []) tailChunk high h, join-sees, last-append outside low (keptChunk ∷ []), used-seen keptChunk refl refl)
+      (rw (last-append outside low (keptChunk ∷ [])) at
       (part-joins ws h p low e high split l (low ++ keptChunk ∷ []) tailChunk InUse (sees h above) (omega arith) refl (seen-free ws h p low e high split l)))
 
   -- the stored word is none of a chunk that is in a bin

@@ -7,6 +7,7 @@ use mathlib.Core.List.{List, _∷_, _++_}
 use Prim.Native.Nat.{ℕ, _-_, _/_, _%_, _≤_, _<_}
 use native.Mathlib.Omega.{arith}
 use Rattle.lists.specs.Lists.{Mem, lastOr}
+use Rattle.lists.proofs.SplitLaws.{in-split}
 use Rattle.record.specs.declared.heap.Heap.{Heap}
 use Rattle.record.specs.Heap.{at, tableOf}
 use Rattle.region.specs.Words.{word, backward}
@@ -18,7 +19,7 @@ use Rattle.rules.specs.Free.{isLive, freeBlock}
 use Rattle.rules.specs.Kinds.{live, blockOf, blockEnd, blockWords, outside}
 use Rattle.rules.specs.Serve.{nowhere}
 use Rattle.rules.specs.Shape.{Entry, shape}
-use Rattle.rules.proofs.SpotLaws.{around, inside, in-split, live-between, one-chunk}
+use Rattle.rules.proofs.SpotLaws.{around, inside, live-between, one-chunk}
 use Rattle.seek.specs.Seek.{placed}
 use Rattle.blocks.specs.Blocks.{copiedM}
 use Rattle.blocks.proofs.BlocksMeaning.{Disjoint, copy-is}

@@ -7,6 +7,7 @@ use native.Mathlib.Decide.{decLt}
 use native.Mathlib.Omega.{arith}
 use borrow.Author.Tests.{lt-ltb, le-ltb, le-leb, lt-leb}
 use Rattle.lists.specs.Lists.{Mem}
+use Rattle.lists.proofs.SplitLaws.{in-split}
 use Rattle.record.specs.declared.heap.Heap.{Heap}
 use Rattle.record.specs.Heap.{tableOf}
 use Rattle.region.specs.Places.{blockAt}
@@ -22,7 +23,7 @@ use Rattle.rules.specs.Serve.{need, permitted, nowhere}
 use Rattle.rules.specs.Shape.{Entry, shape}
 use Rattle.rules.specs.Statements.{leftBy}
 use Rattle.rules.proofs.CheckLaws.{passes-iff}
-use Rattle.rules.proofs.SpotLaws.{bounds, inside, in-split}
+use Rattle.rules.proofs.SpotLaws.{bounds, inside}
 use Rattle.seek.specs.declared.Place.{Place}
 use Rattle.grant.proofs.NeedLaws.{need-large, need-eight}
 use Rattle.grant.proofs.ChooseMeaning.{choose-is}

@@ -3,7 +3,9 @@ use mathlib.Core.Path.{_≡_, refl}
 use mathlib.Core.Bool.{false≢true}
 use mathlib.Core.List.{List, [], _∷_}
 use Prim.Native.Nat.{ℕ, _+_, _*_, _%_, _<_}
+use native.Mathlib.Omega.{arith}
 use lib.ListN.{length, getD}
+use lib.Seq.{length-take-le}
 use Rattle.lists.specs.Lists.{Mem, headOr, lastOr}
 use Rattle.lists.proofs.ListsLaws.{Decides, number-is, at-most, less, meaning, both, if-then, for-each, for-some, for-below, is-member, once, itself, zeros-from}
 use Rattle.record.specs.declared.heap.Heap.{Heap}
@@ -16,6 +18,10 @@ use Rattle.region.specs.Words.{word, forward, backward, size, nextInBin, previo
 use Rattle.rules.specs.Shape.{Entry, shape, binList, heapBytes}
 use Rattle.rules.specs.Kinds.{ordinary, blockEnd, outside}
 use Rattle.rules.specs.Check.{Fits, fits, Tabled, tabled, Chained, chained, Ended, ended, Backed, backed, Sound, sound, Reserved, reserved, Linked, linked, isBin, BelongsTo, belongsTo, Listed, listed, inBin, usedBytes, PassesAs, Passes, passesAs, passes}
+
+-- the table in the record has as many sizes as the record has bins
+pub table-bins : (h : Heap) → Tabled h → length (tableOf h) ≡ h .bins
+table-bins h t = length-take-le (h .bins) (h .sizes) (omega (arith, t .bins, t .sizePlaces))
 
 module _ (ws : List ℕ) (h : Heap) where
   fits-iff : Decides (fits ws h) (Fits ws h)

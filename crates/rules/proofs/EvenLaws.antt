@@ -49,10 +49,6 @@ module _ (ws ws′ : List ℕ) (h : Heap) (same : Agree (h .bytes / 4) ws ws′)
 abbrev pub evenPart : List ℕ → List ℕ
 evenPart ws = take (length ws / 2 * 2) ws
 
-pub even-word : (ws : List ℕ) (c k : ℕ) → c / 4 + k < length ws / 2 * 2 → word (evenPart ws) c k ≡ word ws c k
-unfolding word
-even-word ws c k l = getD-take (length ws / 2 * 2) ws (c / 4 + k) 0 l
-
 pub even-length : (ws : List ℕ) → length (evenPart ws) ≡ length ws / 2 * 2
 even-length ws = length-take-le (length ws / 2 * 2) ws (omega arith)
 

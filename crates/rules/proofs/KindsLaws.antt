@@ -1,13 +1,15 @@
--- Which facts about a chunk make it of which kind. Assumes nothing.
-use mathlib.Core.Path.{_≡_}
-use Prim.Native.Nat.{ℕ, _+_, _%_, _<_}
+-- Which facts about a chunk make it of which kind, and what its kind says of it. Assumes nothing.
+use mathlib.Core.Path.{_≡_, refl, subst}
+use mathlib.Core.Bool.{true, false, false≢true}
+use Prim.Native.Nat.{ℕ, _+_, _%_, _≤_, _<_}
 use native.Mathlib.Decide.{ℕ-discrete}
 use native.Mathlib.Omega.{arith}
 use borrow.Author.Tests.{eq-eqb, ne-eqb}
+use Rattle.record.specs.declared.heap.Heap.{Heap}
 use Rattle.record.specs.declared.kinds.Kind.{Kind}
 use Rattle.record.specs.declared.kinds.Kind.the-variants.{Start, InUse, Ordinary, Donor, Top, End}
 use Rattle.rules.specs.Shape.{Entry}
-use Rattle.rules.specs.Kinds.{kindAt, inUse}
+use Rattle.rules.specs.Kinds.{ordinaryKind, freeKind, liveKind, kindAt, kindOf, ordinary, live, inUse}
 
 module _ (bytes donor top : ℕ) (e : Entry) where
   pub kind-start : e .place ≡ 0 → Start ≡ kindAt bytes donor top e
@@ -83,6 +85,50 @@ module _ (bytes donor top : ℕ) (e : Entry) where
       go (no s) (no b) (no f) (no t) (yes p) =
           rw (← kind-donor bytes donor top e s b f t p) (omega arith, b, omega arith, p)
       go (no s) (no b) (no f) (no t) (no d) = rw (← kind-ordinary bytes donor top e s b f t d) (omega arith, b, omega arith)
+
+-- one kind is ordinary, one is live, three are free
+pub ordinary-kind : (k : Kind) → ordinaryKind k ≡ true → k ≡ Ordinary
+ordinary-kind Ordinary t = refl
+ordinary-kind Start t = absurd (false≢true t)
+ordinary-kind InUse t = absurd (false≢true t)
+ordinary-kind Donor t = absurd (false≢true t)
+ordinary-kind Top t = absurd (false≢true t)
+ordinary-kind End t = absurd (false≢true t)
+
+pub live-kind : (k : Kind) → liveKind k ≡ true → k ≡ InUse
+live-kind InUse t = refl
+live-kind Start t = absurd (false≢true t)
+live-kind Ordinary t = absurd (false≢true t)
+live-kind Donor t = absurd (false≢true t)
+live-kind Top t = absurd (false≢true t)
+live-kind End t = absurd (false≢true t)
+
+pub free-kinds : (P : Kind → Type 0) → P Ordinary → P Donor → P Top → (k : Kind) → freeKind k ≡ true → P k
+free-kinds P o d t Ordinary f = o
+free-kinds P o d t Donor f = d
+free-kinds P o d t Top f = t
+free-kinds P o d t Start f = absurd (false≢true f)
+free-kinds P o d t InUse f = absurd (false≢true f)
+free-kinds P o d t End f = absurd (false≢true f)
+
+-- by the record's donor and top: a chunk of a kind, an ordinary chunk is free, and a free one has no live block
+module _ (h : Heap) (e : Entry) where
+  pub being-as : (k : Kind) → kindOf h e ≡ k → Being (h .bytes) (h .donor .0) (h .top .0) e k
+  being-as k q = subst (Being (h .bytes) (h .donor .0) (h .top .0) e) q (being (h .bytes) (h .donor .0) (h .top .0) e)
+
+  pub ordinary-free : ordinary h e ≡ true → e .flags ≤ 1 → e .flags ≡ 0
+  ordinary-free o l = omega (arith, being-as Ordinary (ordinary-kind (kindOf h e) o) .2)
+
+  pub free-not-live : e .flags ≡ 0 → live h e ≡ false
+  free-not-live f = go (kindOf h e) (being (h .bytes) (h .donor .0) (h .top .0) e)
+    where
+      go : (k : Kind) → Being (h .bytes) (h .donor .0) (h .top .0) e k → liveKind k ≡ false
+      go InUse b = absurd (omega (arith, b .2))
+      go Start b = refl
+      go Ordinary b = refl
+      go Donor b = refl
+      go Top b = refl
+      go End b = refl
 
 -- a chunk at neither of two places is of one kind, whichever of them the record names
 module _ (bytes a b other : ℕ) (e : Entry) (na : e .place ≡ a → ⊥) (nb : e .place ≡ b → ⊥) where

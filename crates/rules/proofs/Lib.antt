@@ -2,7 +2,9 @@ pub mod ShapeLaws
 pub mod ChainLaws
 pub mod KindsLaws
 pub mod CheckLaws
+pub mod TiledLaws
 pub mod SpotLaws
 pub mod HeadersLaws
 pub mod EvenLaws
+pub mod AskLaws
 pub mod CasesLaws

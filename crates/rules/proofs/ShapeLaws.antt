@@ -3,6 +3,7 @@ use mathlib.Core.Path.{_≡_, refl, sym, ap, _∙_}
 use mathlib.Core.Bool.{Bool, true, false, _&&_, false≢true}
 use mathlib.Core.List.{List, [], _∷_}
 use Prim.Native.Nat.{ℕ, zero, suc, _+_, _-_, _≤_, _<_}
+use native.Mathlib.Decide.{ℕ-discrete}
 use native.Mathlib.Numerals.{sub-one}
 use native.Mathlib.Omega.{arith}
 use lib.Dec.{ltb}
@@ -106,6 +107,11 @@ module _ (ws : List ℕ) where
   pub read-more : (k c : ℕ) → (c ≡ 0 → ⊥) → 0 < k → membersFrom k ws c ≡ c ∷ membersFrom (k - 1) ws (word ws c nextInBin)
   read-more zero c n h = absurd (omega arith)
   read-more (suc k) c n h = rw (ne-eqb c 0 n, membersFrom, sub-one (suc k))
+
+  -- with at least one step it begins where it is read from
+  pub read-head : (k c : ℕ) → 0 < k → c ≡ headOr 0 (membersFrom k ws c)
+  read-head zero c l = absurd (omega arith)
+  read-head (suc k) c l = elim (ℕ-discrete c 0) [ yes z ↦ rw z refl | no n ↦ rw (ne-eqb c 0 n, membersFrom) ]
 
 -- forward bin links lead along the list, from each member to the next, and from the last to 0
 abbrev pub Leads : List ℕ → List ℕ → Type 0

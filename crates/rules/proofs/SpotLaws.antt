@@ -2,144 +2,35 @@
 -- and two have no byte in common; start, end, top and donor among them; and the chain taken apart at one of its chunks. Assumes nothing.
 use mathlib.Core.Path.{_≡_, refl, sym, ap, _∙_}
 use mathlib.Core.Logic.{_⊎_, inl, inr}
-use mathlib.Core.Bool.{Bool, true, false, cond, _||_, false≢true}
-use mathlib.Core.List.{List, [], _∷_, _++_, append-assoc, List·Memᴰ·head, List·Memᴰ·tail, List·Memᴰ·not-nil, Memᴰ·append-right}
+use mathlib.Core.Bool.{Bool, true, false≢true}
+use mathlib.Core.List.{List, [], _∷_, _++_, append-assoc, List·Memᴰ·not-nil}
 use Prim.Native.Nat.{ℕ, _+_, _*_, _-_, _%_, _≤_, _<_}
 use native.Mathlib.Omega.{arith}
 use lib.ListN.{length, drop}
-use borrow.Author.Tests.{eqb-true, eq-eqb, ne-eqb}
-use Rattle.lists.specs.Lists.{Mem, headOr, lastOr, butLast, any, keep, total, upTo, past}
+use borrow.Author.Tests.{eqb-true}
+use Rattle.lists.specs.Lists.{Mem, headOr, lastOr, butLast, any}
 use Rattle.lists.proofs.ListsLaws.{number-is, for-some}
+use Rattle.lists.proofs.SplitLaws.{begins-with, ends-with, in-split, first-splits}
 use Rattle.record.specs.declared.heap.Heap.{Heap}
-use Rattle.record.specs.declared.kinds.Kind.{Kind}
-use Rattle.record.specs.declared.kinds.Kind.the-variants.{Start, InUse, Ordinary, Donor, Top, End}
+use Rattle.record.specs.declared.kinds.Kind.the-variants.{InUse, Donor, Top}
 use Rattle.region.specs.Words.{word, forward, backward, size}
 use Rattle.rules.specs.Shape.{Entry, flagsAt, shape}
-use Rattle.rules.specs.Kinds.{ordinaryKind, freeKind, liveKind, kindOf, ordinary, isFree, live, blockEnd, isAt, outside}
+use Rattle.rules.specs.Kinds.{ordinaryKind, freeKind, kindOf, ordinary, isFree, live, blockEnd, isAt, outside}
 use Rattle.rules.specs.Check.{Backed, Unbinned, Passes}
 use Rattle.rules.specs.Draft.{Spot, spot}
 use Rattle.rules.proofs.ShapeLaws.{Up, lastEntry, upEntry, shape-is, chain-by}
 use Rattle.rules.proofs.ChainLaws.{each-cons, same-place, shape-chain}
-use Rattle.rules.proofs.KindsLaws.{Being, being, kind-top, kind-donor}
-
--- a list that is not empty, taken apart at its beginning and at its end
-module _ {A : Type 0} (o : A) where
-  pub begins-with : (l : List A) → (l ≡ [] → ⊥) → l ≡ headOr o l ∷ drop 1 l
-  begins-with [] n = absurd (n refl)
-  begins-with (x ∷ xs) n = refl
-
-  pub ends-with : (l : List A) → (l ≡ [] → ⊥) → l ≡ butLast l ++ lastOr o l ∷ []
-  ends-with [] n = absurd (n refl)
-  ends-with (x ∷ xs) n = go x xs
-    where
-      go : (x : A) (xs : List A) → x ∷ xs ≡ butLast (x ∷ xs) ++ lastOr x xs ∷ []
-      go x [] = refl
-      go x (y ∷ ys) = ap (λ (l : List A). x ∷ l) (go y ys)
-
-pub in-split : {A : Type 0} {l : List A} (low : List A) (e : A) (high : List A) → l ≡ low ++ e ∷ high → Mem e l
-in-split low e high s = rw s (Memᴰ·append-right low (List·Memᴰ·head refl))
+use Rattle.rules.proofs.KindsLaws.{Being, being, kind-top, kind-donor, ordinary-kind, live-kind, free-kinds, being-as}
+use Rattle.rules.proofs.TiledLaws.{Tiled, tiled-cut, tiled-up, tiled-in, tiled-apart, tiled-eights, tiled-empty, tiled-one, tiled-few, tiled-some}
 
 -- a list taken apart at the first member for which a test holds
 module _ (q : Entry → Bool) where
   pub spot-splits : (l : List Entry) → any q l ≡ true
       → (l ≡ spot q l .low ++ spot q l .here ∷ spot q l .high) × (q (spot q l .here) ≡ true)
-  spot-splits [] a = absurd (false≢true a)
-  spot-splits (x ∷ xs) a = go (q x) refl a (spot-splits xs)
-    where
-      go : (t : Bool) → q x ≡ t → (t || any q xs) ≡ true
-          → (any q xs ≡ true → (xs ≡ upTo q xs ++ headOr outside (keep q xs) ∷ past q xs) × (q (headOr outside (keep q xs)) ≡ true))
-          → (x ∷ xs ≡ cond t [] (x ∷ upTo q xs) ++ headOr outside (cond t (x ∷ keep q xs) (keep q xs)) ∷ cond t xs (past q xs))
-          × (q (headOr outside (cond t (x ∷ keep q xs) (keep q xs))) ≡ true)
-      go true e a f = (refl, e)
-      go false e a f = let r = f a in (ap (λ (l : List Entry). x ∷ l) (r .0), r .1)
-
-  pub spot-low : (l : List Entry) (d : Entry) → Mem d (spot q l .low) → q d ≡ false
-  spot-low [] d m = absurd (List·Memᴰ·not-nil m)
-  spot-low (x ∷ xs) d m = go (q x) refl m (spot-low xs d)
-    where
-      go : (t : Bool) → q x ≡ t → Mem d (cond t [] (x ∷ upTo q xs)) → (Mem d (upTo q xs) → q d ≡ false) → q d ≡ false
-      go true e m f = absurd (List·Memᴰ·not-nil m)
-      go false e (List·Memᴰ·head s) f = ap q s ∙ e
-      go false e (List·Memᴰ·tail k) f = f k
+  spot-splits l a = first-splits q outside l a
 
   pub spot-member : (l : List Entry) → any q l ≡ true → Mem (spot q l .here) l
   spot-member l a = in-split (spot q l .low) (spot q l .here) (spot q l .high) (spot-splits l a .0)
-
-  -- any way to take a list apart at its first such member is this one
-  pub spot-is : (low : List Entry) (e : Entry) (high : List Entry) → ((d : Entry) → Mem d low → q d ≡ false) → q e ≡ true
-      → spot q (low ++ e ∷ high) ≡ record { low = low; here = e; high = high }
-  spot-is [] e high none some = rw some refl
-  spot-is (x ∷ xs) e high none some =
-      let r = spot-is xs e high (λ d m. none d (List·Memᴰ·tail m)) some in
-      rw (none x (List·Memᴰ·head refl)) (ap (λ (s : Spot). record { low = x ∷ s .low; here = s .here; high = s .high }) r)
-
--- the chunks lie one behind the other from a to b
-abbrev pub Tiled : ℕ → List Entry → ℕ → Type 0
-Tiled a [] b = a ≡ b
-Tiled a (e ∷ es) b = (e .place ≡ a) × (0 < e .size) × Tiled (blockEnd e) es b
-
-pub tiled-cut : (a b : ℕ) (xs ys : List Entry) → Tiled a (xs ++ ys) b → (m : ℕ) × Tiled a xs m × Tiled m ys b
-tiled-cut a b [] ys t = (a, refl, t)
-tiled-cut a b (x ∷ xs) ys t =
-    let r = tiled-cut (blockEnd x) b xs ys (t .2) in
-    (r .0, (t .0, t .1, r .1), r .2)
-
-pub tiled-up : (a b : ℕ) (es : List Entry) → Tiled a es b → a ≤ b
-tiled-up a b [] t = omega arith
-tiled-up a b (e ∷ es) t = let r = tiled-up (blockEnd e) b es (t .2) in omega arith
-
--- each lies between a and b
-pub tiled-in : (a b : ℕ) {e : Entry} (es : List Entry) → Tiled a es b → Mem e es
-    → (a ≤ e .place) × (0 < e .size) × (blockEnd e ≤ b)
-tiled-in a b {e} (x ∷ es) t (List·Memᴰ·head q) =
-    let u = tiled-up (blockEnd x) b es (t .2) in
-    rw q (omega arith, t .1, u)
-tiled-in a b (x ∷ es) t (List·Memᴰ·tail m) =
-    let r = tiled-in (blockEnd x) b es (t .2) m in
-    (omega arith, r .1, r .2)
-
-pub tiled-apart : (a b : ℕ) {d e : Entry} (es : List Entry) → Tiled a es b → Mem d es → Mem e es → (d .place ≡ e .place → ⊥)
-    → (blockEnd d ≤ e .place) ⊎ (blockEnd e ≤ d .place)
-tiled-apart a b (x ∷ es) t (List·Memᴰ·head p) (List·Memᴰ·head q) n = absurd (n (ap (λ (y : Entry). y .place) (p ∙ sym q)))
-tiled-apart a b (x ∷ es) t (List·Memᴰ·head p) (List·Memᴰ·tail m) n = inl (rw p (tiled-in (blockEnd x) b es (t .2) m .0))
-tiled-apart a b (x ∷ es) t (List·Memᴰ·tail m) (List·Memᴰ·head p) n = inr (rw p (tiled-in (blockEnd x) b es (t .2) m .0))
-tiled-apart a b (x ∷ es) t (List·Memᴰ·tail m) (List·Memᴰ·tail k) n = tiled-apart (blockEnd x) b es (t .2) m k n
-
--- where all begin at multiples of 8, as b is one, they end there too
-tiled-eights : (a b : ℕ) {e : Entry} (es : List Entry) → Tiled a es b → b % 8 ≡ 0 → ((d : Entry) → Mem d es → d .place % 8 ≡ 0)
-    → Mem e es → blockEnd e % 8 ≡ 0
-tiled-eights a b (x ∷ []) t z f (List·Memᴰ·head q) = rw q (omega arith)
-tiled-eights a b (x ∷ y ∷ es) t z f (List·Memᴰ·head q) =
-    let k = f y (List·Memᴰ·tail (List·Memᴰ·head refl)) in
-    rw q (omega arith)
-tiled-eights a b (x ∷ es) t z f (List·Memᴰ·tail m) =
-    tiled-eights (blockEnd x) b es (t .2) z (λ d k. f d (List·Memᴰ·tail k)) m
-
-pub tiled-empty : (a b : ℕ) (es : List Entry) → Tiled a es b → es ≡ [] → a ≡ b
-tiled-empty a b es t z = rw z at t
-
--- the first is the only one if it reaches b
-tiled-one : (a b : ℕ) (es : List Entry) → Tiled a es b → a < b → b ≤ blockEnd (headOr outside es) → es ≡ headOr outside es ∷ []
-tiled-one a b [] t l q = absurd (omega arith)
-tiled-one a b (x ∷ []) t l q = refl
-tiled-one a b (x ∷ y ∷ es) t l q = let u = tiled-up (blockEnd y) b es (t .2 .2) in absurd (omega (arith, t .2 .0, t .2 .1))
-
--- the least size bounds their number
-pub tiled-few : (a b : ℕ) (es : List Entry) → Tiled a es b → ((e : Entry) → Mem e es → 8 ≤ e .size) → a + 8 * length es ≤ b
-tiled-few a b [] t f = omega arith
-tiled-few a b (e ∷ es) t f =
-    let r = tiled-few (blockEnd e) b es (t .2) (λ d m. f d (List·Memᴰ·tail m)) in
-    let s = f e (List·Memᴰ·head refl) in
-    omega arith
-
--- some of them have at most the bytes of all
-tiled-some : (q : Entry → Bool) (a b : ℕ) (es : List Entry) → Tiled a es b → a + total (λ e. e .size) (keep q es) ≤ b
-tiled-some q a b [] t = omega arith
-tiled-some q a b (e ∷ es) t = go (q e) (tiled-some q (blockEnd e) b es (t .2))
-  where
-    go : (t : Bool) → blockEnd e + total (λ (d : Entry). d .size) (keep q es) ≤ b → a + total (λ (d : Entry). d .size) (cond t (e ∷ keep q es) (keep q es)) ≤ b
-    go true r = let z = t .0 in omega arith
-    go false r = let z = t .0 in omega arith
 
 -- a chunk behind another names it
 backed-next : (ws : List ℕ) (q : ℕ) (low : List Entry) (e d : Entry) (high : List Entry) → Backed ws q (low ++ e ∷ d ∷ high)
@@ -234,7 +125,6 @@ pub record Ends (h : Heap) (es : List Entry) : Type 0 where
   pub startPlace : headOr outside es .place ≡ 0
   pub startSize : headOr outside es .size ≡ 8
   pub startFlags : headOr outside es .flags ≡ 1
-  pub finishes : es ≡ butLast es ++ lastOr outside es ∷ []
   pub end : Mem (lastOr outside es) es
   pub endPlace : lastOr outside es .place + 8 ≡ h .bytes
   pub endSize : lastOr outside es .size ≡ 8
@@ -248,10 +138,8 @@ pub record Around (ws : List ℕ) (es low : List Entry) (e : Entry) (high : List
   pub above : Mem (headOr outside high) es
   pub belowEnd : blockEnd (lastOr outside low) ≡ e .place
   pub abovePlace : headOr outside high .place ≡ blockEnd e
-  pub belowForward : word ws (lastOr outside low .place) forward ≡ e .place
   pub ownForward : word ws (e .place) forward ≡ headOr outside high .place
   pub ownBackward : word ws (e .place) backward ≡ lastOr outside low .place + e .flags
-  pub aboveBackward : word ws (headOr outside high .place) backward ≡ e .place + headOr outside high .flags
 
 -- what the record says makes a free chunk the top or the donor
 module _ (ws : List ℕ) (h : Heap) (e : Entry) (f : Free ws h e) where
@@ -313,14 +201,6 @@ module _ (ws : List ℕ) (h : Heap) (p : Passes ws h) where
     cut : (m : ℕ) × Tiled 0 low m × Tiled m (e ∷ high) (h .bytes)
     cut = tiled-cut 0 (h .bytes) low (e ∷ high) (rw split at tiled)
 
-    pub apart-low : (d : Entry) → Mem d low → blockEnd d ≤ e .place
-    apart-low d m =
-        let r = tiled-in 0 (cut .0) low (cut .1) m in
-        omega (arith, cut .2 .0)
-
-    pub apart-high : (d : Entry) → Mem d high → blockEnd e ≤ d .place
-    apart-high d m = tiled-in (blockEnd e) (h .bytes) high (cut .2 .2) m .0
-
   -- a chunk, the one behind it, and the links between them
   pub next-is : (low : List Entry) (e d : Entry) (high : List Entry) → es ≡ low ++ e ∷ d ∷ high
       → (d .place ≡ blockEnd e) × (word ws (e .place) forward ≡ d .place) × (word ws (d .place) backward ≡ e .place + d .flags)
@@ -342,7 +222,6 @@ module _ (ws : List ℕ) (h : Heap) (p : Passes ws h) where
         startPlace = c .first;
         startSize = p .ends .startSize;
         startFlags = p .ends .startUsed;
-        finishes = ends-with outside es some;
         end = c .has-last outside;
         endPlace = r;
         endSize = omega arith;
@@ -383,24 +262,6 @@ module _ (ws : List ℕ) (h : Heap) (p : Passes ws h) where
       let i : spot (isAt c) es .here ≡ e = one-chunk _ e (spot-member (isAt c) es a) m (eqb-true _ _ (s .1) ∙ sym q) in
       (a, i, s .0 ∙ ap (λ (x : Entry). spot (isAt c) es .low ++ x ∷ spot (isAt c) es .high) i)
 
-  pub at-place : (e : Entry) → Mem e es → any (isAt (e .place)) es ≡ true
-  at-place e m = spot-at (e .place) e m refl .0
-
-  pub here-is : (e : Entry) → Mem e es → spot (isAt (e .place)) es .here ≡ e
-  here-is e m = spot-at (e .place) e m refl .1
-
-  -- there is no other way
-  pub spot-split : (low : List Entry) (e : Entry) (high : List Entry) → es ≡ low ++ e ∷ high
-      → spot (isAt (e .place)) es ≡ record { low = low; here = e; high = high }
-  spot-split low e high s =
-      ap (spot (isAt (e .place))) s
-      ∙ spot-is (isAt (e .place)) low e high
-      (λ d m.
-      let a = apart-low low e high s d m in
-      let i = tiled-in 0 _ low (cut low e high s .1) m in
-      ne-eqb (d .place) (e .place) (λ q. omega arith))
-      (eq-eqb (e .place) (e .place) refl)
-
   -- the chunk is not the first, which is at 0, nor the last, which reaches the end of the heap bytes
   pub around : (low : List Entry) (e : Entry) (high : List Entry) → es ≡ low ++ e ∷ high → 0 < e .place → e .place + 8 < h .bytes
       → Around ws es low e high
@@ -421,10 +282,8 @@ module _ (ws : List ℕ) (h : Heap) (p : Passes ws h) where
         above = in-split (low ++ e ∷ []) _ (drop 1 high) (es-high ∙ sym (append-assoc low (e ∷ []) _));
         belowEnd = sym (down .0);
         abovePlace = up .0;
-        belowForward = down .1;
         ownForward = up .1;
         ownBackward = down .2;
-        aboveBackward = up .2;
       }
 
   -- a free chunk is neither start nor end, since those are in use
@@ -444,50 +303,29 @@ module _ (ws : List ℕ) (h : Heap) (p : Passes ws h) where
 
   pub kind-free : (e : Entry) → Mem e es → isFree h e ≡ true → Free ws h e
   kind-free e m f =
-      let z = even (kindOf h e) (being (h .bytes) (h .donor .0) (h .top .0) e) f in
+      let z =
+      free-kinds (λ k. Being (h .bytes) (h .donor .0) (h .top .0) e k → e .flags % 2 ≡ 0) (λ b. b .2) (λ b. b .2) (λ b. b .2)
+      (kindOf h e) f (being (h .bytes) (h .donor .0) (h .top .0) e) in
       let i = inside e m in
       flags-free e m (omega arith)
-    where
-      even : (k : Kind) → Being (h .bytes) (h .donor .0) (h .top .0) e k → freeKind k ≡ true → e .flags % 2 ≡ 0
-      even Ordinary b t = b .2
-      even Donor b t = b .2
-      even Top b t = b .2
-      even Start b t = absurd (false≢true t)
-      even InUse b t = absurd (false≢true t)
-      even End b t = absurd (false≢true t)
 
   -- the chunk of a live block
   pub live-between : (e : Entry) → Mem e es → live h e ≡ true → (e .flags ≡ 1) × Between h e
-  live-between e m f = go (kindOf h e) (being (h .bytes) (h .donor .0) (h .top .0) e) f
-    where
-      go : (k : Kind) → Being (h .bytes) (h .donor .0) (h .top .0) e k → liveKind k ≡ true → (e .flags ≡ 1) × Between h e
-      go InUse b t =
-          let i = inside e m in
-          let z = b .2 in
-          (omega arith, between e m (b .0) (omega (arith, b .1)))
-      go Ordinary b t = absurd (false≢true t)
-      go Donor b t = absurd (false≢true t)
-      go Top b t = absurd (false≢true t)
-      go Start b t = absurd (false≢true t)
-      go End b t = absurd (false≢true t)
+  live-between e m f =
+      let i = inside e m in
+      let b = being-as h e InUse (live-kind (kindOf h e) f) in
+      let z = b .2 in
+      (omega arith, between e m (b .0) (omega (arith, b .1)))
 
   pub is-ordinary : (e : Entry) → Mem e es → ordinary h e ≡ true → IsOrdinary ws h e
   is-ordinary e m o =
-      let f = kind-free e m (free (kindOf h e) o) in
+      let f = kind-free e m (ap freeKind (ordinary-kind (kindOf h e) o)) in
       let not-top : e .place ≡ h .top .0 → ⊥ = λ q. false≢true (ap ordinaryKind (sym (top-kind ws h e f q)) ∙ o) in
       record {
         free = f;
         notTop = not-top;
         notDonor = λ q. false≢true (ap ordinaryKind (sym (donor-kind ws h e f not-top q)) ∙ o);
       }
-    where
-      free : (k : Kind) → ordinaryKind k ≡ true → freeKind k ≡ true
-      free Ordinary t = refl
-      free Donor t = refl
-      free Top t = refl
-      free Start t = t
-      free InUse t = t
-      free End t = t
 
   the-top : IsTop ws h es (p .top .0)
   the-top =

@@ -15,6 +15,7 @@ use Rattle.rules.specs.Draft.{Draft, asRead, alsoWrites}
 use Rattle.rules.specs.Cut.{Grant, grantFrom}
 use Rattle.rules.specs.Outcome.{Outcome, Refusals, judged, heapFails, made, grants}
 
+-- the source that the tries choose for n bytes
 abbrev pub sourceOf : ℕ → Draft → Source
 sourceOf n d = chosen (d .heap) (d .chain) (d .lists) n
 
@@ -45,11 +46,13 @@ allocated fill d z =
     let g = grant (need overhead z) d in
     made (grants 0 (g .granted)) (alsoWrites (fill (g .granted)) (g .draft))
 
+-- either call on z bytes, by what it writes into the block
 abbrev pub allocateWith : (Entry → List Store) → List ℕ → Heap → ℕ → Outcome
 allocateWith fill ws h z =
     let before = asRead ws h in
     judged h (allocateRefusals (heapFails ws h) before z) (allocated fill before z)
 
+-- z bytes, and the block's words as they were found
 unfoldable pub allocate : List ℕ → Heap → ℕ → Outcome
 allocate ws h z = allocateWith asFound ws h z
 

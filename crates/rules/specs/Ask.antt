@@ -25,6 +25,7 @@ abbrev pub shown : Option ℕ → ℕ
 shown none = 0
 shown (some v) = v
 
+-- what there may be none of: a value under a condition, the first and the last of a list, a bin's number; the list of a bin, if there is one
 abbrev pub onlyIf : Bool → ℕ → Option ℕ
 onlyIf true v = some v
 onlyIf false v = none
@@ -90,6 +91,7 @@ isThere d q p = cond (eqb q 3) (isLive d p) (any (isAt p) (d .chain))
 abbrev pub isAsked : ℕ → List (Option ℕ) → Bool
 isAsked q answers = leb 1 q && leb q (length answers)
 
+-- the answer to question q, as it is shown
 abbrev pub answerTo : ℕ → List (Option ℕ) → ℕ
 answerTo q answers = shown (getD answers (q - 1) none)
 
@@ -101,12 +103,14 @@ askRefusals fails q answers there = fails ∷ (not (isAsked q answers) || not th
 abbrev pub asked : Heap → ℕ → List (Option ℕ) → Outcome
 asked h q answers = unchanged h (Told (answerTo q answers))
 
+-- question q about the chunk at p, or about the live block there
 unfoldable pub askChunk : List ℕ → Heap → ℕ → ℕ → Outcome
 askChunk ws h q p =
     let d = asRead ws h in
     let answers = chunkAnswers d (askedSpot d q p) in
     judged h (askRefusals (heapFails ws h) q answers (isThere d q p)) (asked h q answers)
 
+-- question q about bin i
 unfoldable pub askBin : List ℕ → Heap → ℕ → ℕ → Outcome
 askBin ws h q i =
     let answers = binAnswers (asRead ws h .lists i) in

@@ -14,6 +14,7 @@ use Rattle.rules.specs.Reallocate.{reallocate}
 use Rattle.rules.specs.Merge.{setMerge, check}
 use Rattle.rules.specs.Ask.{askChunk, askBin}
 
+-- the nine calls, each with what it is given
 pub data Call : Type 0 where
   -- table, donor size, merge setting
   Setup : List ℕ → ℕ → Bool → Call
@@ -56,6 +57,7 @@ recordAfter before after (Told v) = after
 recordAfter before after (Counted c) = after
 recordAfter before after (Refused r) = before
 
+-- the state that a call leaves for the next one
 unfoldable pub next : Call → State → State
 next call s =
     let o = step call (s .words) (s .heap) in

@@ -19,6 +19,7 @@ use Rattle.rules.specs.Check.{passes}
 use Rattle.rules.specs.Outcome.{Outcome}
 use Rattle.rules.specs.Calls.{Call, Setup, Allocate, Free, Reallocate, step, State, run}
 
+-- what the document states of a case
 pub data Fact : Type 0 where
   -- accepted: offset, change
   Gives : ℕ → ℤ → Fact
@@ -39,6 +40,7 @@ pub data Fact : Type 0 where
   -- the word at this byte offset
   Word : ℕ → ℕ → Fact
 
+-- a region of so many words, the calls before, the call, and what is stated of it
 pub record Case : Type 0 where
   pub words : ℕ
   pub before : List Call
@@ -61,6 +63,7 @@ turns =
 abbrev pub turn : ℕ → List Fact → Case
 turn k facts = given 64 (opening ∷ take (k - 1) turns) (getD turns (k - 1) opening) facts
 
+-- the table: the eleven calls, then 9 and 10 words, then a size above the most
 abbrev pub cases : List Case
 cases =
     turn 1 (Gives 16 (pos 24) ∷ Chunk 8 24 InUse ∷ Chunk 32 40 Donor ∷ Sound ∷ [])
@@ -159,6 +162,7 @@ holds s o (Word offset value) = eqb (word (written (s .words) (o .stores)) offse
 abbrev lent : ℕ → State
 lent n = record { words = replicate n 4294967295; heap = empty }
 
+-- all that is stated of a case holds
 unfoldable pub caseHolds : Case → Bool
 caseHolds c =
     let s = run (c .before) (lent (c .words)) in

@@ -142,6 +142,7 @@ linked ws p [] = true
 linked ws p (c ∷ cs) =
     eqb (word ws c previousInBin) p && eqb (word ws c nextInBin) (headOr 0 cs) && linked ws c cs
 
+-- the bin is bin i, as a test
 abbrev pub isBin : ℕ → Binned → Bool
 isBin i (Bin j) = eqb i j
 isBin i NoBin = false
@@ -201,9 +202,11 @@ pub record PassesAs (ws : List ℕ) (h : Heap) (es : List Entry) : Type 0 where
   pub binned : (e : Entry) → Mem e es → ordinary h e ≡ true → InItsBin ws h e
   pub used : h .used ≡ usedBytes h es
 
+-- The heap passes, with the chain that is read from 0.
 abbrev pub Passes : List ℕ → Heap → Type 0
 Passes ws h = PassesAs ws h (shape ws (h .bytes))
 
+-- The same as a test.
 unfoldable pub passesAs : List ℕ → Heap → List Entry → Bool
 passesAs ws h es =
     fits ws h && tabled h && chained ws h es && ended es && backed ws 0 es && every (sound ws h) es

@@ -17,6 +17,7 @@ use Rattle.record.specs.declared.kinds.Kind.the-variants.{Start, InUse, Ordinar
 use Rattle.rules.specs.Shape.{Entry, shape, binList}
 use Rattle.rules.specs.Kinds.{unused, blockEnd, outside}
 
+-- the record, the chain, each bin's list, and the words to be written so far
 pub record Draft : Type 0 where
   pub heap : Heap
   pub chain : List Entry
@@ -30,6 +31,7 @@ unfoldable pub asRead : List ℕ → Heap → Draft
 asRead ws h =
     record { heap = h; chain = shape ws (h .bytes); lists = binList ws h; stores = []; homeless = false }
 
+-- more words are to be written, after the others
 abbrev pub alsoWrites : List Store → Draft → Draft
 alsoWrites ss d =
     record {
@@ -40,6 +42,7 @@ alsoWrites ss d =
       homeless = d .homeless;
     }
 
+-- the record is another one
 abbrev pub withHeap : Heap → Draft → Draft
 withHeap h d =
     record {
@@ -96,6 +99,7 @@ putInto i c d =
     (putBetween i [] c (d .lists i) d)
     (putBetween i (d .lists i) c [] d)
 
+-- a chunk leaves the bin that is named; there may be none
 abbrev pub leaves : Entry → Binned → Draft → Draft
 leaves e (Bin i) d = leave i (e .place) d
 leaves e NoBin d = d
@@ -104,6 +108,7 @@ leaves e NoBin d = d
 unfoldable pub leaveBin : Entry → Draft → Draft
 leaveBin e d = leaves e (binOf (tableOf (d .heap)) (e .size)) d
 
+-- a chunk is put into the bin that is named; where there is none, the draft says so
 abbrev pub isPut : Entry → Binned → Draft → Draft
 isPut e (Bin i) d = putInto i (e .place) d
 isPut e NoBin d =
@@ -159,6 +164,7 @@ pub record Spot : Type 0 where
   pub here : Entry
   pub high : List Entry
 
+-- at the first chunk for which a test holds
 abbrev pub spot : (Entry → Bool) → List Entry → Spot
 spot p es =
     record { low = upTo p es; here = headOr outside (keep p es); high = past p es }

@@ -17,6 +17,7 @@ use Rattle.rules.specs.Outcome.{Outcome, Refusals, judged, heapFails, ma
 abbrev pub isLive : Draft → ℕ → Bool
 isLive d b = any (holdsBlock (d .heap) b) (d .chain)
 
+-- the chain at its chunk
 abbrev pub blockSpot : Draft → ℕ → Spot
 blockSpot d b = spot (holdsBlock (d .heap) b) (d .chain)
 
@@ -38,9 +39,11 @@ freeRefusals fails d b =
     ∷ (freedFrom d b .homeless, NoBinTakes)
     ∷ []
 
+-- what an accepted free makes: used bytes fall by the chunk's size, and by none for block 0
 abbrev pub freed : Draft → ℕ → Outcome
 freed d b = made (Returned (changeOf (cond (eqb b 0) 0 (blockSpot d b .here .size)) 0)) (freedFrom d b)
 
+-- the call
 unfoldable pub free : List ℕ → Heap → ℕ → Outcome
 free ws h b =
     let before = asRead ws h in

@@ -47,6 +47,7 @@ joining h low e high =
       leaving = cond down (below ∷ []) [] ++ cond (up && ordinaryKind (kindOf h above)) (above ∷ []) [];
     }
 
+-- chunks leave their bins, one after the other
 abbrev pub leaveBins : List Entry → Draft → Draft
 leaveBins [] d = d
 leaveBins (e ∷ es) d = leaveBins es (leaveBin e d)

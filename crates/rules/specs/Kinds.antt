@@ -1,10 +1,8 @@
 -- The kinds of a chunk, and blocks (document 01, "Words, chunks, blocks").
 -- That a block starts eight bytes above its chunk is said here and nowhere else in the rules.
 use mathlib.Core.Bool.{Bool, true, false, cond}
-use mathlib.Core.List.{List, map}
 use Prim.Native.Nat.{ℕ, _+_, _-_, _/_, _%_}
 use lib.Dec.{eqb}
-use Rattle.lists.specs.Lists.{keep}
 use Rattle.record.specs.declared.heap.Heap.{Heap}
 use Rattle.record.specs.declared.kinds.Kind.{Kind}
 use Rattle.record.specs.declared.kinds.Kind.the-variants.{Start, InUse, Ordinary, Donor, Top, End}
@@ -21,6 +19,7 @@ used = 1
 abbrev pub endSize : ℕ
 endSize = 8
 
+-- the lowest flag says in use
 unfoldable pub inUse : Entry → Bool
 inUse e = eqb (e .flags % 2) 1
 
@@ -33,9 +32,11 @@ kindAt bytes donor top e =
     (cond (eqb (e .place) top) Top
     (cond (eqb (e .place) donor) Donor Ordinary))))
 
+-- the kind of a chunk by the record
 abbrev pub kindOf : Heap → Entry → Kind
 kindOf h e = kindAt (h .bytes) (h .donor .0) (h .top .0) e
 
+-- which kinds are ordinary; free; those of chunks with a live block
 abbrev pub ordinaryKind : Kind → Bool
 ordinaryKind Start = false
 ordinaryKind InUse = false
@@ -82,17 +83,6 @@ blockEnd e = e .place + e .size
 
 abbrev pub blockWords : Entry → ℕ
 blockWords e = (blockEnd e - blockOf e) / 4
-
--- a live block: its place and its length in bytes
-pub record Held : Type 0 where
-  pub at : ℕ
-  pub length : ℕ
-
-abbrev pub held : Entry → Held
-held e = record { at = blockOf e; length = blockEnd e - blockOf e }
-
-abbrev pub liveBlocks : Heap → List Entry → List Held
-liveBlocks h es = map held (keep (live h) es)
 
 -- the chunk at a place, and the chunk of a live block at a place
 abbrev pub isAt : ℕ → Entry → Bool

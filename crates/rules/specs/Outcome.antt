@@ -14,6 +14,7 @@ use Rattle.rules.specs.Kinds.{blockOf}
 use Rattle.rules.specs.Check.{passes}
 use Rattle.rules.specs.Draft.{Draft}
 
+-- all that a rule says of a call
 pub record Outcome : Type 0 where
   pub answer : Answer
   pub heap : Heap

@@ -66,11 +66,13 @@ resizeRefusals fails ws d b z =
     ∷ (resizing ws d b z .draft .homeless, NoBinTakes)
     ∷ []
 
+-- what an accepted one makes of a live block
 abbrev pub resizedTo : List ℕ → Draft → ℕ → ℕ → Outcome
 resizedTo ws d b z =
     let g = resizing ws d b z in
     made (grants (blockSpot d b .here .size) (g .granted)) (g .draft)
 
+-- the call on a block that is not 0
 unfoldable pub resize : List ℕ → Heap → ℕ → ℕ → Outcome
 resize ws h b z =
     let before = asRead ws h in

@@ -14,6 +14,7 @@ use Rattle.record.specs.Table.{least, small, binOf}
 use Rattle.rules.specs.Shape.{Entry}
 use Rattle.rules.specs.Kinds.{inUse, isAt, outside}
 
+-- rounded up to a multiple of 8
 abbrev pub upToEight : ℕ → ℕ
 upToEight n = (n + 7) / 8 * 8
 
@@ -41,6 +42,7 @@ serves table donor top n e =
 abbrev pub fromBin : ℕ → Source
 fromBin c = cond (eqb c 0) Nowhere (FromBin (at c))
 
+-- the size of the chunk at c on the chain
 abbrev pub sizeOn : List Entry → ℕ → ℕ
 sizeOn es c = headOr outside (keep (isAt c) es) .size
 
@@ -75,11 +77,13 @@ firstOf (FromDonor ∷ ss) = FromDonor
 firstOf (FromTop ∷ ss) = FromTop
 firstOf (Nowhere ∷ ss) = firstOf ss
 
+-- the four tries, in their order
 unfoldable pub chosen : Heap → List Entry → (ℕ → List ℕ) → ℕ → Source
 chosen h es lists n =
     let own = binOf (tableOf h) n in
     firstOf (ownBin es lists n own ∷ tryDonor h es n ∷ largerBin h lists own ∷ tryTop h es n ∷ [])
 
+-- nothing can serve
 abbrev pub nowhere : Source → Bool
 nowhere (FromBin c) = false
 nowhere FromDonor = false

@@ -20,6 +20,7 @@ use Rattle.rules.specs.Outcome.{Outcome, Refusals, judged}
 abbrev pub kept : ℕ
 kept = 40
 
+-- a donor's size is 0, for none, or a multiple of 8 from 24 on that leaves those bytes
 abbrev pub donorFits : ℕ → ℕ → Bool
 donorFits bytes donor =
     eqb donor 0 || (leb least donor && eqb (donor % 8) 0 && leb donor (bytes - kept))
@@ -72,6 +73,7 @@ abbrev pub opened : ℕ → List ℕ → ℕ → Bool → Outcome
 opened bytes table donor merge =
     record { answer = Done; heap = fresh bytes table donor merge; stores = firstHeaders bytes donor }
 
+-- the call; a refused one gives a record of zeros
 unfoldable pub setup : List ℕ → List ℕ → ℕ → Bool → Outcome
 setup ws table donor merge =
     judged empty (setupRefusals ws table donor) (opened (heapBytes (length ws)) table donor merge)

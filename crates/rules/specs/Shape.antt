@@ -17,6 +17,7 @@ pub record Entry : Type 0 where
 abbrev pub entry : ℕ → ℕ → ℕ → Entry
 entry p s f = record { place = p; size = s; flags = f }
 
+-- the flags of the chunk at c: the low three bits of its second word
 abbrev pub flagsAt : List ℕ → ℕ → ℕ
 flagsAt ws c = word ws c backward % 8
 
@@ -32,6 +33,7 @@ shapeFrom (suc steps) ws bytes c =
       | false ↦ entry c (bytes - c) (flagsAt ws c) ∷ []
     ]
 
+-- the whole chain: it begins at 0
 unfoldable pub shape : List ℕ → ℕ → List Entry
 shape ws bytes = shapeFrom bytes ws bytes 0
 
@@ -42,6 +44,7 @@ membersFrom zero ws c = []
 membersFrom (suc steps) ws c =
     elim (eqb c 0) [ true ↦ [] | false ↦ c ∷ membersFrom steps ws (word ws c nextInBin) ]
 
+-- the list whose head is given
 unfoldable pub members : List ℕ → ℕ → ℕ → List ℕ
 members ws bytes head = membersFrom bytes ws head
 

@@ -22,6 +22,7 @@ pub record Left : Type 0 where
   pub heap : Heap
   pub words : List ℕ
 
+-- by an outcome on the words ws; by a reply, with the words then
 abbrev pub leftBy : List ℕ → Outcome → Left
 leftBy ws o = record { answer = o .answer; heap = o .heap; words = written ws (o .stores) }
 
@@ -32,6 +33,7 @@ replied r ws = record { answer = r .answer; heap = r .heap; words = ws }
 abbrev pub Meets : List ℕ → Outcome → Reply → List ℕ → Type 0
 Meets before o r after = replied r after ≡ leftBy before o
 
+-- of the nine calls, each by its rule
 abbrev pub SetsUp : List ℕ → List ℕ → ℕ → Bool → Reply → List ℕ → Type 0
 SetsUp ws table donor merge = Meets ws (setup ws table donor merge)
 

@@ -31,16 +31,11 @@ use Rattle.bins.proofs.RunsLaws.{Node}
 use Rattle.bins.proofs.BooksLaws.{Far, putStores}
 use Rattle.bins.proofs.WayLaws.{OnWay, way-begins, way-keeps, way-leaves, way-left-far, way-stays, way-remains, way-puts-head, way-puts-tail}
 use Rattle.settling.specs.Settling.{putBinnedM, putInBinM, alsoWritten, settleM, donorAfter, topAfter}
+use Rattle.settling.proofs.HeaderLaws.{linkStores}
 
 -- the words and the ends of a draft
 abbrev pub booksOf : List ℕ → Draft → Books
 booksOf ws d = books (written ws (d .stores)) (d .heap .heads) (d .heap .tails)
-
--- what is written where the chain is linked anew between low and high
-abbrev pub linkStores : List Entry → List Entry → List Entry → List Store
-linkStores low es high =
-    headers (lastOr outside low .place) es
-    ++ put (headOr outside high .place) backward (lastOr (lastOr outside low) es .place + headOr outside high .flags) ∷ []
 
 -- the header at y is not below that of the chunk at x, or well above it
 abbrev pub Clears : ℕ → ℕ → Type 0

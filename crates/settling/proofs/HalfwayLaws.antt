@@ -11,26 +11,25 @@ use lib.Dec.{eqb}
 use lib.ListN.{length, set, length-set}
 use lib.Seq.{getD-set-other}
 use Rattle.lists.specs.Lists.{Mem, headOr, lastOr, upTo, past}
+use Rattle.lists.proofs.SplitLaws.{outer-in}
 use Rattle.record.specs.declared.heap.Heap.{Heap}
-use Rattle.record.specs.declared.kinds.Kind.{Kind}
-use Rattle.record.specs.declared.kinds.Kind.the-variants.{Start, InUse, Ordinary, Donor, Top, End}
 use Rattle.record.specs.declared.table.Binned.the-variants.{Bin}
 use Rattle.record.specs.Heap.{places, tableOf, with, withEnds}
 use Rattle.record.specs.Table.{binOf}
 use Rattle.region.specs.Words.{Store, put, written, backward, nextInBin, previousInBin, bin}
 use Rattle.region.proofs.WordsLaws.{Off, off, length-written, written-append}
 use Rattle.rules.specs.Shape.{Entry, shape}
-use Rattle.rules.specs.Kinds.{ordinaryKind, kindOf, ordinary, outside}
+use Rattle.rules.specs.Kinds.{ordinaryKind, ordinary, outside}
 use Rattle.rules.specs.Check.{Unused, Unbinned, BelongsTo, Passes}
 use Rattle.rules.specs.Draft.{Draft, asRead, headers, meet, leave, leaveBin, relink}
-use Rattle.rules.proofs.KindsLaws.{Being, being, kind-ordinary}
+use Rattle.rules.proofs.KindsLaws.{kind-ordinary, ordinary-free}
 use Rattle.rules.proofs.SpotLaws.{flags-free, is-top, is-donor}
 use Rattle.bins.proofs.RunsLaws.{NoLink}
 use Rattle.bins.proofs.BooksLaws.{Far}
 use Rattle.bins.proofs.HeapBooks.{list-none}
 use Rattle.bins.proofs.WayLaws.{OnWay, relisted, relisted-other, header-no-link, leave-off, way-begins, way-keeps, way-leaves, way-left-far, way-stays, way-remains}
 use Rattle.settling.proofs.DraftLaws.{booksOf}
-use Rattle.settling.proofs.LayoutLaws.{Beside, Laid, Layout, laid-once, laid-beside, laid-below, outer-in}
+use Rattle.settling.proofs.LayoutLaws.{Beside, Laid, Layout, laid-once, laid-beside, laid-below}
 use Rattle.settling.proofs.HeaderLaws.{Headed, headed-below, Spares, headed-keeps, linkStores, link-headed, link-off}
 
 -- the record of a draft, of which a call changes the bins' ends, the donor, the top and the used bytes
@@ -83,18 +82,6 @@ halfway-begins ws h p =
         (sym o
         ∙ ap ordinaryKind (sym (kind-ordinary (h .bytes) (h .donor .0) (h .top .0) e (λ q. omega arith) (λ q. omega arith) (λ q. omega arith) t n))))
 
--- an ordinary chunk is free
-pub ordinary-free : (bytes : ℕ) (g : Heap) (e : Entry) → Laid bytes e → ordinary g e ≡ true → e .flags ≡ 0
-ordinary-free bytes g e y o = go (kindOf g e) (being (g .bytes) (g .donor .0) (g .top .0) e) o
-  where
-    go : (k : Kind) → Being (g .bytes) (g .donor .0) (g .top .0) e k → ordinaryKind k ≡ true → e .flags ≡ 0
-    go Ordinary b t = let f = y .flags in omega (arith, b .2)
-    go Start b t = absurd (false≢true t)
-    go InUse b t = absurd (false≢true t)
-    go Donor b t = absurd (false≢true t)
-    go Top b t = absurd (false≢true t)
-    go End b t = absurd (false≢true t)
-
 -- words of a chunk far from all members are no links of theirs
 pub far-no-link : (x k : ℕ) (cs : List ℕ) → k < 6 → x % 8 ≡ 0 → ((c : ℕ) → Mem c cs → (c % 8 ≡ 0) × Far x c) → NoLink (x / 4 + k) cs
 far-no-link x k cs s z f = λ c m. at c (f c m .0) (f c m .1)
@@ -130,7 +117,7 @@ module _ (ws : List ℕ) (h : Heap) (stay : List Entry) (d : Draft) (f : Halfway
       let r = f .members i c l m in
       let e : Entry = r .0 in
       let x = y .chunks e (sub e (r .1)) in
-      let z = ordinary-free (h .bytes) (now h d) e x (r .2 .1 .0) in
+      let z = ordinary-free (now h d) e (r .2 .1 .0) (x .flags) in
       (e, record { stays = r .1; place = r .2 .0; belongs = r .2 .1; free = z; large = x .free z .1; eight = x .eight })
 
   -- a chunk of which no bin is to know
@@ -293,7 +280,7 @@ writes-halfway ws h stay es d ss all f w laid passed =
     }
   where
     clear : {i c : ℕ} → (e : Entry) × Mem e stay × ((e .place ≡ c) × BelongsTo (now h d) i e) → Passing ss c
-    clear (e, m, (q, b)) = rw q at (passed e m (ordinary-free (h .bytes) (now h d) e (laid e m) (b .0)))
+    clear (e, m, (q, b)) = rw q at (passed e m (ordinary-free (now h d) e (b .0) (laid e m .flags)))
 
 -- the chunks news are linked in between low and high
 module _ (ws : List ℕ) (h : Heap) (low news high : List Entry) (d : Draft) (f : Halfway ws h (low ++ high) d)

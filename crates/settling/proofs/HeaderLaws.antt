@@ -12,17 +12,18 @@ use lib.ListN.{length}
 use borrow.Author.Tests.{eqb-true, eqb-false}
 use Rattle.lists.specs.Lists.{Mem, headOr, lastOr}
 use Rattle.lists.proofs.MembersLaws.{head-append, last-append}
+use Rattle.lists.proofs.SplitLaws.{outer-in, middle-in}
 use Rattle.record.specs.declared.heap.Heap.{Heap}
 use Rattle.region.specs.Words.{word, Store, put, written, forward, backward, size}
-use Rattle.region.proofs.WordsLaws.{Off, off, got, length-written, written-append, word-same, word-other}
+use Rattle.region.proofs.WordsLaws.{Off, off, got, length-written, written-append, word-same, word-other, off-both}
 use Rattle.rules.specs.Shape.{Entry, entry, flagsAt, shape}
 use Rattle.rules.specs.Kinds.{unused, blockEnd, outside}
 use Rattle.rules.specs.Check.{Backed, Passes}
 use Rattle.rules.specs.Draft.{headers, sizeStores}
 use Rattle.rules.proofs.ShapeLaws.{chainFrom, shape-goes, shape-stops, shape-is}
-use Rattle.rules.proofs.SpotLaws.{Tiled, tiled-in, tiled-up, tiled, inside, ends, Inside}
-use Rattle.bins.proofs.RunsLaws.{off-both}
-use Rattle.settling.proofs.LayoutLaws.{Beside, Laid, Layout, Cuts, laid-beside, cuts, outer-beside, outer-in, middle-in}
+use Rattle.rules.proofs.SpotLaws.{tiled, inside, Inside}
+use Rattle.rules.proofs.TiledLaws.{Tiled, tiled-up, tiled-in}
+use Rattle.settling.proofs.LayoutLaws.{Beside, Laid, Layout, Cuts, laid-beside, cuts, outer-beside}
 
 -- the header of e, which stands between b and n
 pub record Header (ws : List ℕ) (b e n : Entry) : Type 0 where

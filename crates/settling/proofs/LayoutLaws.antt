@@ -1,59 +1,25 @@
 -- How the chunks of a chain lie, with no word read: one behind the other from 0 to the end of the heap bytes, each with room for its header,
 -- start and end in use; and that they still do where some of them are replaced by others that fill the same bytes. Assumes nothing.
-use mathlib.Core.Path.{_≡_, refl, sym, ap, _∙_}
+use mathlib.Core.Path.{_≡_, sym, ap, _∙_}
 use mathlib.Core.Logic.{_≢_, _⊎_, inl, inr}
-use mathlib.Core.List.{List, [], _∷_, _++_, append-assoc, List·Memᴰ·append-cases, List·Memᴰ·eq-of-singleton, Memᴰ·append-left, Memᴰ·append-right}
-use Prim.Native.Nat.{ℕ, suc, _+_, _*_, _%_, _≤_, _<_}
+use mathlib.Core.List.{List, [], _∷_, _++_, append-assoc, List·Memᴰ·append-cases}
+use Prim.Native.Nat.{ℕ, _+_, _*_, _%_, _≤_, _<_}
 use native.Mathlib.Omega.{arith}
 use lib.ListN.{length}
 use Rattle.lists.specs.Lists.{Mem, headOr, lastOr}
 use Rattle.lists.proofs.MembersLaws.{last-append}
+use Rattle.lists.proofs.SplitLaws.{first-stays, last-stays, among, outer-in, all-but}
 use Rattle.record.specs.declared.heap.Heap.{Heap}
 use Rattle.rules.specs.Shape.{Entry, shape}
 use Rattle.rules.specs.Kinds.{blockEnd, outside}
 use Rattle.rules.specs.Check.{Ended, Passes}
-use Rattle.rules.proofs.ChainLaws.{Rising, rising-from, same-place}
-use Rattle.rules.proofs.SpotLaws.{Tiled, tiled-cut, tiled-in, tiled-apart, tiled-few, tiled, inside, free-between, ends}
-
--- members of a list with something put into its middle
-module _ {A : Type 0} {x : A} (low mid high : List A) where
-  pub among : Mem x (low ++ mid ++ high) → Mem x (low ++ high) ⊎ Mem x mid
-  among m = go (List·Memᴰ·append-cases (low ++ mid) m)
-    where
-      below : Mem x low ⊎ Mem x mid → Mem x (low ++ high) ⊎ Mem x mid
-      below (inl k) = inl (Memᴰ·append-left high k)
-      below (inr k) = inr k
-
-      go : Mem x (low ++ mid) ⊎ Mem x high → Mem x (low ++ high) ⊎ Mem x mid
-      go (inl k) = below (List·Memᴰ·append-cases low k)
-      go (inr k) = inl (Memᴰ·append-right low k)
-
-  pub outer-in : Mem x (low ++ high) → Mem x (low ++ mid ++ high)
-  outer-in m = go (List·Memᴰ·append-cases low m)
-    where
-      go : Mem x low ⊎ Mem x high → Mem x (low ++ mid ++ high)
-      go (inl k) = Memᴰ·append-left high (Memᴰ·append-left mid k)
-      go (inr k) = Memᴰ·append-right (low ++ mid) k
-
-  pub middle-in : Mem x mid → Mem x (low ++ mid ++ high)
-  middle-in m = Memᴰ·append-left high (Memᴰ·append-right low m)
+use Rattle.rules.proofs.ChainLaws.{same-place}
+use Rattle.rules.proofs.SpotLaws.{tiled, inside, free-between}
+use Rattle.rules.proofs.TiledLaws.{Tiled, tiled-cut, tiled-in, tiled-apart, tiled-few, tiled-joined, tiled-rising}
 
 -- all chunks of a list but the one in its middle
 pub every-other : (low : List Entry) (e : Entry) (high : List Entry) (x : Entry) → Mem x (low ++ e ∷ [] ++ high) → x .place ≢ e .place → Mem x (low ++ high)
-every-other low e high x m n = go (among low (e ∷ []) high m)
-  where
-    go : Mem x (low ++ high) ⊎ Mem x (e ∷ []) → Mem x (low ++ high)
-    go (inl k) = k
-    go (inr k) = absurd (n (ap (λ (d : Entry). d .place) (List·Memᴰ·eq-of-singleton k)))
-
--- tiles put together, and each place has one
-pub tiled-joined : (a b c : ℕ) (xs ys : List Entry) → Tiled a xs b → Tiled b ys c → Tiled a (xs ++ ys) c
-tiled-joined a b c [] ys t u = rw t u
-tiled-joined a b c (x ∷ xs) ys t u = (t .0, t .1, tiled-joined (blockEnd x) b c xs ys (t .2) u)
-
-tiled-rising : (a b : ℕ) (es : List Entry) → Tiled a es b → Rising a es
-tiled-rising a b [] t = tt
-tiled-rising a b (e ∷ es) t = (omega (arith, t .0), rising-from (suc (e .place)) (blockEnd e) es (omega (arith, t .1)) (tiled-rising (blockEnd e) b es (t .2)))
+every-other low e high x m n = all-but low e high m (λ q. n (ap (λ (d : Entry). d .place) q))
 
 -- one behind the other, whichever comes first
 abbrev pub Beside : Entry → Entry → Type 0
@@ -71,6 +37,11 @@ pub record Laid (bytes : ℕ) (e : Entry) : Type 0 where
   pub flags : e .flags ≤ 1
   pub room : 0 < e .place → e .place + 8 < bytes → 24 ≤ e .size
   pub free : e .flags ≡ 0 → (8 ≤ e .place) × (24 ≤ e .size) × (blockEnd e + 8 ≤ bytes)
+
+-- one that is neither start nor end, in use or free
+pub laid-between : (bytes : ℕ) (e : Entry) → e .place % 8 ≡ 0 → e .flags ≤ 1 → 8 ≤ e .place → 24 ≤ e .size → blockEnd e + 8 ≤ bytes → Laid bytes e
+laid-between bytes e eight flags above large below =
+    record { eight = eight; some = omega arith; ends = omega arith; flags = flags; room = λ _ _. large; free = λ _. (above, large, below) }
 
 pub record Layout (bytes : ℕ) (es : List Entry) : Type 0 where
   pub tiled : Tiled 0 es bytes
@@ -146,15 +117,6 @@ module _ (bytes : ℕ) (low mid high : List Entry) (y : Layout bytes (low ++ mid
           let a = tiled-in (cuts .to) bytes high (cuts .above) j in
           let b = tiled-in (cuts .from) (cuts .to) mid (cuts .middle) k in
           inr (omega (arith, a .0, b .2))
-
--- the ends of a list do not depend on what is put into its middle
-first-stays : (b : Entry) (xs ys : List Entry) → (xs ≡ [] → ⊥) → headOr b (xs ++ ys) ≡ headOr b xs
-first-stays b [] ys n = absurd (n refl)
-first-stays b (x ∷ xs) ys n = refl
-
-last-stays : (b c : Entry) (ys : List Entry) → (ys ≡ [] → ⊥) → lastOr b ys ≡ lastOr c ys
-last-stays b c [] n = absurd (n refl)
-last-stays b c (y ∷ ys) n = refl
 
 -- the chunks olds are replaced by the chunks news, which fill the same bytes
 module _ (bytes : ℕ) (low olds news high : List Entry) (y : Layout bytes (low ++ olds ++ high))

@@ -20,7 +20,8 @@ use Rattle.rules.specs.Check.{Fits, Tabled, TopIs, DonorIs, Listed, usedBytes, 
 use Rattle.rules.specs.Draft.{Draft, nowUses}
 use Rattle.rules.proofs.KindsLaws.{kind-top, kind-donor}
 use Rattle.rules.proofs.ShapeLaws.{members-steps, read-none}
-use Rattle.rules.proofs.SpotLaws.{bounds, tiled-empty}
+use Rattle.rules.proofs.SpotLaws.{bounds}
+use Rattle.rules.proofs.TiledLaws.{tiled-empty}
 use Rattle.bins.proofs.WayLaws.{way-leads}
 use Rattle.settling.proofs.DraftLaws.{booksOf}
 use Rattle.settling.proofs.LayoutLaws.{Layout, laid-few}

@@ -24,6 +24,7 @@ use Rattle.rules.specs.Shape.{Entry}
 use Rattle.rules.specs.Kinds.{ordinaryKind, kindAt, kindOf, ordinary, outside}
 use Rattle.rules.specs.Check.{Unbinned, BelongsTo, Passes}
 use Rattle.rules.specs.Draft.{Draft, alsoWrites, withHeap, putBetween, putInto, putInBin, noBinWords, settle}
+use Rattle.rules.proofs.KindsLaws.{ordinary-free}
 use Rattle.bins.specs.Books.{books}
 use Rattle.bins.proofs.RunsLaws.{Node, NoLink}
 use Rattle.bins.proofs.BooksLaws.{Far, putStores, put-off}
@@ -31,7 +32,7 @@ use Rattle.bins.proofs.WayLaws.{OnWay, relisted, relisted-same, relisted-other,
 use Rattle.settling.proofs.DraftLaws.{booksOf}
 use Rattle.settling.proofs.LayoutLaws.{Beside, Laid, Layout, laid-once, laid-beside, laid-below}
 use Rattle.settling.proofs.HeaderLaws.{Headed, Spares, headed-keeps}
-use Rattle.settling.proofs.HalfwayLaws.{now, Halfway, Passing, ordinary-free, far-no-link, unbinned-keeps, not-listed, member-below, member-far}
+use Rattle.settling.proofs.HalfwayLaws.{now, Halfway, Passing, far-no-link, unbinned-keeps, not-listed, member-below, member-far}
 
 -- what a step makes of a draft whose chain is `all`: the donor, the top and the used bytes that it leaves are named
 pub record Settles (ws : List ℕ) (h : Heap) (all : List Entry) (donor top : ℕ) (d after : Draft) : Type 0 where
@@ -57,7 +58,7 @@ settles-named s p q =
 module _ (ws : List ℕ) (h : Heap) (stay : List Entry) (d : Draft) (f : Halfway ws h stay d)
     (all : List Entry) (y : Layout (h .bytes) all) (sub : (e : Entry) → Mem e stay → Mem e all) where
   used-out : (x : Entry) → Mem x all → x .flags ≡ 1 → (g : Heap) → ordinary g x ≡ true → ⊥
-  used-out x m q g o = let z = ordinary-free (h .bytes) g x (y .chunks x m) o in omega arith
+  used-out x m q g o = let z = ordinary-free g x o (y .chunks x m .flags) in omega arith
 
   -- where all other chunks are in use, none waits
   pub settles-all : ((x : Entry) → Mem x all → Mem x stay ⊎ (x .flags ≡ 1)) → Settles ws h all (d .heap .donor .0) (d .heap .top .0) d d

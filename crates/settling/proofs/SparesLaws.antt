@@ -11,6 +11,7 @@ use lib.Dec.{eqb, ltb}
 use borrow.Author.Tests.{eqb-true}
 use Rattle.lists.specs.Lists.{Mem, headOr, lastOr, upTo, past}
 use Rattle.lists.proofs.MembersLaws.{last-member}
+use Rattle.lists.proofs.SplitLaws.{before-from, after-from}
 use Rattle.record.specs.declared.heap.Heap.{Heap}
 use Rattle.record.specs.declared.kinds.Kind.{Kind}
 use Rattle.record.specs.declared.kinds.Kind.the-variants.{Start, InUse, Ordinary, Donor, Top, End}
@@ -27,7 +28,7 @@ use Rattle.rules.specs.Check.{Passes}
 use Rattle.rules.specs.Draft.{Draft, asRead, alsoWrites, nowUses, followedBy, precededBy, meet, relist, leave, leaves, leaveBin, putBetween, putInto, isPut, putInBin, sizeStores, headers, relink, settle}
 use Rattle.bins.proofs.BooksLaws.{putStores}
 use Rattle.bins.proofs.HeapBooks.{member-entry, list-none}
-use Rattle.bins.proofs.WayLaws.{member-relisted, before-from, after-from}
+use Rattle.bins.proofs.WayLaws.{member-relisted}
 use Rattle.settling.proofs.LayoutLaws.{Beside, Layout, laid-once, laid-beside}
 
 -- the word at index i is one of the heap, and of no block of the chain `all`

@@ -1,0 +1,87 @@
+-- A list of tests before an acceptance, as each call has one: where the tests decide the reasons, their numbers go up and no reason is left out,
+-- the first reason that holds is given (`judged-first`), and then nothing is changed (`judged-keeps`). Assumes nothing.
+use mathlib.Core.Path.{_≡_, refl, sym, ap}
+use mathlib.Core.Logic.{_↔_}
+use mathlib.Core.Bool.{Bool, true, false, false≢true}
+use mathlib.Core.List.{[], _∷_, map, List·Memᴰ·head, List·Memᴰ·tail, List·Memᴰ·not-nil}
+use Prim.Native.Nat.{ℕ, _<_}
+use native.Mathlib.Omega.{arith}
+use Rattle.lists.specs.Lists.{Mem}
+use Rattle.lists.proofs.ListsLaws.{Decides}
+use Rattle.record.specs.declared.answers.Answer.the-variants.{Refused}
+use Rattle.record.specs.declared.answers.Refusal.{Refusal}
+use Rattle.record.specs.declared.heap.Heap.{Heap}
+use Rattle.record.specs.Answers.{numberOf}
+use Rattle.rules.specs.Outcome.{Outcome, Refusals, refused, judged}
+use Rattle.promises.specs.Kept.{Accepted}
+
+-- the tests before an acceptance have failed
+abbrev pub Failed : Refusals → Type 0
+Failed [] = Unit {0}
+Failed (t ∷ ts) = (t .0 ≡ false) × Failed ts
+
+-- what holds of every refusal, and of the acceptance where the tests have failed, holds of what is given
+pub judged-so : (P : Outcome → Type 0) (h : Heap) (o : Outcome) (ts : Refusals)
+    → ((r : Refusal) → P (refused h r)) → (Failed ts → P o) → P (judged h ts o)
+judged-so P h o [] f g = g tt
+judged-so P h o ((true, r) ∷ ts) f g = f r
+judged-so P h o ((false, r) ∷ ts) f g = judged-so P h o ts f (λ k. g (refl, k))
+
+-- where no refusal is given the tests have failed
+pub accepted-made : (h : Heap) (o : Outcome) (ts : Refusals) → Accepted (judged h ts o .answer) → Failed ts × (judged h ts o ≡ o)
+accepted-made h o ts =
+    judged-so (λ x. Accepted (x .answer) → Failed ts × (x ≡ o)) h o ts (λ r a. absurd (a r refl)) (λ k a. (k, refl))
+
+-- the tests decide the reasons B, each where those before it do not hold
+abbrev pub Decided : (Refusal → Type 0) → Refusals → Type 0
+Decided B [] = Unit {0}
+Decided B (t ∷ ts) = Decides (t .0) (B (t .1)) × ((B (t .1) → ⊥) → Decided B ts)
+
+-- their numbers go up from n
+abbrev pub Rising : ℕ → Refusals → Type 0
+Rising n [] = Unit {0}
+Rising n (t ∷ ts) = (n < numberOf (t .1)) × Rising (numberOf (t .1)) ts
+
+-- they stand for all reasons
+abbrev pub Stands : (Refusal → Type 0) → Refusals → Type 0
+Stands B ts = (r : Refusal) → B r → Mem r (map (λ (t : Bool × Refusal). t .1) ts)
+
+-- r is the first of the reasons
+abbrev pub IsFirst : (Refusal → Type 0) → Refusal → Type 0
+IsFirst B r = B r × ((q : Refusal) → numberOf q < numberOf r → B q → ⊥)
+
+higher : (n : ℕ) (ts : Refusals) → Rising n ts → {r : Refusal} → Mem r (map (λ (t : Bool × Refusal). t .1) ts) → n < numberOf r
+higher n (t ∷ ts) u (List·Memᴰ·head e) = rw e (u .0)
+higher n (t ∷ ts) u (List·Memᴰ·tail m) = let a = higher (numberOf (t .1)) ts (u .1) m in omega (arith, u .0)
+
+module _ (B : Refusal → Type 0) (h : Heap) (o : Outcome) (accepted : Accepted (o .answer)) where
+  -- a list of tests that decide the reasons gives the first reason that holds
+  pub judged-first : (n : ℕ) (ts : Refusals) → Rising n ts → Stands B ts → Decided B ts
+      → (r : Refusal) → (judged h ts o .answer ≡ Refused r) ↔ IsFirst B r
+  judged-first n [] u s d r = (λ e. absurd (accepted r e), λ f. absurd (List·Memᴰ·not-nil (s r (f .0))))
+  judged-first n ((true, x) ∷ ts) u s d r =
+      let b = d .0 .0 refl in (
+        λ e. let q : r ≡ x = cc in rw q (b, λ y l k. lower y l (s y k)),
+        λ f. given f b (s r (f .0)),
+      )
+    where
+      lower : (y : Refusal) → numberOf y < numberOf x → Mem y (x ∷ map (λ (t : Bool × Refusal). t .1) ts) → ⊥
+      lower y l (List·Memᴰ·head e) = let q = ap numberOf e in omega arith
+      lower y l (List·Memᴰ·tail m) = let a = higher (numberOf x) ts (u .1) m in omega arith
+
+      given : IsFirst B r → B x → Mem r (x ∷ map (λ (t : Bool × Refusal). t .1) ts) → Refused x ≡ Refused r
+      given f b (List·Memᴰ·head e) = ap Refused (sym e)
+      given f b (List·Memᴰ·tail m) = absurd (f .1 x (higher (numberOf x) ts (u .1) m) b)
+  judged-first n ((false, x) ∷ ts) u s d r =
+      let none : B x → ⊥ = λ b. false≢true (d .0 .1 b) in
+      judged-first (numberOf x) ts (u .1) (λ y k. further none y k (s y k)) (d .1 none) r
+    where
+      further : (B x → ⊥) → (y : Refusal) → B y → Mem y (x ∷ map (λ (t : Bool × Refusal). t .1) ts) → Mem y (map (λ (t : Bool × Refusal). t .1) ts)
+      further none y k (List·Memᴰ·head e) = absurd (none (rw e at k))
+      further none y k (List·Memᴰ·tail m) = m
+
+  -- and then nothing is changed
+  pub judged-keeps : (ts : Refusals) (r : Refusal) → judged h ts o .answer ≡ Refused r
+      → (judged h ts o .heap ≡ h) × (judged h ts o .stores ≡ [])
+  judged-keeps ts r =
+      judged-so (λ x. x .answer ≡ Refused r → (x .heap ≡ h) × (x .stores ≡ [])) h o ts (λ q e. (refl, refl)) (λ _ e. absurd (accepted r e))
