@@ -105,6 +105,7 @@ fn ask(ours: &Ours, load: &Load, times: u64) -> u64 {
     times.min(load.steps.len() as u64)
 }
 
+#[cfg_attr(not(newlib), allow(unused_mut))]
 fn measure(kind: Kind, live: usize) -> Row {
     let load = load(live, 400_000 / (live + 200));
     let times = load.steps.len() as u64;

@@ -5,28 +5,32 @@ use crate::calls;
 use crate::damage::Victim;
 use crate::random::Random;
 use crate::settings;
-use crate::side::Entry;
+use crate::side::{Entry, Side};
 use crate::view::View;
-use kruzhvela::flat::{Answer, Record, BINS, SIZES};
+use kruzhvela::flat::{Answer, BINS, SIZES};
 use second::Call;
 
 /// Where a case is played.
 pub trait Stage {
     /// Does it; the answer, if it is a call.
     fn play(&mut self, entry: Entry) -> Option<Answer>;
-    fn region(&self) -> &[u32];
-    fn record(&self) -> &Record;
+
+    /// The heap by which the case chooses what comes next.
+    fn side(&self) -> &Side;
+
     /// True once there is no use in going on.
-    fn is_over(&self) -> bool;
+    fn is_over(&self) -> bool {
+        false
+    }
 }
 
 fn view(stage: &dyn Stage) -> View {
-    View::of(stage.region(), stage.record())
+    View::of(&stage.side().region, &stage.side().record)
 }
 
 /// The bin sizes that the record has.
 fn table(stage: &dyn Stage) -> Vec<u32> {
-    let record = stage.record();
+    let record = &stage.side().record;
     record[SIZES..SIZES + record[BINS].min(32) as usize].to_vec()
 }
 
@@ -41,7 +45,7 @@ fn foreign_write(stage: &mut dyn Stage, random: &mut Random) {
     // an odd word is as good as a place of the heap: a stale header must not be told from a right one by its looks
     let value =
         if random.bit() { random.word() } else { random.of(&[0, 1, 8, 9, 24, 73, chunk.place, chunk.place | 1]) };
-    if (index as usize) < stage.region().len() {
+    if (index as usize) < stage.side().region.len() {
         stage.play(Entry::Write { index: index as usize, value });
     }
 }
@@ -49,8 +53,8 @@ fn foreign_write(stage: &mut dyn Stage, random: &mut Random) {
 /// What the words that stores are to change hold now: played, they mend the damage.
 fn mending(stage: &dyn Stage, stores: &[Entry]) -> Vec<Entry> {
     let held = stores.iter().filter_map(|store| match *store {
-        Entry::Write { index, .. } => Some(Entry::Write { index, value: stage.region()[index] }),
-        Entry::Record { index, .. } => Some(Entry::Record { index, value: stage.record()[index] }),
+        Entry::Write { index, .. } => Some(Entry::Write { index, value: stage.side().region[index] }),
+        Entry::Record { index, .. } => Some(Entry::Record { index, value: stage.side().record[index] }),
         _ => None,
     });
     held.collect()
@@ -58,11 +62,11 @@ fn mending(stage: &dyn Stage, stores: &[Entry]) -> Vec<Entry> {
 
 /// Damages the heap and puts it to every call but setup; what mends it again.
 fn damaged(stage: &mut dyn Stage, random: &mut Random) -> Vec<Entry> {
-    let words = stage.region().len();
+    let words = stage.side().region.len();
     let (v, t) = (view(stage), table(stage));
     let mut stores = Vec::new();
     for _ in 0..random.between(1, 2) {
-        let victim = Victim { region: stage.region(), record: stage.record(), view: view(stage) };
+        let victim = Victim { region: &stage.side().region, record: &stage.side().record, view: view(stage) };
         stores.extend(victim.damage(random));
     }
     let mend = mending(stage, &stores);
@@ -84,7 +88,7 @@ fn play_all(stage: &mut dyn Stage, entries: Vec<Entry>) {
 const HEAP_FAILS: u32 = 4;
 
 fn set_up(stage: &mut dyn Stage, random: &mut Random) {
-    let call = calls::setup(stage.region().len(), random);
+    let call = calls::setup(stage.side().region.len(), random);
     stage.play(Entry::Call(call));
 }
 
@@ -101,7 +105,7 @@ fn run(stage: &mut dyn Stage, steps: u32, damage: bool, random: &mut Random) {
                 play_all(stage, mend);
             }
             _ => {
-                let call = calls::any(stage.region().len(), &view(stage), &table(stage), random);
+                let call = calls::any(stage.side().region.len(), &view(stage), &table(stage), random);
                 let answer = stage.play(Entry::Call(call));
                 if answer.is_some_and(|a| a[0] == HEAP_FAILS) && random.bit() {
                     set_up(stage, random);
@@ -113,13 +117,13 @@ fn run(stage: &mut dyn Stage, steps: u32, damage: bool, random: &mut Random) {
 
 /// Many small blocks, every third of them given back: a long chain and long lists.
 fn crowd(stage: &mut dyn Stage, random: &mut Random) {
-    for turn in 0..stage.region().len() as u32 / 7 {
+    for turn in 0..stage.side().region.len() as u32 / 7 {
         if stage.is_over() {
             return;
         }
         stage.play(Entry::Call(Call::Allocate { z: random.between(1, 24) }));
         if turn % 3 == 2 {
-            let place = random.below(stage.region().len() as u32 * 4) / 8 * 8;
+            let place = random.below(stage.side().region.len() as u32 * 4) / 8 * 8;
             let chunks = view(stage).live();
             if let Some(chunk) = chunks.iter().find(|c| c.place >= place) {
                 stage.play(Entry::Call(Call::Free { block: chunk.place + 8 }));

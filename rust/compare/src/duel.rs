@@ -2,7 +2,7 @@
 
 use crate::case::Stage;
 use crate::side::{Answers, Entry, Side};
-use kruzhvela::flat::{Answer, Record};
+use kruzhvela::flat::Answer;
 
 pub struct Duel {
     first: Side,
@@ -66,12 +66,8 @@ impl Stage for Duel {
         answers.0
     }
 
-    fn region(&self) -> &[u32] {
-        &self.first.region
-    }
-
-    fn record(&self) -> &Record {
-        &self.first.record
+    fn side(&self) -> &Side {
+        &self.first
     }
 
     fn is_over(&self) -> bool {

@@ -4,7 +4,7 @@
 
 use crate::case::{self, Stage};
 use crate::side::{Entry, Side};
-use kruzhvela::flat::{Answer, Record, BINS, BYTES, DONOR, MERGE, SIZES, TOP, USED};
+use kruzhvela::flat::{Answer, BINS, BYTES, DONOR, MERGE, SIZES, TOP, USED};
 use second::Call;
 
 /// The seed of the stored script, and how many cases it has beside the named ones.
@@ -202,16 +202,8 @@ impl Stage for Script {
         Some(answer)
     }
 
-    fn region(&self) -> &[u32] {
-        &self.side.region
-    }
-
-    fn record(&self) -> &Record {
-        &self.side.record
-    }
-
-    fn is_over(&self) -> bool {
-        false
+    fn side(&self) -> &Side {
+        &self.side
     }
 }
 

@@ -52,16 +52,8 @@ impl Stage for Tally {
         answer
     }
 
-    fn region(&self) -> &[u32] {
-        &self.side.region
-    }
-
-    fn record(&self) -> &Record {
-        &self.side.record
-    }
-
-    fn is_over(&self) -> bool {
-        false
+    fn side(&self) -> &Side {
+        &self.side
     }
 }
 
