@@ -1,7 +1,7 @@
 -- What a call leaves to C, from what its steps ensure: the reply's words, and the rule's outcome. Assumes nothing.
 use mathlib.Core.Path.{_≡_, refl, sym, ap, _∙_}
 use mathlib.Core.Bool.{Bool, true, false, cond}
-use mathlib.Core.List.{List, [], _∷_}
+use mathlib.Core.List.{List}
 use Prim.Native.Nat.{ℕ, _<_, _≤_}
 use lib.Dec.{eqb, ltb}
 use lib.ListN.{length, getD}
@@ -15,6 +15,7 @@ use Rattle.rules.specs.Ask.{chunkAnswers, binAnswers, askedSpot, isThere, askRe
 use Rattle.rules.specs.Draft.{asRead}
 use Rattle.rules.specs.Merge.{check}
 use Rattle.rules.specs.Outcome.{Outcome, Refusals, judged, heapFails}
+use Rattle.rules.proofs.OutcomeLaws.{judged-so}
 use Rattle.rules.specs.Statements.{Left, Meets}
 use Rattle.abi.specs.Flat.{mergePlace, recordIn, recordOut, answerOut, refusalOut}
 use Rattle.abi.specs.Handed.{handed, handedBy, openedBy, flatAfter}
@@ -83,9 +84,7 @@ module _ (ws rs : List ℕ) where
 
 -- the check and the questions leave the record as it is, refused or not
 judged-stays : (h : Heap) (ts : Refusals) (o : Outcome) → o .heap ≡ h → judged h ts o .heap ≡ h
-judged-stays h [] o e = e
-judged-stays h ((true, x) ∷ ts) o e = refl
-judged-stays h ((false, x) ∷ ts) o e = judged-stays h ts o e
+judged-stays h ts o e = judged-so (λ x. x .heap ≡ h) h o ts (λ r. refl) (λ _. e)
 
 pub check-stays : (ws : List ℕ) (h : Heap) → check ws h .heap ≡ h
 unfolding check

@@ -37,6 +37,7 @@ use Rattle.rules.specs.Statements.{Left, leftBy}
 use Rattle.rules.specs.Calls.{Call, Setup, Allocate, AllocateCleared, Free, Reallocate, SetMerge, Check, AskChunk, AskBin, step}
 use Rattle.rules.proofs.CheckLaws.{passes-iff}
 use Rattle.rules.proofs.SpotLaws.{inside}
+use Rattle.rules.proofs.OutcomeLaws.{Failed, judged-so}
 use Rattle.settling.proofs.FillLaws.{Within}
 use Rattle.promises.specs.Ways.{ours}
 use Rattle.promises.specs.Room.{OnChain, HoldsBlock}
@@ -44,7 +45,7 @@ use Rattle.promises.specs.Refused.{isSetup, recordOf}
 use Rattle.promises.specs.Apart.{SameWords, Keeps, KeepsAll, KeepsOthers, Gone, NoneNew, NoneNewBut, New, Clear, Stays, onlyLooks, Apart}
 use Rattle.promises.proofs.RefusedLaws.{refusing}
 use Rattle.promises.proofs.GrantedLaws.{kept-still, new-apart, new-clear, cleared-within, others-kept, none-others, moved-apart}
-use Rattle.promises.proofs.JudgedLaws.{Failed, judged-so, accepted-made}
+use Rattle.promises.proofs.JudgedLaws.{accepted-made}
 use Rattle.promises.proofs.ReasonLaws.{live-iff, one-block, here-holds}
 
 -- a call that granted a block was not refused: its tests failed, and the outcome is what it made

@@ -35,6 +35,7 @@ use Rattle.rules.specs.Ask.{askChunk, askBin, chunkAnswers, askedSpot, isAsked,
 use Rattle.rules.specs.Calls.{Call, Setup, Allocate, AllocateCleared, Free, Reallocate, SetMerge, Check, AskChunk, AskBin, step}
 use Rattle.rules.proofs.CheckLaws.{passes-iff}
 use Rattle.rules.proofs.SpotLaws.{inside}
+use Rattle.rules.proofs.OutcomeLaws.{Failed, judged-so}
 use Rattle.opening.proofs.LayoutLaws.{first-below}
 use Rattle.settling.proofs.FillLaws.{Within, filled-within}
 use Rattle.grant.proofs.GrantedChunk.{grantedWords, kept, new-there}
@@ -43,7 +44,6 @@ use Rattle.grant.proofs.NeedLaws.{need-large, need-eight}
 use Rattle.release.proofs.ReleaseMeaning.{splits}
 use Rattle.release.proofs.ReleaseSpares.{free-inside, shrink-inside}
 use Rattle.resize.proofs.MovedLaws.{fits, copiedOver, copiedWords, copiedHeap, copied-passes, live-again, again-is}
-use Rattle.promises.proofs.JudgedLaws.{Failed, judged-so}
 use Rattle.promises.proofs.ReasonLaws.{Fitting, fitting-iff, length-in}
 
 -- what is written into a block is below its end

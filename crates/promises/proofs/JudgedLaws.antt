@@ -12,20 +12,9 @@ use Rattle.record.specs.declared.answers.Answer.the-variants.{Refused}
 use Rattle.record.specs.declared.answers.Refusal.{Refusal}
 use Rattle.record.specs.declared.heap.Heap.{Heap}
 use Rattle.record.specs.Answers.{numberOf}
-use Rattle.rules.specs.Outcome.{Outcome, Refusals, refused, judged}
+use Rattle.rules.specs.Outcome.{Outcome, Refusals, judged}
+use Rattle.rules.proofs.OutcomeLaws.{Failed, judged-so}
 use Rattle.promises.specs.Kept.{Accepted}
-
--- the tests before an acceptance have failed
-abbrev pub Failed : Refusals → Type 0
-Failed [] = Unit {0}
-Failed (t ∷ ts) = (t .0 ≡ false) × Failed ts
-
--- what holds of every refusal, and of the acceptance where the tests have failed, holds of what is given
-pub judged-so : (P : Outcome → Type 0) (h : Heap) (o : Outcome) (ts : Refusals)
-    → ((r : Refusal) → P (refused h r)) → (Failed ts → P o) → P (judged h ts o)
-judged-so P h o [] f g = g tt
-judged-so P h o ((true, r) ∷ ts) f g = f r
-judged-so P h o ((false, r) ∷ ts) f g = judged-so P h o ts f (λ k. g (refl, k))
 
 -- where no refusal is given the tests have failed
 pub accepted-made : (h : Heap) (o : Outcome) (ts : Refusals) → Accepted (judged h ts o .answer) → Failed ts × (judged h ts o ≡ o)

@@ -33,6 +33,7 @@ use Rattle.rules.specs.Reallocate.{shrunk, moved, resized, resize, reallocate, 
 use Rattle.rules.specs.Merge.{setMerge, checked, check}
 use Rattle.rules.specs.Ask.{askChunk, askBin, chunkAnswers, askedSpot, isThere, binAnswers, askRefusals, asked}
 use Rattle.rules.specs.Calls.{Call, Setup, Allocate, AllocateCleared, Free, Reallocate, SetMerge, Check, AskChunk, AskBin, State, recordAfter, step}
+use Rattle.rules.proofs.OutcomeLaws.{Failed, judged-so}
 use Rattle.settling.proofs.FillLaws.{Within, filled-within, fills}
 use Rattle.promises.specs.Ways.{ours}
 use Rattle.promises.specs.Kept.{Passing, Accepted, OnLiveBlocks, afterStores, Keeping}
@@ -41,7 +42,7 @@ use Rattle.release.proofs.ReleaseMeaning.{splits}
 use Rattle.promises.specs.Room.{OnChain}
 use Rattle.grant.proofs.GrantedChunk.{given, filled}
 use Rattle.resize.proofs.MovedLaws.{copiedWords, copiedHeap, copied-passes, live-again, again-is, moved-words}
-use Rattle.promises.proofs.JudgedLaws.{Failed, judged-so, accepted-made}
+use Rattle.promises.proofs.JudgedLaws.{accepted-made}
 use Rattle.promises.proofs.ReasonLaws.{fitting-iff, length-in}
 
 -- what an outcome leaves for the next call

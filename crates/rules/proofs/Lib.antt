@@ -2,6 +2,7 @@ pub mod ShapeLaws
 pub mod ChainLaws
 pub mod KindsLaws
 pub mod CheckLaws
+pub mod OutcomeLaws
 pub mod TiledLaws
 pub mod SpotLaws
 pub mod HeadersLaws

@@ -6,7 +6,6 @@ use crate::peers::{Allocator, Glibc, Kruzhvela};
 #[cfg(newlib)]
 use crate::peers::{NewlibFull, NewlibNano};
 use kruzhvela::flat;
-use std::cell::RefCell;
 use std::hint::black_box;
 
 #[derive(Clone, Copy, Debug, PartialEq, Eq)]
@@ -26,26 +25,33 @@ pub const LIVE: [usize; 3] = [20, 200, 2_000];
 
 const BINS: [u32; 12] = [24, 32, 40, 48, 56, 64, 104, 168, 248, 488, 968, 1_928];
 
-/// Nanoseconds of a step, and what they are made of.
+/// Nanoseconds of a step of the load, and what they are made of.
 pub struct Row {
     pub kind: Kind,
     pub live: usize,
     pub ours: f64,
-    /// All checks of a step, by the check's own call on the same heap.
-    pub check: f64,
-    /// The walk that finds a live block: a question about it, less the check.
+    /// The walk that finds a live block, and what is neither check nor walk: measured on a steady heap.
     pub walk: f64,
-    /// The others, by name.
-    pub peers: Vec<(&'static str, f64)>,
+    pub rest: f64,
+    pub peers: Vec<Peer>,
+}
+
+/// Another allocator: nanoseconds of a step of the load, and of a step on a steady heap.
+pub struct Peer {
+    pub name: &'static str,
+    pub step: f64,
+    pub steady: f64,
 }
 
 impl Row {
-    pub fn rest(&self) -> f64 {
-        self.ours - self.check - self.walk
+    /// What the checks take in the run, where the heap is another at each step.
+    pub fn check(&self) -> f64 {
+        self.ours - self.walk - self.rest
     }
 }
 
 /// An allocator with the blocks that it holds.
+#[derive(Clone)]
 struct Station<A> {
     allocator: A,
     slots: Vec<usize>,
@@ -85,58 +91,126 @@ impl<A: Allocator> Station<A> {
     }
 }
 
-type Ours = RefCell<Station<Kruzhvela>>;
-
-fn check(ours: &Ours, times: u64) -> u64 {
-    let heap = &mut ours.borrow_mut().allocator;
-    for _ in 0..times {
-        black_box(flat::check(black_box(&mut heap.region), &mut heap.record));
+/// A step that brings the heap back to where it was: the youngest strip goes and comes, or grows and shrinks again.
+/// So the check, which is the greater part of a call, can be measured by itself on the very states that the step meets.
+impl<A: Allocator> Station<A> {
+    fn leave(&mut self, kind: Kind, load: &Load) {
+        let slot = self.slots.len() - 1;
+        match kind {
+            Kind::Reallocate => self.slots[slot] = self.allocator.reallocate(self.slots[slot], 2 * load.first[slot]),
+            _ => self.allocator.free(self.slots[slot]),
+        }
     }
-    times
+
+    fn come_back(&mut self, kind: Kind, load: &Load) {
+        let slot = self.slots.len() - 1;
+        let bytes = load.first[slot];
+        self.slots[slot] = match kind {
+            Kind::Reallocate => self.allocator.reallocate(self.slots[slot], bytes),
+            Kind::AllocateFree => self.allocator.allocate(bytes),
+            Kind::ClearedFree => self.allocator.cleared(bytes),
+        };
+    }
+
+    fn steady(&mut self, kind: Kind, load: &Load) -> u64 {
+        for _ in 0..STEADY {
+            self.leave(kind, load);
+            self.come_back(kind, load);
+        }
+        STEADY
+    }
 }
 
-/// Which chunk a live block has: the check, and the walk that finds it. Blocks are asked for as the load meets them.
-fn ask(ours: &Ours, load: &Load, times: u64) -> u64 {
-    let station = &mut *ours.borrow_mut();
-    for step in load.steps.iter().take(times as usize) {
-        let (heap, block) = (&mut station.allocator, station.slots[step.slot] as u32);
-        black_box(flat::ask_chunk(black_box(&mut heap.region), &mut heap.record, 3, block));
+/// Steady steps in a round.
+const STEADY: u64 = 2_520;
+
+fn check(heap: &mut Kruzhvela) -> u64 {
+    for _ in 0..STEADY {
+        black_box(flat::check(black_box(&mut heap.region), &mut heap.record));
     }
-    times.min(load.steps.len() as u64)
+    STEADY
+}
+
+/// Which chunk a live block has: the check, and the walk that finds it.
+fn ask(heap: &mut Kruzhvela, block: usize) -> u64 {
+    for _ in 0..STEADY {
+        black_box(flat::ask_chunk(black_box(&mut heap.region), &mut heap.record, 3, block as u32));
+    }
+    STEADY
+}
+
+/// A steady step of ours, taken apart, and the peers' steady steps.
+struct Parts {
+    walk: f64,
+    rest: f64,
+    peers: Vec<f64>,
+}
+
+/// Of a reallocate a steady step has two: the strip grows, and it shrinks.
+fn parts(kind: Kind, mut station: Station<Kruzhvela>, load: &Load, peers: Vec<Work>) -> Parts {
+    station.steady(kind, load);
+    let settled = station.allocator.clone();
+    station.steady(kind, load);
+    assert!(settled == station.allocator, "the heap is steady: {kind:?} {}", load.first.len());
+    let mut left = station.clone();
+    left.leave(kind, load);
+    let (here, there) = (station.slots[station.slots.len() - 1], left.slots[left.slots.len() - 1]);
+    let (mut one, mut other) = (station.allocator.clone(), left.allocator.clone());
+    let (mut asked, mut gone) = (station.allocator.clone(), left.allocator);
+    let mut works: Vec<Work> = vec![
+        Box::new(|| station.steady(kind, load)),
+        Box::new(|| check(&mut one)),
+        Box::new(|| check(&mut other)),
+        Box::new(|| ask(&mut asked, here)),
+        Box::new(|| ask(&mut gone, there)),
+    ];
+    works.extend(peers);
+    let times = interleaved(works);
+    let calls = if kind == Kind::Reallocate { 2.0 } else { 1.0 };
+    // a strip that went has no block to be found
+    let second = if kind == Kind::Reallocate { times[4] - times[2] } else { 0.0 };
+    let walks = times[3] - times[1] + second;
+    Parts {
+        walk: walks / calls,
+        rest: (times[0] - times[1] - times[2] - walks) / calls,
+        peers: times[5..].iter().map(|time| time / calls).collect(),
+    }
 }
 
 #[cfg_attr(not(newlib), allow(unused_mut))]
 fn measure(kind: Kind, live: usize) -> Row {
     let load = load(live, 400_000 / (live + 200));
-    let times = load.steps.len() as u64;
-    let ours: Ours = RefCell::new(Station::new(Kruzhvela::new(16_384, &BINS, 0, true), &load));
+    let mut ours = Station::new(Kruzhvela::new(16_384, &BINS, 0, true), &load);
     let mut glibc = Station::new(Glibc, &load);
     #[cfg(newlib)]
     let (mut full, mut nano) = (Station::new(NewlibFull, &load), Station::new(NewlibNano, &load));
 
     let mut names = vec!["glibc"];
-    let mut works: Vec<Work> = vec![
-        Box::new(|| ours.borrow_mut().run(kind, &load)),
-        Box::new(|| check(&ours, times)),
-        Box::new(|| ask(&ours, &load, times)),
-        Box::new(|| glibc.run(kind, &load)),
-    ];
+    let mut works: Vec<Work> = vec![Box::new(|| glibc.steady(kind, &load))];
     #[cfg(newlib)]
     {
         names.extend(["newlib", "newlib nano"]);
+        works.push(Box::new(|| full.steady(kind, &load)));
+        works.push(Box::new(|| nano.steady(kind, &load)));
+    }
+    let parts = parts(kind, ours.clone(), &load, works);
+
+    let mut works: Vec<Work> = vec![Box::new(|| ours.run(kind, &load)), Box::new(|| glibc.run(kind, &load))];
+    #[cfg(newlib)]
+    {
         works.push(Box::new(|| full.run(kind, &load)));
         works.push(Box::new(|| nano.run(kind, &load)));
     }
-    let times = interleaved(works);
+    let steps = interleaved(works);
     glibc.end();
     #[cfg(newlib)]
     {
         full.end();
         nano.end();
     }
-    let checks = if kind == Kind::Reallocate { 1.0 } else { 2.0 };
-    let peers = names.into_iter().zip(times[3..].iter().copied()).collect();
-    Row { kind, live, ours: times[0], check: checks * times[1], walk: times[2] - times[1], peers }
+    let peers = names.into_iter().zip(steps[1..].iter().zip(&parts.peers));
+    let peers = peers.map(|(name, (&step, &steady))| Peer { name, step, steady }).collect();
+    Row { kind, live, ours: steps[0], walk: parts.walk, rest: parts.rest, peers }
 }
 
 pub fn rows() -> Vec<Row> {

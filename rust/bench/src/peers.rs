@@ -12,6 +12,7 @@ pub trait Allocator {
 }
 
 /// The proved heap, by the calls that C makes.
+#[derive(Clone, PartialEq, Eq)]
 pub struct Kruzhvela {
     pub region: Vec<u32>,
     pub record: Record,

@@ -49,30 +49,29 @@ pub fn checks(rows: &[checks::Row]) -> String {
     text
 }
 
-/// How many times as long as the peer; a peer that was not built is left out.
-fn to_peers(row: &calls::Row, time: f64) -> String {
-    let ratios: Vec<String> = row.peers.iter().map(|(_, peer)| format!("{:.1}", time / peer)).collect();
-    ratios.join(" | ")
-}
-
 pub fn calls(rows: &[calls::Row]) -> String {
-    let names: Vec<&str> = rows[0].peers.iter().map(|(name, _)| *name).collect();
-    let (all, rest) = (names.join(" | "), names.iter().map(|n| format!("rest to {n}")).collect::<Vec<_>>().join(" | "));
-    let mut text = format!("| Load | live | step | check | walk | rest | {all} | {rest} |\n");
+    let names: Vec<&str> = rows[0].peers.iter().map(|peer| peer.name).collect();
+    let rest: Vec<String> = names.iter().map(|name| format!("rest to {name}")).collect();
+    let mut text =
+        format!("| Load | live | step | check | walk | rest | {} | {} |\n", names.join(" | "), rest.join(" | "));
     let _ = writeln!(text, "|---|---|---|---|---|---|{}", "---|".repeat(2 * names.len()));
     for (kind, name) in KINDS {
         for live in LIVE {
             for row in rows.iter().filter(|row| row.kind == kind && row.live == live) {
                 let part = |time: f64| format!("{:.0} %", 100.0 * time / row.ours);
+                let steps: Vec<String> = row.peers.iter().map(|peer| format!("{:.1}", row.ours / peer.step)).collect();
+                let rests: Vec<String> =
+                    row.peers.iter().map(|peer| format!("{:.1}", row.rest / peer.steady)).collect();
                 let _ = writeln!(
                     text,
-                    "| {name} | {live} | {:.0} ns | {} | {} | {:.0} ns | {} | {} |",
+                    "| {name} | {live} | {:.0} ns | {} | {} | {} ({:.0} ns) | {} | {} |",
                     row.ours,
-                    part(row.check),
+                    part(row.check()),
                     part(row.walk),
-                    row.rest(),
-                    to_peers(row, row.ours),
-                    to_peers(row, row.rest())
+                    part(row.rest),
+                    row.rest,
+                    steps.join(" | "),
+                    rests.join(" | ")
                 );
             }
         }
@@ -92,8 +91,9 @@ pub fn whole(checked: &[checks::Row], called: &[calls::Row]) -> String {
          The peer (`rust/bench/c/limit.c`) reads the same words and keeps the same marks, in C. Aim: at most 1.20, and a growth of at most 1.10.\n\n{}\n\
          ## The calls, to other allocators\n\n\
          newlib's two allocators have one fixed arena of 65,536 bytes each, as the heap has; glibc's has what the system gives. \
-         A step is one strip going and one coming (reallocate: one getting another size). Of the proved heap's step, the check and the walk that finds a live block \
-         are measured by their own calls on the same heap; the rest is what remains. Its aim: not slower than newlib's.\n\n{missing}{}",
+         A step is one strip going and one coming (reallocate: one getting another size). \
+         The walk that finds a live block and the rest are measured on a heap that comes back to the same state at each step, where the check can be measured by itself \
+         on those states; what remains of a step of the load is its checks. The rest is set against the peers' steps on such a heap. Its aim: not slower than newlib's.\n\n{missing}{}",
         machine(),
         checks(checked),
         calls(called)

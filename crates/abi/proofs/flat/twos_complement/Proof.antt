@@ -1,5 +1,4 @@
 -- `flat::twos_complement` is the number modulo 2 ^ 32. Assumes nothing.
-use borrow.Author.Needs.{needs}
 use Rattle.abi.proofs.ComplementLaws.{plain-held, wide-held, raised-fits, raised-held}
 use Rattle.abi.proofs.flat.twos_complement.Statement.{statement}
 use Rattle.abi.proofs.flat.twos_complement.Tie as tie
