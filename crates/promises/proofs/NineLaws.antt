@@ -103,7 +103,9 @@ module _ (ws : List ℕ) (h : Heap) where
       let p = passing (Reallocate b z) refl u in
       let live = is-live ws h p b l (λ n. u NotLive (omega arith) (reallocateNotLive n)) in
       let some = live-iff ws h b .0 live in
-      false≢true (sym (resized-housed ws h p b z live (λ less n. u NoRoom (omega arith) (reallocateRoom {z = z} (λ e k. rw (one-block ws h p b e (here ws h p b some) k (here-holds ws h p b some)) less, n)))) ∙ w)
+      let outgrown : here ws h p b some .size < need overhead z → (e : Entry) → HoldsBlock ws h b e → e .size < need overhead z
+      = λ less e k. rw (one-block ws h p b e (here ws h p b some) k (here-holds ws h p b some)) less in
+      false≢true (sym (resized-housed ws h p b z live (λ less n. u NoRoom (omega arith) (reallocateRoom (outgrown less, n)))) ∙ w)
 
 pub never-nine : NeverNine ours
 never-nine call ws h e = let f = refusing .exactly call ws h NoBinTakes .0 e in none-bins ws h call (f .because) (f .before)

@@ -193,6 +193,14 @@ module _ (t : List ℕ) (v : ValidTable t) where
       go (Bin i) e k = (i, e, k)
       go NoBin e k = let a = k 0 (omega (arith, v .some)) in absurd (omega (arith, v .first))
 
+  -- a smaller size has none
+  pub bin-none : (s : ℕ) → s < 24 → binOf t s ≡ NoBin
+  bin-none s h = sym (bin-is t s NoBin above)
+    where
+      above : (i : ℕ) → i < length t → s < sizeAt t i
+      above zero l = omega (arith, v .first)
+      above (suc i) l = let a = table-up 0 (suc i) (omega arith) l in omega (arith, v .first)
+
   -- the small array: the bin of a size is found by division
   pub bin-small : (s : ℕ) → 24 ≤ s → s < 24 + 8 * smallBins t → binOf t s ≡ Bin (s / 8 - 3)
   bin-small s lo hi = sym (bin-is t s (Bin (s / 8 - 3)) taken)

@@ -14,7 +14,8 @@ returns-2 c =
     let read = called .before .before in
     let well = read .before .before in
     let a = well .before .before .before .args in
-    tells (a .region .now) (a .state .now) (read .unpack .ensures .1) (well .if1 .left) (λ h. askBin (a .region .now) h (a .question) (a .bin)) (bin-stays (a .region .now) (a .question) (a .bin)) _ _ _ _ _
+    tells (a .region .now) (a .state .now) (read .unpack .ensures .1) (well .if1 .left)
+    (λ h. askBin (a .region .now) h (a .question) (a .bin)) (bin-stays (a .region .now) (a .question) (a .bin)) _ _ _ _ _
     (read .unpack .ensures .0) (called .ask-bin .ensures) (c .tell .ensures)
 
 pub kz-ask-bin-spec : {M : Type 1} → statement M

@@ -14,7 +14,8 @@ returns-2 c =
     let read = called .before .before in
     let well = read .before .before in
     let a = well .before .before .before .args in
-    tells (a .region .now) (a .state .now) (read .unpack .ensures .1) (well .if1 .left) (λ h. check (a .region .now) h) (check-stays (a .region .now)) _ _ _ _ _
+    tells (a .region .now) (a .state .now) (read .unpack .ensures .1) (well .if1 .left)
+    (λ h. check (a .region .now) h) (check-stays (a .region .now)) _ _ _ _ _
     (read .unpack .ensures .0) (called .check .ensures) (c .tell .ensures)
 
 pub kz-check-spec : {M : Type 1} → statement M
