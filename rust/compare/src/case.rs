@@ -42,7 +42,7 @@ fn foreign_write(stage: &mut dyn Stage, random: &mut Random) {
     }
     let chunk = random.of(&live);
     let index = chunk.place / 4 + 2 + random.below((chunk.size / 4).saturating_sub(2).max(1));
-    // an odd word is as good as a place of the heap: a stale header must not be told from a right one by its looks
+    // half of them look like words of a header: a heap must not be misled by what a block holds
     let value =
         if random.bit() { random.word() } else { random.of(&[0, 1, 8, 9, 24, 73, chunk.place, chunk.place | 1]) };
     if (index as usize) < stage.side().region.len() {
