@@ -48,22 +48,21 @@ impl Victim<'_> {
         }
     }
 
-    fn ordinary(&self, random: &mut Random) -> Chunk {
-        let ordinary = self.view.ordinary();
-        if ordinary.is_empty() {
+    /// One of these, or any chunk where there are none.
+    fn one_of(&self, chunks: Vec<Chunk>, random: &mut Random) -> Chunk {
+        if chunks.is_empty() {
             self.chunk(random)
         } else {
-            random.of(&ordinary)
+            random.of(&chunks)
         }
     }
 
+    fn ordinary(&self, random: &mut Random) -> Chunk {
+        self.one_of(self.view.ordinary(), random)
+    }
+
     fn live(&self, random: &mut Random) -> Chunk {
-        let live = self.view.live();
-        if live.is_empty() {
-            self.chunk(random)
-        } else {
-            random.of(&live)
-        }
+        self.one_of(self.view.live(), random)
     }
 
     fn bin(&self, random: &mut Random) -> usize {
