@@ -12,7 +12,7 @@ fn setup(region: &mut [u32], state: &mut [u32; 102], args: [u32; 64]) -> [u32; 5
     answer
 }
 
-pub fn allocate(region: &mut [u32], state: &mut [u32; 102], z: u32) -> [u32; 5] {
+fn allocate(region: &mut [u32], state: &mut [u32; 102], z: u32) -> [u32; 5] {
     let mut answer = [0; 5];
     abi::kz_allocate(region, state, z, &mut answer);
     answer

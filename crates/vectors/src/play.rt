@@ -3,7 +3,6 @@
 ghost use mathlib.Core.Path.{_≡_};
 ghost use Prim.Native.Nat.{_≤_};
 ghost use lib.ListN.{length};
-use crate::calls::allocate;
 use crate::calls::call;
 use crate::digest::START;
 use crate::digest::digest;
@@ -21,8 +20,6 @@ const WRITE: u32 = 10;
 
 const RECORD: u32 = 11;
 
-const ALLOCATE_EACH: u32 = 12;
-
 fn space() -> [u32; 16400]
     ensures { λ r. ⌜ 16400 ≡ length r ⌝ }
 {
@@ -39,26 +36,11 @@ fn new_region(words: u32, seed: u32, space: &mut [u32], state: &mut [u32; 102]) 
     count
 }
 
-fn digest_after(start: u32, answer: [u32; 5], state: &[u32; 102], region: &[u32]) -> u32 {
-    let said = digest(start, &answer);
-    digest(digest(said, state), region)
-}
-
-fn print_digest(d: u32) {
-    print_decimal(1, d as u64);
+fn print_digest(answer: [u32; 5], state: &[u32; 102], region: &[u32]) {
+    let said = digest(START, &answer);
+    let all = digest(digest(said, state), region);
+    print_decimal(1, all as u64);
     write_all(1, b"\n");
-}
-
-// One digest of what stands after each size from the first to the last was asked for, one after the other.
-fn allocate_each(first: u32, last: u32, region: &mut [u32], state: &mut [u32; 102]) -> u32 {
-    let mut d = START;
-    let mut z = first as u64;
-    while z <= last as u64 {
-        let answer = allocate(region, state, z as u32);
-        d = digest_after(d, answer, state, region);
-        z += 1;
-    }
-    d
 }
 
 // Every entry but a new region.
@@ -71,16 +53,12 @@ fn apply(op: u32, args: [u32; 64], region: &mut [u32], state: &mut [u32; 102]) {
         put(state, args[0], args[1]);
         return;
     }
-    if op == ALLOCATE_EACH {
-        print_digest(allocate_each(args[0], args[1], region, state));
-        return;
-    }
-    if op > ALLOCATE_EACH {
+    if op > RECORD {
         write_all(1, b"unknown\n");
         return;
     }
     let answer = call(op, args, region, state);
-    print_digest(digest_after(START, answer, state, region));
+    print_digest(answer, state, region);
 }
 
 pub fn play(script: &[u8]) {

@@ -1,5 +1,5 @@
 //! A case: a heap of its own settings, a run of calls with foreign writes into live blocks between them, and, in five
-//! of eight cases, damage that is put to every call and mended again. What comes next is chosen by the heap as it stands.
+//! of eight cases, damage that is put to every call. What comes next is chosen by the heap as it stands.
 
 use crate::calls;
 use crate::damage::Victim;
@@ -50,38 +50,22 @@ fn foreign_write(stage: &mut dyn Stage, random: &mut Random) {
     }
 }
 
-/// What the words that stores are to change hold now: played, they mend the damage.
-fn mending(stage: &dyn Stage, stores: &[Entry]) -> Vec<Entry> {
-    let held = stores.iter().filter_map(|store| match *store {
-        Entry::Write { index, .. } => Some(Entry::Write { index, value: stage.side().region[index] }),
-        Entry::Record { index, .. } => Some(Entry::Record { index, value: stage.side().record[index] }),
-        _ => None,
-    });
-    held.collect()
-}
-
-/// Damages the heap and puts it to every call but setup; what mends it again.
-fn damaged(stage: &mut dyn Stage, random: &mut Random) -> Vec<Entry> {
+/// Damages the heap and puts it to every call, setup last, since it makes a new heap of it.
+fn damaged(stage: &mut dyn Stage, random: &mut Random) {
     let words = stage.side().region.len();
     let (v, t) = (view(stage), table(stage));
-    let mut stores = Vec::new();
     for _ in 0..random.between(1, 2) {
-        let victim = Victim { region: &stage.side().region, record: &stage.side().record, view: view(stage) };
-        stores.extend(victim.damage(random));
+        let side = stage.side();
+        let stores = Victim { region: &side.region, record: &side.record, view: view(stage) }.damage(random);
+        for store in stores {
+            stage.play(store);
+        }
     }
-    let mend = mending(stage, &stores);
-    play_all(stage, stores);
     for number in 1..9 {
         let call = calls::numbered(number, words, &v, &t, random);
         stage.play(Entry::Call(call));
     }
-    mend
-}
-
-fn play_all(stage: &mut dyn Stage, entries: Vec<Entry>) {
-    for entry in entries {
-        stage.play(entry);
-    }
+    set_up(stage, random);
 }
 
 /// The number of a damaged heap, which is set up again before long.
@@ -99,11 +83,7 @@ fn run(stage: &mut dyn Stage, steps: u32, damage: bool, random: &mut Random) {
         }
         match random.below(24) {
             0 | 1 => foreign_write(stage, random),
-            2 if damage => {
-                // a call that was accepted all the same has changed the heap, and what mended it is damage now
-                let mend = damaged(stage, random);
-                play_all(stage, mend);
-            }
+            2 if damage => damaged(stage, random),
             _ => {
                 let call = calls::any(stage.side().region.len(), &view(stage), &table(stage), random);
                 let answer = stage.play(Entry::Call(call));
@@ -146,7 +126,6 @@ pub fn play(number: u64, seed: u64, stage: &mut dyn Stage) {
     run(stage, steps, damage, &mut random);
     if damage {
         damaged(stage, &mut random);
-        set_up(stage, &mut random);
     }
     stage.play(Entry::Call(Call::Check));
 }

@@ -61,9 +61,6 @@ fn line(entry: &Entry) -> (u32, Vec<u32>) {
     }
 }
 
-/// Every size from the first to the last is allocated, and one digest told of all.
-const ALLOCATE_EACH: u32 = 12;
-
 impl Script {
     fn new() -> Script {
         Script {
@@ -110,17 +107,6 @@ impl Script {
 
     fn tell(&mut self, digest: u32) {
         self.transcript += &format!("{digest}\n");
-    }
-
-    fn allocate_each(&mut self, first: u32, last: u32) {
-        self.write_line(ALLOCATE_EACH, &[first, last]);
-        let mut digest = DIGEST_OF_NOTHING;
-        for z in first..=last {
-            let answer = self.side.play(&Entry::Call(Call::Allocate { z }));
-            digest = self.digest_after(digest, answer.unwrap_or_default());
-            self.calls += 1;
-        }
-        self.tell(digest);
     }
 
     fn call(&mut self, call: Call) {
@@ -181,7 +167,9 @@ impl Script {
             self.call(Call::Check);
         }
         self.heap("every size of a heap of 10 words", 10, &[24], 0);
-        self.allocate_each(0, MOST_BYTES + 1);
+        for z in 0..=MOST_BYTES + 1 {
+            self.call(Call::Allocate { z });
+        }
         self.heap("the table 24", 64, &[24], 0);
         self.call(Call::Allocate { z: 40 });
         self.heap("the table 24, 0xFFFFFFFF", 64, &[24, 0xFFFF_FFFF], 0);
