@@ -110,6 +110,7 @@ fn crowd(stage: &mut dyn Stage, random: &mut Random) {
             }
         }
     }
+    stage.play(Entry::Call(Call::Check));
 }
 
 /// The case of a number, from a seed. Both settle all that it does.
