@@ -5,9 +5,6 @@ use Rattle.audit.proofs.ChunkLaws.{found-unbacked, found-unsound, found
 use Rattle.audit.proofs.chunks.examine.Statement.{statement}
 use Rattle.audit.proofs.chunks.examine.Tie as tie
 
-returns : tie.Need-returns
-returns c = found-unbacked _ _ _ _ _ _ _ (c .before .before .word .ensures) (c .before .is-backed .ensures) (not-true _ (c .if1 .taken))
-
 returns-2 : tie.Need-returns-2
 returns-2 c =
     let kind = c .before .before in
@@ -21,6 +18,9 @@ returns-3 c =
     let backed = kind .before .before in
     found-sound _ _ _ _ _ _ _ (backed .before .word .ensures) (backed .is-backed .ensures) (kind .kind-of .ensures _) (c .before .is-sound .ensures)
     (not-false _ (kind .before .if1 .left)) (not-false _ (c .if2 .left))
+
+returns : tie.Need-returns
+returns c = found-unbacked _ _ _ _ _ _ _ (c .before .before .word .ensures) (c .before .is-backed .ensures) (not-true _ (c .if1 .taken))
 
 pub examine-spec : {M : Type 1} → statement M
 examine-spec =
