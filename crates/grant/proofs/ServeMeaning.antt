@@ -24,14 +24,17 @@ use Rattle.rules.proofs.SpotLaws.{bounds, inside, used-few}
 use Rattle.settling.specs.Settling.{donorAfter, topAfter}
 use Rattle.settling.proofs.DraftLaws.{booksOf}
 use Rattle.grant.specs.Cut.{grantedM, cutM, takeM}
-use Rattle.grant.specs.Serve.{kindIn, Leaves, leaves, takenM, servedM}
+use Rattle.grant.specs.Serve.{kindIn, Leaves, leaves, takenM, serveM, servedM}
 use Rattle.grant.proofs.SourceLaws.{CanGrant, free-source, source-can}
 use Rattle.grant.proofs.CutMeaning.{Serving, Taken, chunk-taken}
 
--- what the code hands back of the rule's grant
+-- what is left where the rule's grant was written, with this record and this chunk
+abbrev granting : List ℕ → Grant → Heap → Entry → Leaves
+granting ws g h e = record { words = written ws (g .draft .stores); heap = h; chunk = at (e .place); size = e .size }
+
+-- the rule's grant, as the code hands it back
 abbrev pub handed : List ℕ → Grant → Leaves
-handed ws g =
-    leaves (written ws (g .draft .stores)) (record { heap = g .draft .heap; chunk = at (g .granted .place); size = g .granted .size })
+handed ws g = granting ws g (g .draft .heap) (g .granted)
 
 granted-few : (n s : ℕ) → n ≤ s → grantedM n s ≤ s
 unfolding grantedM
@@ -48,14 +51,13 @@ module _ (ws : List ℕ) (h : Heap) (p : Passes ws h) (n : ℕ) (large : 24 ≤ 
       → cutM ws (e .place) n .rest .0 ≡ e .place + m
       → g .granted ≡ entry (e .place) m used
       → g .draft .heap ≡ with h (g .draft .heap .heads) (g .draft .heap .tails) (donorAfter k (e .place + m) (h .donor .0)) (topAfter k (e .place + m) (h .top .0)) (h .merge) (h .used + m)
-      → takenM ws (tableOf h) h k (e .place) n ≡ handed ws g
+      → leaves h (takenM (books ws (h .heads) (h .tails)) (tableOf h) (h .donor .0) (h .top .0) k (e .place) n) ≡ handed ws g
   unfolding takenM
   taken-is k e m g few is rest given heap =
       let z : e .place + m - e .place ≡ m = omega arith in
       let u : (h .used + m) % 2 ^ 32 ≡ h .used + m = omega arith in
       rw (is, rest, z, u)
-      (ap (λ (x : Heap). leaves (written ws (g .draft .stores)) (record { heap = x; chunk = at (e .place); size = m })) (sym heap)
-      ∙ ap (λ (y : Entry). leaves (written ws (g .draft .stores)) (record { heap = g .draft .heap; chunk = at (y .place); size = y .size })) (sym given))
+      (ap (λ (x : Heap). granting ws g x (entry (e .place) m used)) (sym heap) ∙ ap (granting ws g (g .draft .heap)) (sym given))
 
   module _ (source : Source) (s : source ≡ sourceOf n (asRead ws h)) (some : nowhere source ≡ false) where
     found : (e : Entry) × CanGrant ws h n source e
@@ -87,7 +89,7 @@ module _ (ws : List ℕ) (h : Heap) (p : Passes ws h) (n : ℕ) (large : 24 ≤ 
     taken = rw ruled at (chunk-taken ws h p n large eight (kindIn source) (here .low) (found .0) (here .high) serving)
 
     pub serve-is : servedM ws (tableOf h) h source n ≡ handed ws (grant n (asRead ws h))
-    unfolding servedM
+    unfolding servedM serveM
     serve-is =
         let c = found .1 in
         let t = taken in

@@ -12,6 +12,7 @@ use Rattle.record.specs.declared.kinds.Kind.the-variants.{Start, Ordinary, Dono
 use Rattle.record.specs.declared.sources.Source.{Source}
 use Rattle.record.specs.declared.sources.Source.the-variants.{FromBin, FromDonor, FromTop, Nowhere}
 use Rattle.record.specs.Heap.{at, with}
+use Rattle.region.specs.declared.Chunk.{Chunk}
 use Rattle.settling.specs.Settling.{donorAfter, topAfter}
 
 -- the place and the kind of the chunk that a source names
@@ -27,27 +28,45 @@ kindIn FromDonor = Donor
 kindIn FromTop = Top
 kindIn Nowhere = Start
 
--- the words, with what the code hands back
-pub record Leaves : Type 0 where
-  pub words : List ℕ
+-- the books, with what the code hands back
+pub record Served : Type 0 where
+  pub books : Books
   pub grant : Grant
 
-abbrev pub leaves : List ℕ → Grant → Leaves
-leaves ws g = record { words = ws; grant = g }
+abbrev pub served : Books → Grant → Served
+served b g = record { books = b; grant = g }
 
 -- n bytes from the chunk at c, which is of this kind
-unfoldable pub takenM : List ℕ → List ℕ → Heap → Kind → ℕ → ℕ → Leaves
-takenM ws table h kind c n =
-    let t : Cut = cutM ws c n in
-    let b : Books = takeM (books ws (h .heads) (h .tails)) table kind t in
-    let size : ℕ = t .rest .0 - c in
-    leaves (b .words)
+unfoldable pub takenM : Books → List ℕ → ℕ → ℕ → Kind → ℕ → ℕ → Served
+takenM b table donor top kind c n =
+    let t : Cut = cutM (b .words) c n in
+    served (takeM b table kind t)
     (record {
-      heap =
-          with h (b .heads) (b .tails) (donorAfter kind (t .rest .0) (h .donor .0)) (topAfter kind (t .rest .0) (h .top .0)) (h .merge) ((h .used + size) % 2 ^ 32);
       chunk = at c;
-      size = size;
+      size = t .rest .0 - c;
+      donor = at (donorAfter kind (t .rest .0) donor);
+      top = at (topAfter kind (t .rest .0) top);
     })
 
+unfoldable pub serveM : Books → List ℕ → ℕ → ℕ → Source → ℕ → Served
+serveM b table donor top source n = takenM b table donor top (kindIn source) (placeIn donor top source) n
+
+-- the words and the granted chunk, with the record that the callers make of it
+pub record Leaves : Type 0 where
+  pub words : List ℕ
+  pub heap : Heap
+  pub chunk : Chunk
+  pub size : ℕ
+
+abbrev pub leaves : Heap → Served → Leaves
+leaves h s =
+    let g : Grant = s .grant in
+    record {
+      words = s .books .words;
+      heap = with h (s .books .heads) (s .books .tails) (g .donor .0) (g .top .0) (h .merge) ((h .used + g .size) % 2 ^ 32);
+      chunk = g .chunk;
+      size = g .size;
+    }
+
 unfoldable pub servedM : List ℕ → List ℕ → Heap → Source → ℕ → Leaves
-servedM ws table h source n = takenM ws table h (kindIn source) (placeIn (h .donor .0) (h .top .0) source) n
+servedM ws table h source n = leaves h (serveM (books ws (h .heads) (h .tails)) table (h .donor .0) (h .top .0) source n)

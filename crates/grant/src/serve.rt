@@ -1,23 +1,24 @@
-// A request for room on a record, met from its source by a cut.
+// A request for room, met from its source by a cut. The record is the caller's to set: its ends are lent, donor and top handed back.
 // Where nothing can serve, the caller refuses before.
 ghost use mathlib.Core.Path.{_≡_};
-ghost use Rattle.grant.specs.Serve.{kindIn, leaves, placeIn, servedM};
+ghost use Rattle.bins.specs.Books.{books};
+ghost use Rattle.grant.specs.Serve.{kindIn, placeIn, served, serveM};
 ghost use Rattle.rules.specs.Serve.{nowhere};
 use crate::cut::cut_of;
 use crate::cut::take;
 use headers::distance;
-use record::heap::Heap;
 use record::kinds::Kind;
 use record::sources::Source;
 use region::Chunk;
 use settling::donor_after;
 use settling::top_after;
 
-// The granted chunk, and the record that says so.
+// The granted chunk, and where donor and top are then.
 pub struct Grant {
-    pub heap: Heap,
     pub chunk: Chunk,
     pub size: u32,
+    pub donor: Chunk,
+    pub top: Chunk,
 }
 
 pub fn is_nowhere(source: Source) -> bool
@@ -53,25 +54,28 @@ fn place_in(donor: Chunk, top: Chunk, source: Source) -> Chunk
     }
 }
 
-pub fn serve(region: &mut [u32], table: &[u32], heap: Heap, source: Source, need: u32) -> Grant
-    ensures { λ r. ⌜ leaves (now (region .exit)) r ≡ servedM (now (region .entry)) (now (table .entry)) heap source need ⌝ }
+pub fn serve(
+    region: &mut [u32],
+    heads: &mut [u32],
+    tails: &mut [u32],
+    table: &[u32],
+    donor: Chunk,
+    top: Chunk,
+    source: Source,
+    need: u32,
+) -> Grant
+    ensures { λ r. ⌜ served (books (now (region .exit)) (now (heads .exit)) (now (tails .exit))) r ≡ serveM (books (now (region .entry)) (now (heads .entry)) (now (tails .entry))) (now (table .entry)) (donor .0) (top .0) source need ⌝ }
 {
     let kind = kind_in(source);
-    let chunk = place_in(heap.donor, heap.top, source);
+    let chunk = place_in(donor, top, source);
     let cut = cut_of(region, chunk, need);
     let rest = cut.rest;
     let size = distance(chunk.0, rest.0);
-    let donor = donor_after(kind, rest, heap.donor);
-    let top = top_after(kind, rest, heap.top);
-    let mut heads = heap.heads;
-    let mut tails = heap.tails;
-    take(region, &mut heads, &mut tails, table, kind, cut);
+    take(region, heads, tails, table, kind, cut);
     Grant {
-        heap: heap.with_ends(heads, tails)
-            .with_donor(donor)
-            .with_top(top)
-            .with_used(std::num::wrapping_add_u32(heap.used, size)),
         chunk: chunk,
         size: size,
+        donor: donor_after(kind, rest, donor),
+        top: top_after(kind, rest, top),
     }
 }

@@ -28,9 +28,8 @@ use Rattle.rules.specs.Shape.{Entry}
 use Rattle.rules.specs.Statements.{leftBy, replied}
 use Rattle.rules.proofs.CheckLaws.{passes-iff}
 use Rattle.blocks.proofs.BlocksMeaning.{clear-is}
-use Rattle.grant.specs.declared.serve.Grant.{Grant as Given}
 use Rattle.grant.specs.Choose.{chooseM}
-use Rattle.grant.specs.Serve.{leaves, servedM}
+use Rattle.grant.specs.Serve.{Leaves, servedM}
 use Rattle.grant.proofs.NeedLaws.{need-large, need-eight}
 use Rattle.grant.proofs.ChooseMeaning.{choose-is}
 use Rattle.grant.proofs.ServeMeaning.{handed, serve-is, grant-housed}
@@ -46,13 +45,13 @@ module _ (ws table : List ℕ) (h : Heap) (n : ℕ) (clears : Bool) (source : So
   unfolding grantBlockM
   grants-none q r er = rw (er, sym e, sym et, q)
 
-  pub grants-some : t ≡ false → (words : List ℕ) (g : Given) → leaves words g ≡ servedM ws table h source n
-      → (block : Block) → block .0 ≡ blockAt (g .chunk .0) → (end : ℕ) → end ≡ (g .chunk .0 + g .size) % 2 ^ 32
-      → (filled : List ℕ) → filled ≡ filledM words clears (block .0) end → (change : ℤ) → change ≡ changeM 0 (g .size)
-      → replied (reply (g .heap) (Granted block (toZ w32 (ofZ w32 change)))) filled ≡ grantBlockM ws table h n clears
+  pub grants-some : t ≡ false → (l : Leaves) → l ≡ servedM ws table h source n
+      → (block : Block) → block .0 ≡ blockAt (l .chunk .0) → (end : ℕ) → end ≡ (l .chunk .0 + l .size) % 2 ^ 32
+      → (filled : List ℕ) → filled ≡ filledM (l .words) clears (block .0) end → (change : ℤ) → change ≡ changeM 0 (l .size)
+      → replied (reply (l .heap) (Granted block (toZ w32 (ofZ w32 change)))) filled ≡ grantBlockM ws table h n clears
   unfolding grantBlockM grantedM
-  grants-some q words g eg block eb end ee filled ef change ec =
-      rw (sym e, sym et, q, sym eg, ec, change-kept 0 (g .size), ef, eb, ee)
+  grants-some q l el block eb end ee filled ef change ec =
+      rw (sym e, sym et, q, sym el, ec, change-kept 0 (l .size), ef, eb, ee)
 
 -- the rule's grant, which is a chunk of a heap that passes
 module _ (ws : List ℕ) (h : Heap) (q : passes ws h ≡ true) (z : ℕ) (k : permitted z ≡ true) where

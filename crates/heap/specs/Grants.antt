@@ -20,9 +20,9 @@ filledM ws clears b end = cond clears (clearedM ws b end) ws
 -- what the code makes of a grant
 unfoldable pub grantedM : Bool → Leaves → Left
 grantedM clears l =
-    let b : ℕ = blockAt (l .grant .chunk .0) in
-    let end : ℕ = (l .grant .chunk .0 + l .grant .size) % 2 ^ 32 in
-    left (Granted (record { 0 = b }) (changeM 0 (l .grant .size))) (l .grant .heap) (filledM (l .words) clears b end)
+    let b : ℕ = blockAt (l .chunk .0) in
+    let end : ℕ = (l .chunk .0 + l .size) % 2 ^ 32 in
+    left (Granted (record { 0 = b }) (changeM 0 (l .size))) (l .heap) (filledM (l .words) clears b end)
 
 unfoldable pub grantBlockM : List ℕ → List ℕ → Heap → ℕ → Bool → Left
 grantBlockM ws table h n clears =

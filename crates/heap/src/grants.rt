@@ -27,17 +27,28 @@ fn fill(region: &mut [u32], clears: bool, block: Block, end: u32)
 pub fn grant_block(region: &mut [u32], table: &[u32], heap: Heap, need: u32, clears: bool) -> Reply
     ensures { λ r. ⌜ replied r (now (region .exit)) ≡ grantBlockM (now (region .entry)) (now (table .entry)) heap need clears ⌝ }
 {
-    let source = choose(region, table, &heap.heads, heap.donor, heap.top, need);
+    let mut heads = heap.heads;
+    let mut tails = heap.tails;
+    let source = choose(region, table, &heads, heap.donor, heap.top, need);
     if is_nowhere(source) {
         return refused(heap, Refusal::NoRoom);
     }
-    let grant = serve(region, table, heap, source, need);
+    let grant = serve(
+        region,
+        &mut heads,
+        &mut tails,
+        table,
+        heap.donor,
+        heap.top,
+        source,
+        need,
+    );
     let block = block_of(grant.chunk);
     let end = std::num::wrapping_add_u32(grant.chunk.0, grant.size);
     fill(region, clears, block, end);
-    let after = grant.heap;
+    let used = std::num::wrapping_add_u32(heap.used, grant.size);
     Reply {
         answer: Answer::Granted(block, change(0, grant.size)),
-        heap: after,
+        heap: heap.with_books(heads, tails, grant.donor, grant.top, used),
     }
 }

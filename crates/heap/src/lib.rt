@@ -149,11 +149,24 @@ pub fn free(region: &mut [u32], heap: Heap, block: Block) -> Reply
     };
     let bins = heap.bins as usize;
     let sizes = heap.sizes;
-    let after = give_up(region, &sizes[..bins], heap, place);
+    let mut heads = heap.heads;
+    let mut tails = heap.tails;
+    let reserve = give_up(
+        region,
+        &mut heads,
+        &mut tails,
+        &sizes[..bins],
+        heap.bytes,
+        heap.donor,
+        heap.top,
+        heap.merge,
+        place,
+    );
     let size = distance(place.chunk.0, place.end);
+    let used = distance(size, heap.used);
     Reply {
         answer: Answer::Returned(change(size, 0)),
-        heap: after,
+        heap: heap.with_books(heads, tails, reserve.donor, reserve.top, used),
     }
 }
 

@@ -1,7 +1,7 @@
-// The record: a struct by value, with a setter for each field that a call changes.
+// The record: a struct by value, with a setter for what grants and frees change, and one for the merge setting.
 // What the fields must be for a heap to pass is in the rules.
 ghost use mathlib.Core.Path.{_≡_};
-ghost use Rattle.record.specs.Heap.{empty, withEnds, withDonor, withTop, withMerge, withUsed};
+ghost use Rattle.record.specs.Heap.{empty, with, withMerge};
 use region::Chunk;
 
 pub struct Heap {
@@ -34,26 +34,22 @@ impl Heap {
         }
     }
 
-    // The heads and tails of the bin lists.
-    pub fn with_ends(mut self, heads: [u32; 32], tails: [u32; 32]) -> Self
-        ensures { λ r. ⌜ r ≡ withEnds self heads tails ⌝ }
+    // The heads and tails of the bin lists, donor, top and the used bytes: all that a grant or a free changes.
+    pub fn with_books(
+        mut self,
+        heads: [u32; 32],
+        tails: [u32; 32],
+        donor: Chunk,
+        top: Chunk,
+        used: u32,
+    ) -> Self
+        ensures { λ r. ⌜ r ≡ with self heads tails (donor .0) (top .0) (self .merge) used ⌝ }
     {
         self.heads = heads;
         self.tails = tails;
-        self
-    }
-
-    pub fn with_donor(mut self, donor: Chunk) -> Self
-        ensures { λ r. ⌜ r ≡ withDonor self (donor .0) ⌝ }
-    {
         self.donor = donor;
-        self
-    }
-
-    pub fn with_top(mut self, top: Chunk) -> Self
-        ensures { λ r. ⌜ r ≡ withTop self (top .0) ⌝ }
-    {
         self.top = top;
+        self.used = used;
         self
     }
 
@@ -61,13 +57,6 @@ impl Heap {
         ensures { λ r. ⌜ r ≡ withMerge self merge ⌝ }
     {
         self.merge = merge;
-        self
-    }
-
-    pub fn with_used(mut self, used: u32) -> Self
-        ensures { λ r. ⌜ r ≡ withUsed self used ⌝ }
-    {
-        self.used = used;
         self
     }
 }

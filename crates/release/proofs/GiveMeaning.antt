@@ -17,7 +17,7 @@ use Rattle.rules.specs.Kinds.{live, blockEnd, outside}
 use Rattle.rules.specs.Reallocate.{shrunk}
 use Rattle.rules.specs.Shape.{Entry, shape}
 use Rattle.seek.specs.Seek.{placed}
-use Rattle.release.specs.Give.{state, givenUpM}
+use Rattle.release.specs.Give.{state, giveUpM, givenUpM}
 use Rattle.release.proofs.ReleaseMeaning.{place, after, give-back-is, after-heap}
 use Rattle.release.proofs.TailMeaning.{tailAfter, tail-back-is, tail-heap}
 
@@ -34,7 +34,7 @@ fewer-used h after heads tails donor top gone before left e s =
 module _ (ws : List ℕ) (h : Heap) (p : Passes ws h) (b : ℕ) (l : isLive (asRead ws h) b ≡ true) where
   pub give-up-is : givenUpM ws (tableOf h) h (placed (lastOr outside (place ws h p b l .low) .place) (place ws h p b l .here))
       ≡ drawn ws (freeBlock b (asRead ws h))
-  unfolding givenUpM freeBlock
+  unfolding givenUpM giveUpM freeBlock
   give-up-is =
       let e : Entry = place ws h p b l .here in
       let size-is : blockEnd e - e .place ≡ e .size = omega arith in
@@ -52,7 +52,7 @@ module _ (ws : List ℕ) (h : Heap) (p : Passes ws h) (low : List Entry) (e : En
   pub give-up-tail-is : (f : ℕ)
       → givenUpM (written ws (put (e .place) forward (e .place + n) ∷ [])) (tableOf h) h (record { before = at (e .place); chunk = at (e .place + n); end = blockEnd e; flags = f })
       ≡ drawn ws ruled
-  unfolding givenUpM
+  unfolding givenUpM giveUpM
   give-up-tail-is f =
       let d : Draft = tailAfter ws h p low e high split l n some eights less in
       let size-is : blockEnd e - (e .place + n) ≡ e .size - n = omega arith in

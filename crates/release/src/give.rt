@@ -1,46 +1,57 @@
-// The chunk of a live block is given back, and the record says so. Where the chunk is was found before.
+// The chunk of a live block is given back. Where it is was found before; the record is the caller's to set: its ends are lent,
+// donor and top handed back.
 ghost use mathlib.Core.Path.{_≡_};
-ghost use Rattle.release.specs.Give.{givenUpM, state};
+ghost use Rattle.bins.specs.Books.{books};
+ghost use Rattle.release.specs.Give.{given, giveUpM};
 use crate::give_back;
 use crate::join;
-use headers::distance;
-use record::heap::Heap;
 use region::Chunk;
 use seek::Place;
 use settling::donor_after;
 use settling::top_after;
 
-pub fn give_up(region: &mut [u32], table: &[u32], heap: Heap, place: Place) -> Heap
-    ensures { λ r. ⌜ state (now (region .exit)) r ≡ givenUpM (now (region .entry)) (now (table .entry)) heap place ⌝ }
+// The chunks that are free and in no bin, as they are then.
+pub struct Reserve {
+    pub donor: Chunk,
+    pub top: Chunk,
+}
+
+pub fn give_up(
+    region: &mut [u32],
+    heads: &mut [u32],
+    tails: &mut [u32],
+    table: &[u32],
+    bytes: u32,
+    donor: Chunk,
+    top: Chunk,
+    merge: bool,
+    place: Place,
+) -> Reserve
+    ensures { λ r. ⌜ given (books (now (region .exit)) (now (heads .exit)) (now (tails .exit))) r ≡ giveUpM (books (now (region .entry)) (now (heads .entry)) (now (tails .entry))) (now (table .entry)) bytes (donor .0) (top .0) merge place ⌝ }
 {
     let joined = join(
         region,
-        heap.bytes,
-        heap.donor,
-        heap.top,
-        heap.merge,
+        bytes,
+        donor,
+        top,
+        merge,
         place.before,
         place.chunk,
         place.end,
     );
     let becomes = joined.becomes;
-    let donor = donor_after(becomes, joined.chunk, heap.donor);
-    let top = top_after(becomes, joined.chunk, heap.top);
-    let mut heads = heap.heads;
-    let mut tails = heap.tails;
+    let chunk = joined.chunk;
     give_back(
         region,
-        &mut heads,
-        &mut tails,
+        heads,
+        tails,
         table,
         joined,
         place.before,
         Chunk(place.end),
     );
-    let size = distance(place.chunk.0, place.end);
-    let used = distance(size, heap.used);
-    heap.with_ends(heads, tails)
-        .with_donor(donor)
-        .with_top(top)
-        .with_used(used)
+    Reserve {
+        donor: donor_after(becomes, chunk, donor),
+        top: top_after(becomes, chunk, top),
+    }
 }

@@ -34,7 +34,7 @@ use Rattle.release.proofs.GiveMeaning.{give-up-tail-is}
 use Rattle.release.proofs.ReleaseMeaning.{place, splits}
 use Rattle.release.proofs.TailMeaning.{tail-housed}
 use Rattle.replies.proofs.ChangeLaws.{change-ruled}
-use Rattle.resize.specs.Resize.{shrinkM, movedM, moveM, resizeM}
+use Rattle.resize.specs.Resize.{againM, shrinkM, movedM, moveM, resizeM}
 use Rattle.resize.proofs.MovedLaws.{copiedOver}
 use Rattle.resize.proofs.MoveMeaning.{copy-written, move-is, move-housed}
 
@@ -115,7 +115,7 @@ module _ (ws : List ℕ) (h : Heap) (q : passes ws h ≡ true) (z : ℕ) (k : pe
       after = copiedOver ws h well n (need-large z) (need-eight z) some e member is-live less
 
       code-moves : resizeM ws (tableOf h) h p n ≡ leftBy ws (made (grants (e .size) (g .granted)) (freeBlock (blockOf e) after))
-      unfolding resizeM moveM movedM
+      unfolding resizeM moveM movedM againM
       code-moves =
           let i = lies in
           let o = granted-lies ws h well n (need-large z) (need-eight z) some in

@@ -8,9 +8,8 @@ use mir.Syntax.{w32}
 use mir.Val.{toZ, ofZ}
 use borrow.Author.Tests.{lt-ltb, le-ltb, le-leb, lt-leb}
 use Rattle.blocks.specs.Blocks.{copiedM}
-use Rattle.grant.specs.declared.serve.Grant.{Grant}
 use Rattle.grant.specs.Choose.{chooseM}
-use Rattle.grant.specs.Serve.{leaves, servedM}
+use Rattle.grant.specs.Serve.{Leaves, servedM}
 use Rattle.record.specs.declared.answers.Answer.the-variants.{Granted}
 use Rattle.record.specs.declared.answers.Refusal.the-variants.{NoRoom}
 use Rattle.record.specs.declared.answers.Reply.{Reply}
@@ -19,14 +18,19 @@ use Rattle.record.specs.declared.sources.Source.{Source}
 use Rattle.record.specs.Heap.{at}
 use Rattle.region.specs.declared.Block.{Block}
 use Rattle.region.specs.Places.{blockAt}
-use Rattle.region.specs.Words.{word, store, forward, backward}
+use Rattle.region.specs.Words.{store, forward}
 use Rattle.release.specs.Give.{state, givenUpM}
 use Rattle.rules.specs.Serve.{nowhere}
 use Rattle.rules.specs.Statements.{Left, replied}
 use Rattle.seek.specs.declared.Place.{Place}
 use Rattle.replies.specs.Replies.{reply, refusing, changeM}
-use Rattle.resize.specs.Resize.{shrinkM, movedM, moveM, resizeM}
+use Rattle.resize.specs.Resize.{againM, shrinkM, movedM, moveM, resizeM}
 use Rattle.replies.proofs.ChangeLaws.{change-kept}
+
+-- the old chunk, read again, has its size
+pub again-sized : (ws : List ℕ) (p old : Place) → old ≡ againM ws p → {size : ℕ} → size ≡ p .end - p .chunk .0 → size ≡ old .end - old .chunk .0
+unfolding againM
+again-sized ws p old e s = rw e s
 
 module _ (ws table : List ℕ) (h : Heap) (p : Place) (n : ℕ) where
   pub shrinks : (rest : ℕ) → rest ≡ (p .chunk .0 + n) % 2 ^ 32 → (split : List ℕ) → split ≡ store ws (p .chunk .0) forward rest
@@ -42,15 +46,15 @@ module _ (ws table : List ℕ) (h : Heap) (p : Place) (n : ℕ) where
     unfolding moveM
     moves-not q r er = rw (er, sym e, sym et, q)
 
-    pub moves : t ≡ false → (words₁ : List ℕ) (g : Grant) → leaves words₁ g ≡ servedM ws table h source n
-        → (size : ℕ) → size ≡ p .end - p .chunk .0 → (words₂ : List ℕ) → words₂ ≡ copiedM (size / 4 - 2) words₁ (p .chunk .0) (g .chunk .0) 2
-        → (link : ℕ) → link ≡ word words₂ (p .chunk .0) backward
-        → (after : Heap) (words : List ℕ) → state words after ≡ givenUpM words₂ table (g .heap) (record { before = at (link - link % 8); chunk = p .chunk; end = p .end; flags = p .flags })
-        → (block : Block) → block .0 ≡ blockAt (g .chunk .0) → (change : ℤ) → change ≡ changeM size (g .size)
+    pub moves : t ≡ false → (l : Leaves) → l ≡ servedM ws table h source n
+        → (size : ℕ) → size ≡ p .end - p .chunk .0 → (copied : List ℕ) → copied ≡ copiedM (size / 4 - 2) (l .words) (p .chunk .0) (l .chunk .0) 2
+        → (old : Place) → old ≡ againM copied p
+        → (after : Heap) (words : List ℕ) → state words after ≡ givenUpM copied table (l .heap) old
+        → (block : Block) → block .0 ≡ blockAt (l .chunk .0) → (change : ℤ) → change ≡ changeM size (l .size)
         → replied (reply after (Granted block (toZ w32 (ofZ w32 change)))) words ≡ moveM ws table h p n
     unfolding moveM movedM
-    moves q words₁ g eg size ez words₂ e₂ link el after words ea block eb change ec =
-        rw (sym e, sym et, q, sym eg, ec, change-kept size (g .size), sym ez, eb, sym e₂, sym el, sym ea)
+    moves q l el size ez copied e₁ old eo after words ea block eb change ec =
+        rw (sym e, sym et, q, sym el, ec, change-kept size (l .size), sym ez, eb, sym e₁, sym eo, sym ea)
 
   module _ (size : ℕ) (ez : size ≡ p .end - p .chunk .0) where
     pub resizes-up : size < n → {l : Left} → l ≡ moveM ws table h p n → l ≡ resizeM ws table h p n

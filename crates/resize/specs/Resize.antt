@@ -29,13 +29,18 @@ shrinkM ws table h p n =
     let s : State = givenUpM (store ws (p .chunk .0) forward rest) table h (record { before = p .chunk; chunk = at rest; end = p .end; flags = p .flags }) in
     left (Granted (record { 0 = blockAt (p .chunk .0) }) (changeM (sizeOf p) n)) (s .heap) (s .words)
 
+-- the chunk of the block, with the chunk below it as its link names it
+unfoldable pub againM : List ℕ → Place → Place
+againM ws p =
+    let link : ℕ = word ws (p .chunk .0) backward in
+    record { before = at (link - link % 8); chunk = p .chunk; end = p .end; flags = p .flags }
+
 -- what is made of a grant that the block moves to
 unfoldable pub movedM : List ℕ → Place → Leaves → Left
 movedM table p l =
-    let ws : List ℕ = copiedM (sizeOf p / 4 - 2) (l .words) (p .chunk .0) (l .grant .chunk .0) 2 in
-    let link : ℕ = word ws (p .chunk .0) backward in
-    let s : State = givenUpM ws table (l .grant .heap) (record { before = at (link - link % 8); chunk = p .chunk; end = p .end; flags = p .flags }) in
-    left (Granted (record { 0 = blockAt (l .grant .chunk .0) }) (changeM (sizeOf p) (l .grant .size))) (s .heap) (s .words)
+    let ws : List ℕ = copiedM (sizeOf p / 4 - 2) (l .words) (p .chunk .0) (l .chunk .0) 2 in
+    let s : State = givenUpM ws table (l .heap) (againM ws p) in
+    left (Granted (record { 0 = blockAt (l .chunk .0) }) (changeM (sizeOf p) (l .size))) (s .heap) (s .words)
 
 unfoldable pub moveM : List ℕ → List ℕ → Heap → Place → ℕ → Left
 moveM ws table h p n =

@@ -1,7 +1,7 @@
 // A live block gets another size: its chunk keeps the need and gives the tail back, or the block moves, or nothing changes.
 // The block was found on the chain before.
 ghost use mathlib.Core.Path.{_≡_};
-ghost use Rattle.resize.specs.Resize.{moveM, resizeM, shrinkM};
+ghost use Rattle.resize.specs.Resize.{againM, moveM, resizeM, shrinkM};
 ghost use Rattle.rules.specs.Statements.{replied};
 use blocks::copy_block;
 use grant::choose::choose;
@@ -36,39 +36,78 @@ fn shrink(region: &mut [u32], table: &[u32], heap: Heap, place: Place, need: u32
         end: place.end,
         flags: place.flags,
     };
-    let after = give_up(region, table, heap, tail);
+    let mut heads = heap.heads;
+    let mut tails = heap.tails;
+    let reserve = give_up(
+        region,
+        &mut heads,
+        &mut tails,
+        table,
+        heap.bytes,
+        heap.donor,
+        heap.top,
+        heap.merge,
+        tail,
+    );
+    let used = distance(distance(rest, place.end), heap.used);
     let size = distance(chunk.0, place.end);
     Reply {
         answer: Answer::Granted(block_of(chunk), change(size, need)),
-        heap: after,
+        heap: heap.with_books(heads, tails, reserve.donor, reserve.top, used),
     }
 }
 
-// A grant may have cut the chunk below the old one, so that its link is read again.
-fn move_block(region: &mut [u32], table: &[u32], heap: Heap, place: Place, need: u32) -> Reply
-    ensures { λ r. ⌜ replied r (now (region .exit)) ≡ moveM (now (region .entry)) (now (table .entry)) heap place need ⌝ }
+// The old chunk once there was a grant, which may have cut the chunk below it: its link is read again.
+fn again(region: &[u32], place: Place) -> Place
+    ensures { λ r. ⌜ r ≡ againM (now (region .entry)) place ⌝ }
 {
-    let source = choose(region, table, &heap.heads, heap.donor, heap.top, need);
-    if is_nowhere(source) {
-        return refused(heap, Refusal::NoRoom);
-    }
-    let grant = serve(region, table, heap, source, need);
-    let given = grant.size;
     let chunk = place.chunk;
-    let size = distance(chunk.0, place.end);
-    copy_block(region, chunk, grant.chunk, size / 4);
     let link = word(region, chunk, BACKWARD);
-    let old = Place {
+    Place {
         before: Chunk(link - link % 8),
         chunk: chunk,
         end: place.end,
         flags: place.flags,
-    };
-    let granted = grant.heap;
-    let after = give_up(region, table, granted, old);
+    }
+}
+
+fn move_block(region: &mut [u32], table: &[u32], heap: Heap, place: Place, need: u32) -> Reply
+    ensures { λ r. ⌜ replied r (now (region .exit)) ≡ moveM (now (region .entry)) (now (table .entry)) heap place need ⌝ }
+{
+    let mut heads = heap.heads;
+    let mut tails = heap.tails;
+    let source = choose(region, table, &heads, heap.donor, heap.top, need);
+    if is_nowhere(source) {
+        return refused(heap, Refusal::NoRoom);
+    }
+    let grant = serve(
+        region,
+        &mut heads,
+        &mut tails,
+        table,
+        heap.donor,
+        heap.top,
+        source,
+        need,
+    );
+    let size = distance(place.chunk.0, place.end);
+    copy_block(region, place.chunk, grant.chunk, size / 4);
+    let old = again(region, place);
+    let reserve = give_up(
+        region,
+        &mut heads,
+        &mut tails,
+        table,
+        heap.bytes,
+        grant.donor,
+        grant.top,
+        heap.merge,
+        old,
+    );
+    let used = distance(size, std::num::wrapping_add_u32(heap.used, grant.size));
     Reply {
-        answer: Answer::Granted(block_of(grant.chunk), change(size, given)),
-        heap: after,
+        answer: Answer::Granted(block_of(grant.chunk), change(size, grant.size)),
+        heap: heap.with_books(heads, tails, reserve.donor, reserve.top, used),
     }
 }
 

@@ -1,10 +1,12 @@
 -- `heap::free` does what the rule says, on every region and every record. Assumes nothing.
 use mathlib.Core.Path.{_≡_, sym, _∙_}
 use mathlib.Core.Bool.{true}
-use borrow.Author.Needs.{needs}
+use Prim.Native.Nat.{ℕ}
+use borrow.Author.Needs.{needs, length-unmapped}
 use borrow.Author.Tests.{not-true, not-false}
 use lib.Seq.{length-take-le}
 use Rattle.rules.specs.Check.{passes}
+use Rattle.release.proofs.GiveSteps.{given-recorded}
 use Rattle.heap.proofs.CallLaws.{bins-there}
 use Rattle.heap.proofs.FreeLaws.{free-fails, free-none, free-refuses, freed}
 use Rattle.heap.proofs.free.Statement.{statement}
@@ -21,13 +23,16 @@ module _ (sought : tie.After-find-block) where
   abbrev checked : tie.Else1
   checked = given .before .before
 
--- behind the loan of the region and the table: the block is found
+-- behind the loan of the region: the call began, and the block was found
 module _ (lent : tie.After-give-up-arg) where
   abbrev found : tie.After-sought
-  found = lent .before .before .before .before
+  found = lent .before .before .before .before .before .before
 
   abbrev sought : tie.After-find-block
   sought = found .before .before
+
+  abbrev start : tie.Start
+  start = checked sought .before .before .before .before
 
 returns : tie.Need-returns
 returns c =
@@ -42,16 +47,30 @@ returns-3 c =
     rw (c .refused2 .ensures)
     (free-refuses _ _ _ (heap-passes (checked sought)) (given sought .if2 .left) _ (sought .find-block .ensures) (c .before .enum-told .given .1))
 
+heads-long : tie.Need-slice-aggregate-give-up
+heads-long c =
+    let start = start (c .before) in
+    let heap = start .good .1 .0 in
+    sym (length-unmapped ℕ (start .args .heap .heads) 32 (search needs))
+
+tails-long : tie.Need-slice-aggregate-give-up-2
+tails-long c =
+    let start = start (c .before .before) in
+    let heap = start .good .1 .0 in
+    sym (length-unmapped ℕ (start .args .heap .tails) 32 (search needs))
+
 bins-lent : tie.Need-array-share-prefix-sizes
-bins-lent c = bins-there _ _ (heap-passes (checked (sought c)))
+bins-lent c = bins-there _ _ (heap-passes (checked (sought (c .before .before))))
 
 returns-4 : tie.Need-returns-4
 returns-4 c =
-    let given-up = c .before .before .before .before in
-    let lent = given-up .before .before in
+    let sized = c .before .before .before in
+    let given-up = sized .before .before .before .before .before in
+    let lent = given-up .before .before .before .before in
     let sought = sought lent in
+    let after = given-recorded _ _ _ _ _ _ (given-up .give-up .ensures) _ (sized .distance .ensures) _ (c .before .before .distance2 .ensures) _ (c .with-books .ensures) in
     freed _ _ _ (heap-passes (checked sought)) (given sought .if2 .left) _ (sought .find-block .ensures) _ (found lent .sought .given .1)
-    _ _ (given-up .give-up .ensures) _ (c .before .distance .ensures) _ (c .change .ensures)
+    _ _ after _ (sized .distance .ensures) _ (c .before .change .ensures)
 
 pub free-spec : {M : Type 1} → statement M
 free-spec =
@@ -70,8 +89,12 @@ free-spec =
     (λ c. search needs)
     returns-3
     (λ c. search needs)
+    heads-long
+    tails-long
     bins-lent
     (λ c. sym (length-take-le _ _ (bins-lent (c .before))))
+    (λ c κs. search needs)
+    (λ c κs. search needs)
     (λ c κs. search needs)
     (λ c κs. search needs)
     (λ c κs. search needs)
