@@ -9,8 +9,8 @@ use native.Mathlib.Omega.{arith}
 use lib.Dec.{eqb, leb, ltb}
 use lib.ListN.{getD}
 use borrow.Author.Tests.{eq-eqb, ne-eqb, le-leb, lt-leb, lt-ltb, le-ltb}
-use Rattle.lists.proofs.ListsLaws.{both, at-most}
 use Rattle.lists.specs.Lists.{Mem, headOr, lastOr, any, upTo, past}
+use Rattle.lists.proofs.ListsLaws.{both, at-most}
 use Rattle.record.specs.declared.answers.Answer.the-variants.{Told, Refused}
 use Rattle.record.specs.declared.answers.Refusal.the-variants.{NotThere, HeapFails}
 use Rattle.record.specs.declared.heap.Heap.{Heap}
@@ -35,6 +35,7 @@ use Rattle.seek.specs.Seek.{placed, soughtIn, liveAt, hasBlock}
 use Rattle.seek.proofs.SeekLaws.{live-is, sought-none, sought-spot, sought-block}
 use Rattle.ask.specs.Questions.{sizeOf, numberIn, binNumber, chainFigure, asksOfBin, memberFigure, figureOf, toldOf, holderOf, askChunkM, askBinM}
 
+-- the place of the last chunk is the last of the places
 last-place : (d : Entry) (es : List Entry) → lastOr d es .place ≡ lastOr (d .place) (placesOf es)
 last-place d [] = refl
 last-place d (e ∷ es) = last-place e es
@@ -80,6 +81,7 @@ module _ (ws : List ℕ) (h : Heap) (k : Passes ws h) where
   some-bytes : (0 < h .bytes) × (h .bytes ≤ 65536)
   some-bytes = omega (arith, k .fits .enough, k .fits .notTooMany, k .fits .bytes)
 
+  -- the figures of a chunk of the chain, by question: bin number, next and previous in its bin if it is ordinary, block if it is live
   module _ (e : Entry) (m : Mem e (shape ws (h .bytes))) where
     number-is : (t : Bool) → ordinary h e ≡ t
         → cond t (numberIn (binOf (tableOf h) (e .size))) 0 ≡ shown (numberOf (cond t (binOf (tableOf h) (e .size)) NoBin))
@@ -139,6 +141,7 @@ module _ (ws : List ℕ) (h : Heap) (k : Passes ws h) where
         let t = tiled-cut 0 (h .bytes) (s .low) (s .here ∷ s .high) (rw (spot-splits p (shape ws (h .bytes)) found .0) at (tiled ws h k)) in
         next-behind (h .bytes) (s .here) (s .high) (t .2 .2) ∙ shown-first (placesOf (s .high))
 
+    -- what the code tells of it
     figure : ℕ → ℕ
     figure q =
         figureOf ws (tableOf h) (h .bytes) (h .donor .0) (h .top .0) q
@@ -158,6 +161,7 @@ module _ (ws : List ℕ) (h : Heap) (k : Passes ws h) where
     figure-is (suc (suc (suc (suc (suc (suc (suc (suc (suc zero))))))))) lo hi n = refl
     figure-is (suc (suc (suc (suc (suc (suc (suc (suc (suc (suc q)))))))))) lo hi n = absurd (omega arith)
 
+  -- the rules' answers to all questions about the chunk that is asked for
   abbrev answers : ℕ → ℕ → List (Option ℕ)
   answers q place = chunkAnswers (asRead ws h) (askedSpot (asRead ws h) q place)
 
@@ -226,6 +230,7 @@ module _ (ws : List ℕ) (h : Heap) (k : Passes ws h) where
       )
       refl
 
+  -- and what the rules answer
   rule-bin : (q i : ℕ)
       → askBin ws h q i .answer
       ≡ cond (not (isAsked q (binAnswers (binList ws h i))) || not (ltb i (h .bins))) (Refused NotThere) (Told (answerTo q (binAnswers (binList ws h i))))
