@@ -40,23 +40,27 @@ use Rattle.promises.specs.Apart.{SameWords, Keeps, KeepsAll, KeepsOthers
 use Rattle.promises.proofs.ServeLaws.{top-can, donor-can, ordinary-can}
 use Rattle.promises.proofs.ReasonLaws.{one-block}
 
--- words that were written one after the other from number i on are read back
+-- n words written one after the other, from number i of the block at b on
+abbrev pub fillFrom : ℕ → ℕ → (ℕ → ℕ) → ℕ → List Store
+fillFrom b i value n = map (λ j. put b j (value j)) (numbersFrom i n)
+
+-- they are read back
 fill-reads : (value : ℕ → ℕ) (b n i : ℕ) (ws : List ℕ) → b / 4 + i + n ≤ length ws → (k : ℕ) → i ≤ k → k < i + n
-    → word (written ws (map (λ j. put b j (value j)) (numbersFrom i n))) b k ≡ value k
+    → word (written ws (fillFrom b i value n)) b k ≡ value k
 fill-reads value b zero i ws r k lo hi = absurd (omega arith)
 fill-reads value b (suc n) i ws r k lo hi =
     go (ℕ-discrete k i)
     (λ l. fill-reads value b n (suc i) (store ws b i (value i)) (omega (arith, length-store ws b i (value i))) k l (omega arith))
   where
-    later : (n j : ℕ) → i < j → Off (b / 4 + i) (map (λ j. put b j (value j)) (numbersFrom j n))
+    later : (n j : ℕ) → i < j → Off (b / 4 + i) (fillFrom b j value n)
     later zero j l = tt
     later (suc n) j l = (λ q. omega arith, later n (suc j) (omega arith))
 
-    go : Dec (k ≡ i) → let after = written (store ws b i (value i)) (map (λ j. put b j (value j)) (numbersFrom (suc i) n)) in
+    go : Dec (k ≡ i) → let after = written (store ws b i (value i)) (fillFrom b (suc i) value n) in
         (suc i ≤ k → word after b k ≡ value k) → word after b k ≡ value k
     go (yes q) f =
         rw q
-        (off (map (λ j. put b j (value j)) (numbersFrom (suc i) n)) (store ws b i (value i)) b i (later n (suc i) (omega arith))
+        (off (fillFrom b (suc i) value n) (store ws b i (value i)) b i (later n (suc i) (omega arith))
         ∙ word-same ws b i (value i) (omega arith))
     go (no m) f = f (omega arith)
 

@@ -3,19 +3,18 @@
 use mathlib.Core.Path.{_≡_}
 use mathlib.Core.Logic.{inl, inr}
 use mathlib.Core.Bool.{Bool, true, false, not, cond, _&&_, _||_}
-use mathlib.Core.List.{List, [], _∷_, map}
+use mathlib.Core.List.{List, [], _∷_}
 use Prim.Native.Nat.{ℕ, _+_, _/_, _%_, _≤_, _<_, _*_}
 use native.Mathlib.Omega.{arith}
 use lib.Dec.{ltb, eqb}
 use lib.ListN.{length}
 use borrow.Author.Tests.{lt-ltb, not-false}
-use Rattle.lists.specs.Lists.{numbersFrom}
 use Rattle.record.specs.declared.heap.Heap.{Heap}
 use Rattle.record.specs.declared.answers.Answer.{Answer}
 use Rattle.record.specs.declared.answers.Answer.the-variants.{Done, Told}
 use Rattle.record.specs.declared.answers.Refusal.the-variants.{NotThere}
 use Rattle.record.specs.Heap.{empty, withMerge}
-use Rattle.region.specs.Words.{Store, put, word}
+use Rattle.region.specs.Words.{Store, word}
 use Rattle.region.proofs.PrefixLaws.{Below, below-both}
 use Rattle.region.proofs.WordsLaws.{length-written}
 use Rattle.rules.specs.Shape.{Entry, heapBytes}
@@ -44,6 +43,7 @@ use Rattle.release.proofs.ReleaseSpares.{free-inside, shrink-inside}
 use Rattle.resize.proofs.MovedLaws.{fits, copiedOver, copiedWords, copiedHeap, copied-passes, live-again, again-is}
 use Rattle.promises.proofs.ReasonLaws.{Fitting, fitting-iff, length-in, live-holds}
 use Rattle.promises.proofs.ResizedLaws.{resized-so}
+use Rattle.promises.proofs.GrantedLaws.{fillFrom}
 
 -- what is written into a block is below its end
 within-below : (m : ℕ) (e : Entry) (ss : List Store) → blockEnd e / 4 ≤ m → Within e ss → Below m ss
@@ -70,7 +70,7 @@ module _ (ws : List ℕ) (h : Heap) (p : Passes ws h) (n : ℕ) (large : 24 ≤ 
 
     -- words written into it, as many as fit
     abbrev filling : (ℕ → ℕ) → ℕ → List Store
-    filling value k = map (λ i. put (blockOf (given .granted)) i (value i)) (numbersFrom 0 k)
+    filling value k = fillFrom (blockOf (given .granted)) 0 value k
 
     filled-below : (value : ℕ → ℕ) (k : ℕ) → k ≤ blockWords (given .granted) → Inner h (alsoWrites (filling value k) (given .draft))
     filled-below value k l =

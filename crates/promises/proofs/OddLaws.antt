@@ -1,13 +1,13 @@
 -- An odd last word of the region decides nothing and is not written, whatever the call (`odd-apart`). Assumes nothing.
 use mathlib.Core.Path.{_≡_, refl, sym, ap, ap₂, _∙_}
 use mathlib.Core.Bool.{Bool, true, false, not, cond}
-use mathlib.Core.List.{List, [], _∷_, map, List·Memᴰ·head}
+use mathlib.Core.List.{List, [], _∷_, List·Memᴰ·head}
 use Prim.Native.Nat.{ℕ, zero, suc, _+_, _*_, _/_, _≤_, _<_}
 use native.Mathlib.Omega.{arith}
 use lib.Dec.{eqb, ltb}
 use lib.ListN.{length, getD, take, drop}
 use lib.Seq.{getD-take, length-take-le, take-at, drop-at}
-use Rattle.lists.specs.Lists.{headOr, keep, numbersFrom}
+use Rattle.lists.specs.Lists.{headOr, keep}
 use Rattle.lists.proofs.ListsLaws.{Decides}
 use Rattle.lists.proofs.MembersLaws.{kept-from}
 use Rattle.record.specs.declared.answers.Answer.the-variants.{Done, Counted, Refused}
@@ -36,6 +36,7 @@ use Rattle.rules.proofs.SpotLaws.{inside}
 use Rattle.promises.specs.Ways.{ours}
 use Rattle.promises.specs.Odd.{evenWords, oddWord, AlikeButOdd, OddApart}
 use Rattle.promises.proofs.InsideLaws.{stores-below}
+use Rattle.promises.proofs.GrantedLaws.{fillFrom}
 
 -- two tests that decide facts which follow from each other are the same
 same-test : {t u : Bool} {P Q : Type 0} → Decides t P → Decides u Q → (P → Q) → (Q → P) → t ≡ u
@@ -49,7 +50,7 @@ same-test {t} {u} {P} {Q} = go t u
 
 -- words copied from two regions that agree there
 copied-same : (c : ℕ) (f g : ℕ → ℕ) (n i : ℕ) → ((k : ℕ) → i ≤ k → k < i + n → f k ≡ g k)
-    → map (λ k. put c k (f k)) (numbersFrom i n) ≡ map (λ k. put c k (g k)) (numbersFrom i n)
+    → fillFrom c i f n ≡ fillFrom c i g n
 copied-same c f g zero i e = refl
 copied-same c f g (suc n) i e =
     ap₂ (λ (v : ℕ) (ss : List Store). put c i v ∷ ss) (e i (omega arith) (omega arith)) (copied-same c f g n (suc i) (λ k lo hi. e k (omega arith) (omega arith)))
