@@ -124,31 +124,28 @@ module _ (ws : List ℕ) (h : Heap) (k : Passes ws h) where
 
   -- a chunk of the chain that meets the test, in the code's terms and in those of the rules
   module _ (p : Entry → Bool) (found : any p (shape ws (h .bytes)) ≡ true) where
-    here : Spot
+    abbrev here : Spot
     here = spot p (shape ws (h .bytes))
 
     member : Mem (here .here) (shape ws (h .bytes))
-    unfolding here
     member = spot-member p (shape ws (h .bytes)) found
 
     size-is : here .here .place + here .here .size - here .here .place ≡ here .here .size
     size-is = omega arith
 
     next-place : nextBy (h .bytes) (here .here) ≡ shown (firstOf (placesOf (here .high)))
-    unfolding here
     next-place =
-        let s : Spot = spot p (shape ws (h .bytes)) in
-        let t = tiled-cut 0 (h .bytes) (s .low) (s .here ∷ s .high) (rw (spot-splits p (shape ws (h .bytes)) found .0) at (tiled ws h k)) in
-        next-behind (h .bytes) (s .here) (s .high) (t .2 .2) ∙ shown-first (placesOf (s .high))
+        let t = tiled-cut 0 (h .bytes) (here .low) (here .here ∷ here .high) (rw (spot-splits p (shape ws (h .bytes)) found .0) at (tiled ws h k)) in
+        next-behind (h .bytes) (here .here) (here .high) (t .2 .2) ∙ shown-first (placesOf (here .high))
 
     -- what the code tells of it
-    figure : ℕ → ℕ
+    abbrev figure : ℕ → ℕ
     figure q =
         figureOf ws (tableOf h) (h .bytes) (h .donor .0) (h .top .0) q
         (placed (lastOr (entry 0 0 0) (here .low) .place) (here .here))
 
     figure-is : (q : ℕ) → 1 ≤ q → q ≤ 9 → (q ≡ 3 → ⊥) → figure q ≡ answerTo q (chunkAnswers (asRead ws h) here)
-    unfolding asRead figure figureOf asksOfBin chainFigure memberFigure binNumber sizeOf
+    unfolding asRead figureOf asksOfBin chainFigure memberFigure binNumber sizeOf
     figure-is zero lo hi n = absurd (omega arith)
     figure-is (suc zero) lo hi n = rw size-is (number-is (here .here) member (ordinary h (here .here)) refl)
     figure-is (suc (suc zero)) lo hi n = block-is (here .here) member
@@ -188,7 +185,7 @@ module _ (ws : List ℕ) (h : Heap) (k : Passes ws h) where
   told-is : (q place : ℕ) → (q ≡ 3 → ⊥) → (a t : Bool) → (leb 1 q && leb q 9) ≡ a → any (isAt place) (shape ws (h .bytes)) ≡ t
       → cond a (toldOf ws (tableOf h) (h .bytes) (h .donor .0) (h .top .0) q (soughtIn (isAt place) 0 (shape ws (h .bytes)))) (Refused NotThere)
       ≡ cond (not a || not t) (Refused NotThere) (Told (answerTo q (chunkAnswers (asRead ws h) (spot (isAt place) (shape ws (h .bytes))))))
-  unfolding toldOf here figure
+  unfolding toldOf
   told-is q place n true true ea e =
       let r = both (at-most 1 q) (at-most q 9) .0 ea in
       rw (sought-spot (isAt place) 0 (shape ws (h .bytes)) e)

@@ -164,14 +164,14 @@ lent-sizes bins sizes heads tails e =
     .0 e .0 .0 .0 .0
 
 -- the answer of the check, by what was found
-module _ (ws : List ℕ) (h : Heap) (r : Audit) (k : AuditIs ws h r) where
+module _ (ws : List ℕ) (h : Heap) {r : Audit} (k : AuditIs ws h r) where
   pub answer-fails : r ≡ found.Fails → Refused HeapFails ≡ checked ws h
   unfolding AuditIs checked
   answer-fails e = rw (subst (λ (q : Audit). AuditIs ws h q) e k)
 
-  pub answer-counts : (c : Counts) → r ≡ found.Passes c → Counted c ≡ checked ws h
+  pub answer-counts : {c : Counts} → r ≡ found.Passes c → Counted c ≡ checked ws h
   unfolding AuditIs checked
-  answer-counts c e =
+  answer-counts {c} e =
       let j : (passes ws h ≡ true) × (c ≡ countsOf h (shape ws (h .bytes))) = subst (λ (q : Audit). AuditIs ws h q) e k in
       rw (j .0) (ap Counted (j .1))
 
@@ -182,8 +182,8 @@ module _ (ws : List ℕ) (h : Heap) (r : Audit) (k : AuditIs ws h r) where
       let j : passes ws h ≡ false = subst (λ (q : Audit). AuditIs ws h q) e k in
       sym j
 
-  pub finds-passing : (c : Counts) → r ≡ found.Passes c → true ≡ passes ws h
+  pub finds-passing : {c : Counts} → r ≡ found.Passes c → true ≡ passes ws h
   unfolding AuditIs
-  finds-passing c e =
+  finds-passing {c} e =
       let j : (passes ws h ≡ true) × (c ≡ countsOf h (shape ws (h .bytes))) = subst (λ (q : Audit). AuditIs ws h q) e k in
       sym (j .0)

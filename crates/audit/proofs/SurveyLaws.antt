@@ -140,16 +140,14 @@ module _ (ws : List ℕ) (bytes donor top : ℕ) where
           let b = chunks-few ws bytes 0 in
           omega arith
 
-      share : Entry → Share
+      abbrev share : Entry → Share
       share d = shareAt bytes donor top d
 
       small : (d : Entry) → (share d .used ≤ d .size) × (share d .free ≤ d .size) × (share d .ordinary ≤ 1) × (share d .donors ≤ 1) × (share d .tops ≤ 1)
-      unfolding share
       small d = share-small (kindAt bytes donor top d) (d .size)
 
       -- the counts with this chunk, as numbers that have not wrapped
       unwrapped : added t (shareAt bytes donor top e) c ≡ plainly t e c
-      unfolding share
       unwrapped =
           rw (
             chunk-more,

@@ -274,30 +274,26 @@ module _ (ws table : List ℕ) (valid : ValidTable table) (all heads tails : Lis
       (once : Distinct all) where
     module _ (f : (i : ℕ) → i < n → BinIs i) where
       -- all members together
-      everyone : List ℕ
+      abbrev everyone : List ℕ
       everyone = gathered list (numbersFrom 0 n)
 
       everyone-once : Distinct everyone
-      unfolding everyone
       everyone-once =
           gathered-once list n 0 (λ i lo hi. f i (omega arith) .once)
           (λ i j lo lt hi c m k. let e = bins-apart i j (f i (omega arith)) (f j (omega arith)) c m k in omega arith)
 
       everyone-known : (c : ℕ) → Mem c everyone → Mem c all
-      unfolding everyone
       everyone-known c m =
           let r = gathered-from list n 0 m in
           f (r .0) (omega (arith, r .1 .1)) .members c (r .2) .known
 
       counted : length everyone ≡ total (λ i. length (list i)) (numbersFrom 0 n)
-      unfolding everyone
       counted = gathered-length list (numbersFrom 0 n)
 
       not-more : length everyone ≤ length all
       not-more = distinct-fits everyone all everyone-once everyone-known
 
       covers : total (λ i. length (list i)) (numbersFrom 0 n) % 2 ^ 32 ≡ length all → Covered n
-      unfolding everyone
       covers h c m =
           let a = not-more in
           let b = counted in
@@ -306,7 +302,6 @@ module _ (ws table : List ℕ) (valid : ValidTable table) (all heads tails : Lis
           (r .0, omega (arith, r .1 .1), r .2)
 
       count-all : Covered n → total (λ i. length (list i)) (numbersFrom 0 n) % 2 ^ 32 ≡ length all
-      unfolding everyone
       count-all g =
           let a = not-more in
           let b = counted in
