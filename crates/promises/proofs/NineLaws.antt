@@ -24,10 +24,11 @@ use Rattle.release.proofs.ShrinkKept.{shrink-kept}
 use Rattle.resize.proofs.MoveMeaning.{move-housed}
 use Rattle.promises.specs.Ways.{ours}
 use Rattle.promises.specs.Room.{HoldsBlock, NoneServes}
-use Rattle.promises.specs.Refused.{NoBlock, Because, fails, freeNotLive, reallocateNotLive, allocateRoom, clearedRoom, reallocateRoom, allocateBin, clearedBin, freeBin, reallocateNewBin, reallocateBin, isSetup, NeverNine}
+use Rattle.promises.specs.Refused.{NoBlock, Because, freeNotLive, reallocateNotLive, allocateRoom, clearedRoom, reallocateRoom, allocateBin, clearedBin, freeBin, reallocateNewBin, reallocateBin, isSetup, NeverNine}
 use Rattle.promises.proofs.ServeLaws.{room-iff}
 use Rattle.promises.proofs.RefusedLaws.{refusing}
-use Rattle.promises.proofs.ReasonLaws.{passes?, live-iff, one-block, live-holds}
+use Rattle.promises.proofs.ReasonLaws.{live-iff, one-block, live-holds}
+use Rattle.promises.proofs.JudgedLaws.{well}
 use Rattle.promises.proofs.ResizedLaws.{resized-so}
 
 -- the call is refused for no number below 9
@@ -79,7 +80,7 @@ module _ (ws : List ℕ) (h : Heap) (p : Passes ws h) where
 module _ (ws : List ℕ) (h : Heap) where
   -- the heap passes, since the call is not refused for failing
   passing : (call : Call) → isSetup call ≡ false → NoneBefore ws h call → Passes ws h
-  passing call s u = passes? ws h (λ n. u HeapFails (omega arith) (fails s n))
+  passing call s u = well ws h call s (u HeapFails (omega arith))
 
   -- so the reason of number 9 does not hold
   none-bins : (call : Call) → Because ws h call NoBinTakes → NoneBefore ws h call → ⊥
