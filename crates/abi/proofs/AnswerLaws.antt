@@ -11,28 +11,28 @@ use Rattle.record.specs.declared.answers.Counts.{Counts}
 use Rattle.record.specs.declared.answers.Refusal.{Refusal}
 use Rattle.abi.specs.Flat.{complement, answerOut}
 
-module _ (a : Answer) where
+module _ {a : Answer} where
   pub done-words : a ≡ Done → 0 ∷ 0 ∷ 0 ∷ 0 ∷ 0 ∷ [] ≡ answerOut a
   unfolding answerOut complement
   done-words e = rw e
 
-  pub granted-words : (block : Block) (change : ℤ) (v : ℕ) → a ≡ Granted block change → v ≡ complement change
+  pub granted-words : {block : Block} {change : ℤ} {v : ℕ} → a ≡ Granted block change → v ≡ complement change
       → 0 ∷ block .0 ∷ 0 ∷ v ∷ 0 ∷ [] ≡ answerOut a
   unfolding answerOut
-  granted-words block change v e q = rw (e, q)
+  granted-words e q = rw (e, q)
 
-  pub returned-words : (change : ℤ) (v : ℕ) → a ≡ Returned change → v ≡ complement change → 0 ∷ 0 ∷ 0 ∷ v ∷ 0 ∷ [] ≡ answerOut a
+  pub returned-words : {change : ℤ} {v : ℕ} → a ≡ Returned change → v ≡ complement change → 0 ∷ 0 ∷ 0 ∷ v ∷ 0 ∷ [] ≡ answerOut a
   unfolding answerOut
-  returned-words change v e q = rw (e, q)
+  returned-words e q = rw (e, q)
 
-  pub told-words : (value : ℕ) → a ≡ Told value → 0 ∷ 0 ∷ value ∷ 0 ∷ 0 ∷ [] ≡ answerOut a
+  pub told-words : {value : ℕ} → a ≡ Told value → 0 ∷ 0 ∷ value ∷ 0 ∷ 0 ∷ [] ≡ answerOut a
   unfolding answerOut complement
-  told-words value e = rw e
+  told-words e = rw e
 
-  pub counted-words : (n : Counts) → a ≡ Counted n → 0 ∷ n .chunks ∷ n .ordinary ∷ n .used ∷ n .free ∷ [] ≡ answerOut a
+  pub counted-words : {n : Counts} → a ≡ Counted n → 0 ∷ n .chunks ∷ n .ordinary ∷ n .used ∷ n .free ∷ [] ≡ answerOut a
   unfolding answerOut
-  counted-words n e = rw e
+  counted-words e = rw e
 
-  pub refused-words : (why : Refusal) (v : ℕ) → a ≡ Refused why → v ≡ numberOf why → v ∷ 0 ∷ 0 ∷ 0 ∷ 0 ∷ [] ≡ answerOut a
+  pub refused-words : {why : Refusal} {v : ℕ} → a ≡ Refused why → v ≡ numberOf why → v ∷ 0 ∷ 0 ∷ 0 ∷ 0 ∷ [] ≡ answerOut a
   unfolding answerOut complement
-  refused-words why v e q = rw (e, q)
+  refused-words e q = rw (e, q)

@@ -1,4 +1,4 @@
--- Flat and back is the same, both ways. Assumes nothing.
+-- A record's words say that record (`flat-and-back`), and words that say a record are its words (`back-and-flat`). Assumes nothing.
 use mathlib.Core.Path.{_≡_, refl, sym}
 use mathlib.Core.Bool.{Bool, true, false, cond}
 use mathlib.Core.List.{List, _++_}
@@ -10,6 +10,7 @@ use lib.Seq.{take-all, take-at, drop-at, drop-cons, drop-drop}
 use Rattle.record.specs.declared.heap.Heap.{Heap}
 use Rattle.abi.specs.Flat.{mergePlace, recordIn, recordOut}
 
+-- the merge word, there and back
 merge-back : (on : Bool) → eqb (cond on 1 0) 1 ≡ on
 merge-back true = refl
 merge-back false = refl
@@ -19,6 +20,7 @@ merge-there zero l = refl
 merge-there (suc zero) l = refl
 merge-there (suc (suc word)) l = absurd (omega arith)
 
+-- the second and the third of the bins' arrays
 module _ (sizes heads tails : List ℕ) (s : length sizes ≡ 32) (h : length heads ≡ 32) (t : length tails ≡ 32) where
   heads-back : take 32 (drop 32 (sizes ++ (heads ++ tails))) ≡ heads
   heads-back = rw (drop-at sizes (heads ++ tails) 32 s) (take-at heads tails 32 h)

@@ -31,6 +31,7 @@ raise (negsuc n) f t =
     let small = f .sfits in
     rw (le-ltb 4294967296 (suc n) (omega arith)) (ap pos (omega arith))
 
+-- a word holds the complement
 small : (z : ℤ) → SFits w32 z → complement z < 2 ^ 32
 unfolding complement
 small (pos n) f = omega arith

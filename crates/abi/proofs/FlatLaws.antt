@@ -41,6 +41,7 @@ pub four-parts : (now first sizes heads tails : List ℕ) → BeginsWith 102 (((
 four-parts now first sizes heads tails (whole, begins) =
     sym (take-all 102 now (omega arith)) ∙ begins ∙ append-assoc (first ++ sizes) heads tails ∙ append-assoc first sizes (heads ++ tails)
 
+-- a Boolean as the machine's byte, and as the word of the record
 pub merge-word : (on : Bool) → boolByte on ≡ cond on 1 0
 merge-word true = refl
 merge-word false = refl

@@ -15,8 +15,8 @@ use Rattle.rules.specs.Ask.{chunkAnswers, binAnswers, askedSpot, isThere, askRe
 use Rattle.rules.specs.Draft.{asRead}
 use Rattle.rules.specs.Merge.{check}
 use Rattle.rules.specs.Outcome.{Outcome, Refusals, judged, heapFails}
-use Rattle.rules.proofs.OutcomeLaws.{judged-so}
 use Rattle.rules.specs.Statements.{Left, Meets}
+use Rattle.rules.proofs.OutcomeLaws.{judged-so}
 use Rattle.abi.specs.Flat.{mergePlace, recordIn, recordOut, answerOut, refusalOut}
 use Rattle.abi.specs.Handed.{handed, handedBy, openedBy, flatAfter}
 use Rattle.abi.proofs.BackLaws.{back-and-flat}
@@ -35,6 +35,7 @@ refusal-first (Refused refusal) = refl
 abbrev pub HandsBack : List ℕ → Answer → Heap → ℕ → List ℕ → List ℕ → Type 0
 HandsBack rs a h r five after = (r ≡ refusalOut a) × ((five ≡ answerOut a) × (after ≡ flatAfter rs a h))
 
+-- a refusal is handed back with the record's words as they are, an acceptance with the new record's
 module _ (rs five : List ℕ) (a : Answer) (h : Heap) (e : five ≡ answerOut a) where
   first-is : getD five 0 0 ≡ refusalOut a
   first-is = ap (λ (ws : List ℕ). getD ws 0 0) e ∙ refusal-first a
@@ -47,20 +48,20 @@ module _ (rs five : List ℕ) (a : Answer) (h : Heap) (e : five ≡ answerOut a)
   unfolding flatAfter
   acceptance-packs after z p = (first-is, (e, rw (eq-eqb (refusalOut a) 0 (sym first-is ∙ z)) p))
 
-module _ (ws rs : List ℕ) where
-  -- a damaged merge word
-  pub refuses : (o : Outcome) (r : ℕ) (five : List ℕ) → 1 < getD rs mergePlace 0 → (r ≡ 4) × (five ≡ answerOut (Refused HeapFails))
-      → handed r five rs ws ≡ handedBy ws rs o
-  unfolding handedBy
-  refuses o r five l (n, e) = rw (lt-leb _ _ l, n, e) refl
+-- a damaged merge word
+pub refuses : {ws rs : List ℕ} (o : Outcome) {r : ℕ} {five : List ℕ} → 1 < getD rs mergePlace 0 → (r ≡ 4) × (five ≡ answerOut (Refused HeapFails))
+    → handed r five rs ws ≡ handedBy ws rs o
+unfolding handedBy
+refuses o l (n, e) = rw (lt-leb _ _ l, n, e) refl
 
+module _ (ws rs : List ℕ) where
   -- a call on the record that the words say
-  pub answers : (call : Heap → Outcome) (heap : Heap) (reply : Reply) (after : List ℕ) (r : ℕ) (five state : List ℕ)
+  pub answers : (call : Heap → Outcome) {heap : Heap} (reply : Reply) {after : List ℕ} {r : ℕ} {five state : List ℕ}
       → getD rs mergePlace 0 ≤ 1 → heap ≡ recordIn rs → Meets ws (call heap) reply after
       → HandsBack rs (reply .answer) (reply .heap) r five state
       → handed r five state after ≡ handedBy ws rs (call (recordIn rs))
   unfolding handedBy
-  answers call heap reply after r five state l q m (n, (e, p)) =
+  answers call reply l q m (n, (e, p)) =
       rw (le-leb _ _ l, sym q, sym (ap (λ (x : Left). x .answer) m), sym (ap (λ (x : Left). x .heap) m), sym (ap (λ (x : Left). x .words) m), n, e, p) refl
 
   -- a call that leaves the record as it is: the words that say it stay
@@ -74,13 +75,13 @@ module _ (ws rs : List ℕ) where
         by false = refl
 
     pub tells : (call : Heap → Outcome) → ((h : Heap) → call h .heap ≡ h)
-        → (heap : Heap) (reply : Reply) (after : List ℕ) (r : ℕ) (five : List ℕ)
+        → {heap : Heap} (reply : Reply) {after : List ℕ} {r : ℕ} {five : List ℕ}
         → heap ≡ recordIn rs → Meets ws (call heap) reply after
         → (r ≡ refusalOut (reply .answer)) × (five ≡ answerOut (reply .answer))
         → handed r five rs after ≡ handedBy ws rs (call (recordIn rs))
-    tells call stays heap reply after r five q m (n, e) =
+    tells call stays {heap} reply q m (n, e) =
         let kept : reply .heap ≡ recordIn rs = ap (λ (x : Left). x .heap) m ∙ stays heap ∙ q in
-        answers call heap reply after r five rs l q m (n, (e, sym (ap (flatAfter rs (reply .answer)) kept ∙ flat-stays (reply .answer))))
+        answers call reply l q m (n, (e, sym (ap (flatAfter rs (reply .answer)) kept ∙ flat-stays (reply .answer))))
 
 -- the check and the questions leave the record as it is, refused or not
 judged-stays : (h : Heap) (ts : Refusals) (o : Outcome) → o .heap ≡ h → judged h ts o .heap ≡ h
@@ -103,10 +104,10 @@ bin-stays ws q i h =
     let answers = binAnswers (asRead ws h .lists i) in
     judged-stays h (askRefusals (heapFails ws h) q answers (ltb i (h .bins))) (asked h q answers) refl
 
--- setup
-pub opens : (ws : List ℕ) (o : Outcome) (reply : Reply) (after five state : List ℕ) → Meets ws o reply after
+-- setup hands back its record, accepted or refused
+pub opens : (ws : List ℕ) (o : Outcome) (reply : Reply) {after five state : List ℕ} → Meets ws o reply after
     → five ≡ answerOut (reply .answer) → state ≡ recordOut (reply .heap)
     → handed (getD five 0 0) five state after ≡ openedBy ws o
 unfolding openedBy
-opens ws o reply after five state m e p =
+opens ws o reply m e p =
     rw (sym (ap (λ (x : Left). x .answer) m), sym (ap (λ (x : Left). x .heap) m), sym (ap (λ (x : Left). x .words) m), e, p, refusal-first (reply .answer)) refl

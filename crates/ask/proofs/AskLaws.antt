@@ -26,10 +26,11 @@ use Rattle.seek.specs.declared.Sought.the-variants.{Found, Nowhere}
 use Rattle.seek.specs.Seek.{soughtIn, liveAt, hasBlock}
 use Rattle.ask.specs.Questions.{sizeOf, binNumber, chainFigure, asksOfBin, memberFigure, figureOf, toldOf, holderOf, askChunkM, askBinM}
 
-module _ (table : List ℕ) (s : ℕ) (r : Binned) (k : TakenBy table s r) where
-  pub number-of-bin : (i : ℕ) → r ≡ Bin i → i % 32 ≡ binNumber table s
+-- the number of the bin that takes a size, and 0 if none does
+module _ (table : List ℕ) (s : ℕ) {r : Binned} (k : TakenBy table s r) where
+  pub number-of-bin : {i : ℕ} → r ≡ Bin i → i % 32 ≡ binNumber table s
   unfolding binNumber
-  number-of-bin i e = rw (← bin-is table s r k, e)
+  number-of-bin e = rw (← bin-is table s r k, e)
 
   pub number-of-none : r ≡ NoBin → 0 ≡ binNumber table s
   unfolding binNumber
@@ -99,6 +100,7 @@ module _ (ws table : List ℕ) (q : ℕ) (x : Place) where
     unfolding memberFigure
     previous-member-told n ew = rw (ne-eqb q 1 not-one, ne-eqb q 5 n) ew
 
+-- what the place tells, or what is known of it as a member if it is ordinary
 module _ (ws table : List ℕ) (bytes donor top q : ℕ) (x : Place) {t : Bool} (et : t ≡ asksOfBin q) where
   pub of-place-told : not t ≡ true → {v : ℕ} → v ≡ chainFigure bytes q x → v ≡ figureOf ws table bytes donor top q x
   unfolding figureOf
@@ -115,25 +117,26 @@ module _ (ws table : List ℕ) (bytes donor top q : ℕ) (x : Place) {t : Bool} 
     member-told h ev = rw (← et, not-false t ht, ← ek (sizeOf x), ← eu, not-false u h) ev
 
 -- the answers by what was found
-module _ (s s′ : Sought) (es : s ≡ s′) where
+module _ {s s′ : Sought} (es : s ≡ s′) where
   pub no-holder : s ≡ Nowhere → Refused NotThere ≡ holderOf s′
   unfolding holderOf
   no-holder e = rw (← es, e)
 
-  pub holder-told : (x : Place) → s ≡ Found x → Told (x .chunk .0) ≡ holderOf s′
+  pub holder-told : {x : Place} → s ≡ Found x → Told (x .chunk .0) ≡ holderOf s′
   unfolding holderOf
-  holder-told x e = rw (← es, e)
+  holder-told e = rw (← es, e)
 
   module _ (ws table : List ℕ) (bytes donor top q : ℕ) where
     pub no-place : s ≡ Nowhere → Refused NotThere ≡ toldOf ws table bytes donor top q s′
     unfolding toldOf
     no-place e = rw (← es, e)
 
-    pub place-told : (x : Place) → s ≡ Found x → {v : ℕ} → v ≡ figureOf ws table bytes donor top q x
+    pub place-told : {x : Place} → s ≡ Found x → {v : ℕ} → v ≡ figureOf ws table bytes donor top q x
         → Told v ≡ toldOf ws table bytes donor top q s′
     unfolding toldOf
-    place-told x e ev = rw (← es, e, ev)
+    place-told e ev = rw (← es, e, ev)
 
+-- the questions about a chunk: number 3 asks for a block, 1 to 9 else for a chunk
 module _ (ws table : List ℕ) (bytes donor top q place : ℕ) where
   pub holder-asked : q ≡ 3 → {a : Answer} → a ≡ holderOf (soughtIn (hasBlock bytes place) 0 (shape ws bytes))
       → a ≡ askChunkM ws table bytes donor top q place
@@ -155,35 +158,35 @@ module _ (ws table : List ℕ) (bytes donor top q place : ℕ) where
       unfolding askChunkM
       place-asked h ea = rw (ne-eqb q 3 not-three, le-leb 1 q from, le-leb q 9 h) ea
 
--- the count of what a reading has passed
-module _ (ws : List ℕ) where
-  pub record Counting (steps first c met : ℕ) : Type 0 where
-    pub within : met ≤ steps
-    pub count : met + length (membersFrom (steps - met) ws c) ≡ length (membersFrom steps ws first)
+-- where the count of a list stands, at c: what is met and what is left come to the whole
+pub record Counting (ws : List ℕ) (steps first c met : ℕ) : Type 0 where
+  pub within : met ≤ steps
+  pub count : met + length (membersFrom (steps - met) ws c) ≡ length (membersFrom steps ws first)
 
-  module _ (steps first : ℕ) where
-    pub counting-begins : Counting steps first first 0
-    counting-begins =
-        let q : steps - 0 ≡ steps = omega arith in
-        record { within = omega arith; count = rw q (omega arith) }
+module _ {ws : List ℕ} {steps first : ℕ} where
+  pub counting-begins : Counting ws steps first first 0
+  counting-begins =
+      let q : steps - 0 ≡ steps = omega arith in
+      record { within = omega arith; count = rw q (omega arith) }
 
-    module _ (c met : ℕ) (o : Counting steps first c met) where
-      pub counted-all : c ≡ 0 → met ≡ length (membersFrom steps ws first)
-      counted-all e =
-          let r : length (membersFrom (steps - met) ws c) ≡ 0 = ap length (ap (membersFrom (steps - met) ws) e ∙ read-none ws (steps - met)) in
-          omega (arith, o .count)
+  module _ {c met : ℕ} (o : Counting ws steps first c met) where
+    pub counted-all : c ≡ 0 → met ≡ length (membersFrom steps ws first)
+    counted-all e =
+        let r : length (membersFrom (steps - met) ws c) ≡ 0 = ap length (ap (membersFrom (steps - met) ws) e ∙ read-none ws (steps - met)) in
+        omega (arith, o .count)
 
-      pub counted-most : steps ≤ met → met ≡ length (membersFrom steps ws first)
-      counted-most h =
-          let r : length (membersFrom (steps - met) ws c) ≡ 0 = ap length (read-spent ws (steps - met) c (omega (arith, o .within))) in
-          omega (arith, o .count)
+    pub counted-most : steps ≤ met → met ≡ length (membersFrom steps ws first)
+    counted-most h =
+        let r : length (membersFrom (steps - met) ws c) ≡ 0 = ap length (read-spent ws (steps - met) c (omega (arith, o .within))) in
+        omega (arith, o .count)
 
-      pub counting-goes : (c ≡ 0 → ⊥) → met < steps → {d : ℕ} → d ≡ word ws c nextInBin → Counting steps first d (met + 1)
-      counting-goes n h ed =
-          let r : length (membersFrom (steps - met) ws c) ≡ suc (length (membersFrom (steps - met - 1) ws (word ws c nextInBin))) = ap length (read-more ws (steps - met) c n (omega arith)) in
-          let q : steps - (met + 1) ≡ steps - met - 1 = omega arith in
-          rw ed (record { within = omega arith; count = rw q (omega (arith, o .count)) })
+    pub counting-goes : (c ≡ 0 → ⊥) → met < steps → {d : ℕ} → d ≡ word ws c nextInBin → Counting ws steps first d (met + 1)
+    counting-goes n h ed =
+        let r : length (membersFrom (steps - met) ws c) ≡ suc (length (membersFrom (steps - met - 1) ws (word ws c nextInBin))) = ap length (read-more ws (steps - met) c n (omega arith)) in
+        let q : steps - (met + 1) ≡ steps - met - 1 = omega arith in
+        rw ed (record { within = omega arith; count = rw q (omega (arith, o .count)) })
 
+-- the questions about a bin
 module _ (ws heads tails : List ℕ) (bins bytes q i : ℕ) where
   pub no-bin : bins ≤ i → Refused NotThere ≡ askBinM ws heads tails bins bytes q i
   unfolding askBinM

@@ -9,8 +9,8 @@ use native.Mathlib.Omega.{arith}
 use lib.Dec.{eqb, leb, ltb}
 use lib.ListN.{getD}
 use borrow.Author.Tests.{eq-eqb, ne-eqb, le-leb, lt-leb, lt-ltb, le-ltb}
-use Rattle.lists.proofs.ListsLaws.{both, at-most}
 use Rattle.lists.specs.Lists.{Mem, headOr, lastOr, any, upTo, past}
+use Rattle.lists.proofs.ListsLaws.{both, at-most}
 use Rattle.record.specs.declared.answers.Answer.the-variants.{Told, Refused}
 use Rattle.record.specs.declared.answers.Refusal.the-variants.{NotThere, HeapFails}
 use Rattle.record.specs.declared.heap.Heap.{Heap}
@@ -35,6 +35,7 @@ use Rattle.seek.specs.Seek.{placed, soughtIn, liveAt, hasBlock}
 use Rattle.seek.proofs.SeekLaws.{live-is, sought-none, sought-spot, sought-block}
 use Rattle.ask.specs.Questions.{sizeOf, numberIn, binNumber, chainFigure, asksOfBin, memberFigure, figureOf, toldOf, holderOf, askChunkM, askBinM}
 
+-- the place of the last chunk is the last of the places
 last-place : (d : Entry) (es : List Entry) → lastOr d es .place ≡ lastOr (d .place) (placesOf es)
 last-place d [] = refl
 last-place d (e ∷ es) = last-place e es
@@ -80,6 +81,7 @@ module _ (ws : List ℕ) (h : Heap) (k : Passes ws h) where
   some-bytes : (0 < h .bytes) × (h .bytes ≤ 65536)
   some-bytes = omega (arith, k .fits .enough, k .fits .notTooMany, k .fits .bytes)
 
+  -- the figures of a chunk of the chain, by question: bin number, next and previous in its bin if it is ordinary, block if it is live
   module _ (e : Entry) (m : Mem e (shape ws (h .bytes))) where
     number-is : (t : Bool) → ordinary h e ≡ t
         → cond t (numberIn (binOf (tableOf h) (e .size))) 0 ≡ shown (numberOf (cond t (binOf (tableOf h) (e .size)) NoBin))
@@ -122,30 +124,28 @@ module _ (ws : List ℕ) (h : Heap) (k : Passes ws h) where
 
   -- a chunk of the chain that meets the test, in the code's terms and in those of the rules
   module _ (p : Entry → Bool) (found : any p (shape ws (h .bytes)) ≡ true) where
-    here : Spot
+    abbrev here : Spot
     here = spot p (shape ws (h .bytes))
 
     member : Mem (here .here) (shape ws (h .bytes))
-    unfolding here
     member = spot-member p (shape ws (h .bytes)) found
 
     size-is : here .here .place + here .here .size - here .here .place ≡ here .here .size
     size-is = omega arith
 
     next-place : nextBy (h .bytes) (here .here) ≡ shown (firstOf (placesOf (here .high)))
-    unfolding here
     next-place =
-        let s : Spot = spot p (shape ws (h .bytes)) in
-        let t = tiled-cut 0 (h .bytes) (s .low) (s .here ∷ s .high) (rw (spot-splits p (shape ws (h .bytes)) found .0) at (tiled ws h k)) in
-        next-behind (h .bytes) (s .here) (s .high) (t .2 .2) ∙ shown-first (placesOf (s .high))
+        let t = tiled-cut 0 (h .bytes) (here .low) (here .here ∷ here .high) (rw (spot-splits p (shape ws (h .bytes)) found .0) at (tiled ws h k)) in
+        next-behind (h .bytes) (here .here) (here .high) (t .2 .2) ∙ shown-first (placesOf (here .high))
 
-    figure : ℕ → ℕ
+    -- what the code tells of it
+    abbrev figure : ℕ → ℕ
     figure q =
         figureOf ws (tableOf h) (h .bytes) (h .donor .0) (h .top .0) q
         (placed (lastOr (entry 0 0 0) (here .low) .place) (here .here))
 
     figure-is : (q : ℕ) → 1 ≤ q → q ≤ 9 → (q ≡ 3 → ⊥) → figure q ≡ answerTo q (chunkAnswers (asRead ws h) here)
-    unfolding asRead figure figureOf asksOfBin chainFigure memberFigure binNumber sizeOf
+    unfolding asRead figureOf asksOfBin chainFigure memberFigure binNumber sizeOf
     figure-is zero lo hi n = absurd (omega arith)
     figure-is (suc zero) lo hi n = rw size-is (number-is (here .here) member (ordinary h (here .here)) refl)
     figure-is (suc (suc zero)) lo hi n = block-is (here .here) member
@@ -158,6 +158,7 @@ module _ (ws : List ℕ) (h : Heap) (k : Passes ws h) where
     figure-is (suc (suc (suc (suc (suc (suc (suc (suc (suc zero))))))))) lo hi n = refl
     figure-is (suc (suc (suc (suc (suc (suc (suc (suc (suc (suc q)))))))))) lo hi n = absurd (omega arith)
 
+  -- the rules' answers to all questions about the chunk that is asked for
   abbrev answers : ℕ → ℕ → List (Option ℕ)
   answers q place = chunkAnswers (asRead ws h) (askedSpot (asRead ws h) q place)
 
@@ -184,7 +185,7 @@ module _ (ws : List ℕ) (h : Heap) (k : Passes ws h) where
   told-is : (q place : ℕ) → (q ≡ 3 → ⊥) → (a t : Bool) → (leb 1 q && leb q 9) ≡ a → any (isAt place) (shape ws (h .bytes)) ≡ t
       → cond a (toldOf ws (tableOf h) (h .bytes) (h .donor .0) (h .top .0) q (soughtIn (isAt place) 0 (shape ws (h .bytes)))) (Refused NotThere)
       ≡ cond (not a || not t) (Refused NotThere) (Told (answerTo q (chunkAnswers (asRead ws h) (spot (isAt place) (shape ws (h .bytes))))))
-  unfolding toldOf here figure
+  unfolding toldOf
   told-is q place n true true ea e =
       let r = both (at-most 1 q) (at-most q 9) .0 ea in
       rw (sought-spot (isAt place) 0 (shape ws (h .bytes)) e)
@@ -226,6 +227,7 @@ module _ (ws : List ℕ) (h : Heap) (k : Passes ws h) where
       )
       refl
 
+  -- and what the rules answer
   rule-bin : (q i : ℕ)
       → askBin ws h q i .answer
       ≡ cond (not (isAsked q (binAnswers (binList ws h i))) || not (ltb i (h .bins))) (Refused NotThere) (Told (answerTo q (binAnswers (binList ws h i))))

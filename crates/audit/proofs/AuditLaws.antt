@@ -7,9 +7,9 @@ use lib.Dec.{eqb, leb}
 use lib.ListN.{length, getD, take, drop-of-length-le}
 use lib.Seq.{drop-cons}
 use borrow.Author.Tests.{eq-eqb, ne-eqb, le-leb, lt-leb, not-true, not-false}
+use Rattle.lists.specs.Lists.{numbersFrom}
 use Rattle.record.specs.Table.{validTable}
 use Rattle.rules.specs.Check.{unusedFrom}
-use Rattle.lists.specs.Lists.{numbersFrom}
 use Rattle.rules.specs.Shape.{shape}
 use Rattle.audit.specs.declared.Audit.the-variants.{Passes, Fails}
 use Rattle.audit.specs.declared.survey.Survey.{Survey}
@@ -28,12 +28,14 @@ still b e = rw (← e)
 hold : {a b t : Bool} → true ≡ a → t ≡ b → t ≡ (a && b)
 hold e k = rw (← e) k
 
+-- the same of a test t as the code makes it
 failed : {t a : Bool} → t ≡ a → not t ≡ true → false ≡ a
 failed {t} e h = sym (not-true t h) ∙ e
 
 held : {t a : Bool} → t ≡ a → not t ≡ false → true ≡ a
 held {t} e h = sym (not-false t h) ∙ e
 
+-- the region's length
 module _ (words bytes : ℕ) where
   pub too-few : words < 10 → false ≡ fitsLength words bytes
   unfolding fitsLength
@@ -57,6 +59,7 @@ module _ (l : List ℕ) (i : ℕ) where
   pub unused-ends : length l ≤ i → unusedFrom i l ≡ true
   unused-ends h = rw (drop-of-length-le l h)
 
+-- the table, and the unused places of the three arrays
 module _ (bins : ℕ) (sizes heads tails : List ℕ) where
   pub too-long : length sizes < bins → false ≡ tabledAs bins sizes heads tails
   unfolding tabledAs
@@ -84,6 +87,7 @@ module _ (bins : ℕ) (sizes heads tails : List ℕ) where
         unfolding tabledAs
         by-tails h ew = hold (hold (hold (hold long (held et ht)) (held eu hu)) (held ev h)) ew
 
+-- the tally: the chain reaches the end, and top and donor were met
 module _ (t : Tally) (bytes donor : ℕ) where
   pub no-end : (t .end + 8 ≡ bytes → ⊥) → false ≡ settled t bytes donor
   unfolding settled

@@ -15,7 +15,6 @@ use Rattle.record.specs.Heap.{tableOf}
 use Rattle.record.specs.Table.{validTable}
 use Rattle.record.proofs.TableLaws.{valid-iff}
 use Rattle.rules.specs.Check.{Tabled, unusedFrom, countsOf, passes, Passes, Fits}
-use Rattle.rules.specs.Kinds.{ordinary}
 use Rattle.rules.specs.Merge.{checked}
 use Rattle.rules.specs.Shape.{Entry, shape}
 use Rattle.rules.proofs.CheckLaws.{passes-iff}
@@ -32,6 +31,7 @@ pub record Places (h : Heap) : Type 0 where
   pub heads : length (h .heads) ≡ 32
   pub tails : length (h .tails) ≡ 32
 
+-- the test of the length, and the test of the table
 length-iff : (ws : List ℕ) (h : Heap) → Decides (fitsLength (length ws) (h .bytes)) (Fits ws h)
 unfolding fitsLength
 length-iff ws h =
@@ -62,6 +62,7 @@ tabled-iff h p =
     })
     (λ f. ((((omega (arith, p .sizes, f .bins), f .valid), f .sizesEnd), f .headsEnd), f .tailsEnd))
 
+-- what is found by each test in turn is what the check of the rules says
 module _ (ws : List ℕ) (h : Heap) where
   pub audit-short : fitsLength (length ws) (h .bytes) ≡ false → AuditIs ws h found.Fails
   unfolding AuditIs
@@ -86,6 +87,7 @@ module _ (ws : List ℕ) (h : Heap) where
       walks =
           well-iff (evenPart ws) h (omega (arith, fits .bytes, fits .enough)) (omega (arith, fits .bytes, fits .notTooMany)) table
 
+      -- a heap that passes has the facts of the walks, over the even part; and the other way, with length and table
       rest-of : Passes ws h → Rest (evenPart ws) h
       rest-of p =
           let q = even-passes ws h fits .0 p in
@@ -162,14 +164,14 @@ lent-sizes bins sizes heads tails e =
     .0 e .0 .0 .0 .0
 
 -- the answer of the check, by what was found
-module _ (ws : List ℕ) (h : Heap) (r : Audit) (k : AuditIs ws h r) where
+module _ (ws : List ℕ) (h : Heap) {r : Audit} (k : AuditIs ws h r) where
   pub answer-fails : r ≡ found.Fails → Refused HeapFails ≡ checked ws h
   unfolding AuditIs checked
   answer-fails e = rw (subst (λ (q : Audit). AuditIs ws h q) e k)
 
-  pub answer-counts : (c : Counts) → r ≡ found.Passes c → Counted c ≡ checked ws h
+  pub answer-counts : {c : Counts} → r ≡ found.Passes c → Counted c ≡ checked ws h
   unfolding AuditIs checked
-  answer-counts c e =
+  answer-counts {c} e =
       let j : (passes ws h ≡ true) × (c ≡ countsOf h (shape ws (h .bytes))) = subst (λ (q : Audit). AuditIs ws h q) e k in
       rw (j .0) (ap Counted (j .1))
 
@@ -180,8 +182,8 @@ module _ (ws : List ℕ) (h : Heap) (r : Audit) (k : AuditIs ws h r) where
       let j : passes ws h ≡ false = subst (λ (q : Audit). AuditIs ws h q) e k in
       sym j
 
-  pub finds-passing : (c : Counts) → r ≡ found.Passes c → true ≡ passes ws h
+  pub finds-passing : {c : Counts} → r ≡ found.Passes c → true ≡ passes ws h
   unfolding AuditIs
-  finds-passing c e =
+  finds-passing {c} e =
       let j : (passes ws h ≡ true) × (c ≡ countsOf h (shape ws (h .bytes))) = subst (λ (q : Audit). AuditIs ws h q) e k in
       sym (j .0)

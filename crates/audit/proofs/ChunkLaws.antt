@@ -1,6 +1,6 @@
 -- The tests of one chunk: what the look at a chunk finds, from the tests that it makes. Assumes nothing.
 use mathlib.Core.Path.{_≡_, sym, _∙_, ap}
-use mathlib.Core.Bool.{Bool, true, false, cond, _&&_}
+use mathlib.Core.Bool.{Bool, true, false, cond}
 use mathlib.Core.List.{List}
 use Prim.Native.Nat.{ℕ, _%_}
 use Rattle.record.specs.declared.kinds.Kind.{Kind}

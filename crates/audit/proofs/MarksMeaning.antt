@@ -2,7 +2,7 @@
 -- Assumes nothing.
 use mathlib.Core.Path.{_≡_, refl, ap, _∙_}
 use mathlib.Core.Bool.{Bool, true, false, not, cond, _||_, or-true, or-false}
-use mathlib.Core.List.{List, [], _∷_, map, List·Memᴰ·head, List·Memᴰ·tail}
+use mathlib.Core.List.{List, [], _∷_, List·Memᴰ·head, List·Memᴰ·tail}
 use Prim.Native.Nat.{ℕ, suc, _%_, _≤_, _<_}
 use native.Mathlib.Decide.{ℕ-discrete}
 use native.Mathlib.Omega.{arith}
@@ -14,15 +14,13 @@ use Rattle.lists.proofs.ListsLaws.{Decides, is-member}
 use Rattle.marks.specs.Marks.{marked, flipped}
 use Rattle.marks.proofs.MarksLaws.{length-flipped, flip-same, flip-other, clear-marks}
 use Rattle.record.specs.declared.heap.Heap.{Heap}
+use Rattle.rules.specs.Ask.{placesOf}
 use Rattle.rules.specs.Check.{Chained}
 use Rattle.rules.specs.Shape.{Entry, shape}
 use Rattle.rules.specs.Kinds.{ordinary}
 use Rattle.rules.proofs.ChainLaws.{Rising, places-once, shape-chain}
 use Rattle.audit.specs.Survey.{marking, markAll}
 use Rattle.audit.proofs.SurveyMeaning.{ChainFacts}
-
-abbrev pub placesOf : List Entry → List ℕ
-placesOf es = map (λ e. e .place) es
 
 -- the places of the ordinary chunks, as they come in the chain
 abbrev pub ordinaries : Heap → List Entry → List ℕ
@@ -48,7 +46,7 @@ set-flipped : (ms : List ℕ) (c p : ℕ) → length ms ≡ 256 → p < 65536 �
 set-flipped ms c p n b z l u = flip-same ms p (omega arith) ∙ ap not (u p z l)
 
 -- the marks after the walk of a list of chunks
-abbrev pub marksFor : Heap → List ℕ → List Entry → List ℕ
+abbrev marksFor : Heap → List ℕ → List Entry → List ℕ
 marksFor h ms es = markAll (h .bytes) (h .donor .0) (h .top .0) ms es
 
 -- chunks that go up each flip a mark of their own, so a place is marked after them if it was before or an ordinary chunk is there
@@ -75,6 +73,7 @@ walk-marks h ms c (e ∷ es) n u r f d z =
         s ∙ rw (ne-eqb d (e .place) g, flip-other ms (e .place) d (λ q. omega (arith, fit .0)))
     go false _ fit s k = k
 
+-- the bitmap has a mark for each chunk of the chain
 places-fit : (ws : List ℕ) (h : Heap) → h .bytes ≤ 65536 → Chained ws h (shape ws (h .bytes))
     → (e : Entry) → Mem e (shape ws (h .bytes)) → Fit e
 places-fit ws h b chain e m =

@@ -109,10 +109,6 @@ module _ (ws : List ℕ) (bytes donor top : ℕ) where
     pub marks : markAll bytes donor top ms (chainFrom ws bytes c) ≡ markAll bytes donor top ms₀ (chainFrom ws bytes 0)
     pub tally : counted t (chainFrom ws bytes c) ≡ tallyOf bytes donor top (chainFrom ws bytes 0)
 
-  -- at the start everything is left
-  pub begins : (ms : List ℕ) → Onward ms ms (record { chunks = 0; ordinary = 0; donors = 0; tops = 0; used = 0; free = 0; end = 0 }) 0 0
-  begins ms = record { inside = omega arith; sound = refl; marks = refl; tally = simp zero-add }
-
   -- the counts of a chain fit a word
   module _ (fits : bytes < 2 ^ 32) where
     fit-count : (g : Entry → ℕ) → ((e : Entry) → g e ≤ 1) → total g (chainFrom ws bytes 0) < 2 ^ 32
@@ -144,16 +140,14 @@ module _ (ws : List ℕ) (bytes donor top : ℕ) where
           let b = chunks-few ws bytes 0 in
           omega arith
 
-      share : Entry → Share
+      abbrev share : Entry → Share
       share d = shareAt bytes donor top d
 
       small : (d : Entry) → (share d .used ≤ d .size) × (share d .free ≤ d .size) × (share d .ordinary ≤ 1) × (share d .donors ≤ 1) × (share d .tops ≤ 1)
-      unfolding share
       small d = share-small (kindAt bytes donor top d) (d .size)
 
       -- the counts with this chunk, as numbers that have not wrapped
       unwrapped : added t (shareAt bytes donor top e) c ≡ plainly t e c
-      unfolding share
       unwrapped =
           rw (
             chunk-more,
@@ -200,12 +194,18 @@ module _ (ws : List ℕ) (bytes donor top : ℕ) where
                 ∙ (rw (r .2) at (o .tally));
           })
 
+-- at the start everything is left
+pub begins : {ws : List ℕ} {bytes donor top : ℕ} {ms : List ℕ}
+    → Onward ws bytes donor top ms ms (record { chunks = 0; ordinary = 0; donors = 0; tops = 0; used = 0; free = 0; end = 0 }) 0 0
+begins = record { inside = omega arith; sound = refl; marks = refl; tally = simp zero-add }
+
 -- a share is added, whatever it is called
 pub tallies : (t : Tally) (c : ℕ) (s s′ : Share) {t′ : Tally} → s ≡ s′ → t′ ≡ added t s c → t′ ≡ added t s′ c
 tallies t c s s′ q e = e ∙ ap (λ (x : Share). added t x c) q
 
 -- what the code holds when it has looked at the chunk at c: its forward link n, its end e, and what was seen
-module _ (ws : List ℕ) (bytes donor top p c n e : ℕ) (seen : Seen) (en : n ≡ word ws c forward) (ee : e ≡ endOf bytes c n)
+module _ {ws : List ℕ} {bytes donor top : ℕ} {ms₀ ms : List ℕ} {t : Tally} {p c : ℕ} (o : Onward ws bytes donor top ms₀ ms t p c)
+    (fits : bytes < 2 ^ 32) {n e : ℕ} {seen : Seen} (en : n ≡ word ws c forward) (ee : e ≡ endOf bytes c n)
     (es : seen ≡ seenAt ws bytes donor top p c (e - c)) where
   end-is : e ≡ endAt ws bytes c
   end-is = ee ∙ ap (endOf bytes c) en
@@ -234,21 +234,20 @@ module _ (ws : List ℕ) (bytes donor top p c n e : ℕ) (seen : Seen) (en : n �
       by false q r = let z : _≡_ {A = ℕ} 0 1 = cc in absurd (omega arith)
 
   -- so the walk is where it should be, whichever way it goes on
-  module _ (fits : bytes < 2 ^ 32) (ms₀ ms : List ℕ) (t : Tally) (o : Onward ws bytes donor top ms₀ ms t p c) where
-    pub walk-breaks : seen ≡ Unsound → allSound ws bytes donor top 0 (shape ws bytes) ≡ false
-    walk-breaks u = breaks ws bytes donor top fits ms₀ ms t p c o (told-unsound u)
+  pub walk-breaks : seen ≡ Unsound → allSound ws bytes donor top 0 (shape ws bytes) ≡ false
+  walk-breaks u = breaks ws bytes donor top fits ms₀ ms t p c o (told-unsound u)
 
-    module _ (k : Kind) (ek : seen ≡ Sound k) (s : Share) (sh : s ≡ shareOf k (e - c))
-        (t′ : Tally) (et : t′ ≡ added t s c) (ms′ : List ℕ) (em : ms′ ≡ marking ms k c) where
-      pub walk-ends : e ≡ bytes → SurveyIs ws bytes donor top ms₀ ms′ (Surveyed t′)
-      walk-ends q =
-          let r = told-sound k ek in
-          rw (et, em, sh, end-is) (ends ws bytes donor top fits ms₀ ms t p c o k (r .0) (r .1) (sym end-is ∙ q))
+  module _ {k : Kind} (ek : seen ≡ Sound k) {s : Share} (sh : s ≡ shareOf k (e - c))
+      {t′ : Tally} (et : t′ ≡ added t s c) {ms′ : List ℕ} (em : ms′ ≡ marking ms k c) where
+    pub walk-ends : e ≡ bytes → SurveyIs ws bytes donor top ms₀ ms′ (Surveyed t′)
+    walk-ends q =
+        let r = told-sound k ek in
+        rw (et, em, sh, end-is) (ends ws bytes donor top fits ms₀ ms t p c o k (r .0) (r .1) (sym end-is ∙ q))
 
-      pub walk-goes : (e ≡ bytes → ⊥) → (c < n) × (n < bytes) × Onward ws bytes donor top ms₀ ms′ t′ c n
-      walk-goes f =
-          let r = told-sound k ek in
-          let m : endAt ws bytes c ≡ bytes → ⊥ = λ q. f (end-is ∙ q) in
-          let h = chain-next ws bytes c m in
-          let link : n ≡ endAt ws bytes c = en ∙ end-link ws bytes c m in
-          rw (et, em, sh, end-is, link) (h .0, h .1, goes-on ws bytes donor top fits ms₀ ms t p c o k (r .0) (r .1) m)
+    pub walk-goes : (e ≡ bytes → ⊥) → (c < n) × (n < bytes) × Onward ws bytes donor top ms₀ ms′ t′ c n
+    walk-goes f =
+        let r = told-sound k ek in
+        let m : endAt ws bytes c ≡ bytes → ⊥ = λ q. f (end-is ∙ q) in
+        let h = chain-next ws bytes c m in
+        let link : n ≡ endAt ws bytes c = en ∙ end-link ws bytes c m in
+        rw (et, em, sh, end-is, link) (h .0, h .1, goes-on ws bytes donor top fits ms₀ ms t p c o k (r .0) (r .1) m)

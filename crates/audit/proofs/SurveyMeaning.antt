@@ -19,7 +19,7 @@ use Rattle.rules.specs.Check.{Chained, Ended, Backed, Sound, Unbinned, Reserved
 use Rattle.rules.proofs.ChainLaws.{each-cons, same-place, Chain, shape-chain}
 use Rattle.rules.proofs.KindsLaws.{Being, being, kind-start, kind-end, kind-top, kind-donor}
 use Rattle.audit.specs.declared.survey.Tally.{Tally}
-use Rattle.audit.specs.Chunks.{backedAt, backedBy, sizedAt, startIs, endIs, reservedAt, donorAt, topAt, soundAs, soundAt}
+use Rattle.audit.specs.Chunks.{backedBy, sizedAt, startIs, endIs, reservedAt, donorAt, topAt, soundAs, soundAt}
 use Rattle.audit.specs.Survey.{shareOf, allSound, tallyOf}
 
 -- the facts of a heap that passes which speak of the chain alone
@@ -136,6 +136,7 @@ module _ (ws : List ℕ) (h : Heap) where
     of-kind : {k : Kind} → k ≡ kindOf h e → Is e k × As e k
     of-kind q = rw q (is e, s .kind)
 
+    -- of a top or a donor, what the check asks of both
     reserved : (c : ℕ) → e .place ≡ c → e .flags % 2 ≡ 0 → Unbinned ws (e .place) → Reserved ws c e
     reserved c p f u = let l = s .flags in record { here = p; free = omega arith; out = rw (← p) u }
 
@@ -152,6 +153,7 @@ module _ (ws : List ℕ) (h : Heap) where
   known : Chain ws (h .bytes) 0 es
   known = shape-chain ws (h .bytes)
 
+  -- what the walk finds are the check's facts
   pub found-facts : 40 ≤ h .bytes → Found ws h → ChainFacts ws h (shape ws (h .bytes))
   found-facts big f =
       let all = all-iff 0 es (known .flags) .0 (f .sound) in
@@ -223,6 +225,7 @@ module _ (ws : List ℕ) (h : Heap) where
             kind = as-kind (kindOf h e) (is e);
           }
 
+      -- the top and the donor are counted
       counts-top : TopIs ws h e → 0 < tallyFor h es .tops
       counts-top t =
           let b = between (t .0 .free) in
@@ -256,6 +259,7 @@ shares-are Donor s = (refl, refl, refl)
 shares-are Top s = (refl, refl, refl)
 shares-are End s = (refl, refl, refl)
 
+-- so the counts are the check's
 module _ (h : Heap) (es : List Entry) where
   pub tally-ordinary : tallyFor h es .ordinary ≡ length (keep (ordinary h) es)
   tally-ordinary = total-kept _ (λ e. 1) (ordinary h) (λ e. shares-are (kindOf h e) (e .size) .0) es ∙ total-ones (keep (ordinary h) es)

@@ -67,11 +67,12 @@ module _ (ws table : List ℕ) (i steps : ℕ) (ms₀ : List ℕ) (first : ℕ) 
     pub marks : flipAll ms (membersFrom left ws c) ≡ flipAll ms₀ (membersFrom steps ws first)
     pub spent : met + left ≡ steps
 
-  pub combing-begins : Combing ms₀ first 0 0 steps
+module _ {ws table : List ℕ} {i steps : ℕ} {ms₀ : List ℕ} {first : ℕ} where
+  pub combing-begins : Combing ws table i steps ms₀ first ms₀ first 0 0 steps
   combing-begins =
       record { combs = refl; ends = refl; count = omega arith; lasts = refl; marks = refl; spent = omega arith }
 
-  module _ (ms : List ℕ) (c p met left : ℕ) (o : Combing ms c p met left) where
+  module _ {ms : List ℕ} {c p met left : ℕ} (o : Combing ws table i steps ms₀ first ms c p met left) where
     -- no list is longer than its steps
     pub torn-long : (ms′ : List ℕ) → left ≡ 0 → (c ≡ 0 → ⊥) → SweptIs ws table i steps ms₀ first ms′ Torn
     unfolding SweptIs
@@ -80,9 +81,9 @@ module _ (ws table : List ℕ) (i steps : ℕ) (ms₀ : List ℕ) (first : ℕ) 
         let q : beyond ws first (membersFrom steps ws first) ≡ c = sym (o .ends) ∙ ap (beyond ws c) r in
         rw (sym (o .combs) ∙ ap (combed ws table i ms p) r, q, ne-eqb c 0 n)
 
-    pub whole-list : (ms′ : List ℕ) → ms′ ≡ ms → c ≡ 0 → SweptIs ws table i steps ms₀ first ms′ (Whole met p)
+    pub whole-list : {ms′ : List ℕ} → ms′ ≡ ms → c ≡ 0 → SweptIs ws table i steps ms₀ first ms′ (Whole met p)
     unfolding SweptIs
-    whole-list ms′ em e =
+    whole-list em e =
         let r : membersFrom left ws c ≡ [] = ap (membersFrom left ws) e ∙ read-none ws left in
         let q : beyond ws first (membersFrom steps ws first) ≡ c = sym (o .ends) ∙ ap (beyond ws c) r in
         let l : met + length (membersFrom left ws c) ≡ met = ap (λ (x : List ℕ). met + length x) r ∙ omega arith in
@@ -100,9 +101,9 @@ module _ (ws table : List ℕ) (i steps : ℕ) (ms₀ : List ℕ) (first : ℕ) 
           let r = read-more ws left c n h in
           rw (sym (o .combs) ∙ ap (combed ws table i ms p) r, sym et ∙ not-true t ht)
 
-      pub combing-goes : not t ≡ false → (ms′ : List ℕ) → ms′ ≡ flipped ms c → {d : ℕ} → d ≡ word ws c nextInBin
-          → Combing ms′ d c (met + 1) (left - 1)
-      combing-goes ht ms′ em {d} ed =
+      pub combing-goes : not t ≡ false → {ms′ : List ℕ} → ms′ ≡ flipped ms c → {d : ℕ} → d ≡ word ws c nextInBin
+          → Combing ws table i steps ms₀ first ms′ d c (met + 1) (left - 1)
+      combing-goes ht em ed =
           let r = read-more ws left c n h in
           rw (em, ed)
           (record {
@@ -121,11 +122,11 @@ module _ (ws table : List ℕ) (i steps : ℕ) (ms₀ : List ℕ) (first : ℕ) 
 -- what a reply says of a list, by its case
 module _ (ws table : List ℕ) (i steps : ℕ) (ms : List ℕ) (first : ℕ) (ms′ : List ℕ) (r : Swept)
     (k : SweptIs ws table i steps ms first ms′ r) where
-  pub torn-is : r ≡ Torn → wholeList ws table i steps ms first ≡ false
+  torn-is : r ≡ Torn → wholeList ws table i steps ms first ≡ false
   unfolding SweptIs
   torn-is e = subst (λ (q : Swept). SweptIs ws table i steps ms first ms′ q) e k
 
-  pub whole-is : {members last : ℕ} → r ≡ Whole members last → WholeIs ws table i steps ms first ms′ members last
+  whole-is : {members last : ℕ} → r ≡ Whole members last → WholeIs ws table i steps ms first ms′ members last
   unfolding SweptIs
   whole-is e = subst (λ (q : Swept). SweptIs ws table i steps ms first ms′ q) e k
 
@@ -150,33 +151,45 @@ module _ (ws table heads tails : List ℕ) (steps : ℕ) (ms₀ : List ℕ) wher
         ≡ total lengthAt (numbersFrom 0 (length table)) % 2 ^ 32
     pub fits : met < 2 ^ 32
 
-  pub sweeping-begins : Sweeping ms₀ 0 0
+module _ {ws table heads tails : List ℕ} {steps : ℕ} {ms₀ : List ℕ} where
+  pub sweeping-begins : Sweeping ws table heads tails steps ms₀ ms₀ 0 0
   sweeping-begins =
       let e : length table - 0 ≡ length table = omega arith in
       record { whole = rw e; count = rw (e, zero-add); fits = omega arith }
 
-  module _ (ms : List ℕ) (b met : ℕ) (o : Sweeping ms b met) where
+  module _ {ms : List ℕ} {b met : ℕ} (o : Sweeping ws table heads tails steps ms₀ ms b met) where
+    -- how many members the list of a bin has
+    abbrev membersIn : ℕ → ℕ
+    membersIn i = lengthAt ws table heads tails steps ms₀ i
+
     pub all-clean : length table ≤ b → SweepIs ws table heads tails steps ms₀ (Clean met)
     unfolding SweepIs
     all-clean h =
         let r = count-out b (length table) h in
-        let q : (met + 0) % 2 ^ 32 ≡ total lengthAt (numbersFrom 0 (length table)) % 2 ^ 32 = rw r at (o .count) in
+        let q : (met + 0) % 2 ^ 32 ≡ total membersIn (numbersFrom 0 (length table)) % 2 ^ 32 = rw r at (o .count) in
         (sym (o .whole) ∙ ap (allWhole ws table heads tails steps ms) r, omega (arith, o .fits))
 
-    module _ (h : b < length table) {first : ℕ} (ef : first ≡ getD heads b 0) where
-      pub dirty-list : wholeList ws table b steps ms first ≡ false → SweepIs ws table heads tails steps ms₀ Dirty
+    -- bin b has been swept, with this reply
+    module _ (h : b < length table) {first : ℕ} (ef : first ≡ getD heads b 0) (ms′ : List ℕ) {r : Swept}
+        (swept : SweptIs ws table b steps ms first ms′ r) where
+      pub dirty-list : r ≡ Torn → SweepIs ws table heads tails steps ms₀ Dirty
       unfolding SweepIs
-      dirty-list w =
-          sym (o .whole) ∙ ap (allWhole ws table heads tails steps ms) (count-on b (length table) h) ∙ rw (← ef, w)
+      dirty-list e =
+          sym (o .whole) ∙ ap (allWhole ws table heads tails steps ms) (count-on b (length table) h)
+          ∙ rw (← ef, torn-is ws table b steps ms first ms′ r swept e)
 
-      module _ (ms′ : List ℕ) {members last : ℕ} (k : WholeIs ws table b steps ms first ms′ members last) {t : ℕ} (et : t ≡ getD tails b 0) where
+      module _ {members last : ℕ} (is : r ≡ Whole members last) {t : ℕ} (et : t ≡ getD tails b 0) where
+        abbrev swept-whole : WholeIs ws table b steps ms first ms′ members last
+        swept-whole = whole-is ws table b steps ms first ms′ r swept is
+
         pub dirty-tail : (t ≡ last → ⊥) → SweepIs ws table heads tails steps ms₀ Dirty
         unfolding SweepIs
         dirty-tail n =
             sym (o .whole) ∙ ap (allWhole ws table heads tails steps ms) (count-on b (length table) h)
-            ∙ rw (← ef, k .whole, ← et, ← (k .ends), ne-eqb t last n)
+            ∙ rw (← ef, swept-whole .whole, ← et, ← (swept-whole .ends), ne-eqb t last n)
 
-        pub sweeping-goes : t ≡ last → {met′ : ℕ} → met′ ≡ (met + members) % 2 ^ 32 → Sweeping ms′ (b + 1) met′
+        pub sweeping-goes : t ≡ last → {met′ : ℕ} → met′ ≡ (met + members) % 2 ^ 32
+            → Sweeping ws table heads tails steps ms₀ ms′ (b + 1) met′
         sweeping-goes e em =
             let r = count-on b (length table) h in
             rw (em, add-one)
@@ -189,12 +202,12 @@ module _ (ws table heads tails : List ℕ) (steps : ℕ) (ms₀ : List ℕ) wher
             whole : numbersFrom b (length table - b) ≡ b ∷ numbersFrom (suc b) (length table - suc b)
                 → allWhole ws table heads tails steps ms′ (numbersFrom (suc b) (length table - suc b))
                 ≡ allWhole ws table heads tails steps ms₀ (numbersFrom 0 (length table))
-            whole r = rw (k .marks, ef) (rw (r, ← ef, k .whole, ← et, ← (k .ends), eq-eqb t last e, ef) at (o .whole))
+            whole r = rw (swept-whole .marks, ef) (rw (r, ← ef, swept-whole .whole, ← et, ← (swept-whole .ends), eq-eqb t last e, ef) at (o .whole))
 
             count : numbersFrom b (length table - b) ≡ b ∷ numbersFrom (suc b) (length table - suc b)
-                → ((met + members) % 2 ^ 32 + total lengthAt (numbersFrom (suc b) (length table - suc b))) % 2 ^ 32
-                ≡ total lengthAt (numbersFrom 0 (length table)) % 2 ^ 32
+                → ((met + members) % 2 ^ 32 + total membersIn (numbersFrom (suc b) (length table - suc b))) % 2 ^ 32
+                ≡ total membersIn (numbersFrom 0 (length table)) % 2 ^ 32
             count r =
-                let q : (met + (lengthAt b + total lengthAt (numbersFrom (suc b) (length table - suc b)))) % 2 ^ 32 ≡ total lengthAt (numbersFrom 0 (length table)) % 2 ^ 32 = rw r at (o .count) in
-                let m : members ≡ lengthAt b = rw ef at (k .count) in
+                let q : (met + (membersIn b + total membersIn (numbersFrom (suc b) (length table - suc b)))) % 2 ^ 32 ≡ total membersIn (numbersFrom 0 (length table)) % 2 ^ 32 = rw r at (o .count) in
+                let m : members ≡ membersIn b = rw ef at (swept-whole .count) in
                 omega arith

@@ -43,6 +43,7 @@ module _ (ws table : List ℕ) (valid : ValidTable table) (all : List ℕ) where
     pub bins : word ws c bin ≡ i % 32 * 8
     pub takes : binOf table (word ws c size) ≡ Bin i
 
+  -- the five tests of a member decide that
   listed-iff : (i : ℕ) (ms met : List ℕ) → Marks ms met → (p c : ℕ) → Decides (listedAt ws table i ms p c) (MemberIs i met p c)
   unfolding listedAt
   listed-iff i ms met k p c = go (ℕ-discrete (c % 8) 0)
@@ -63,6 +64,7 @@ module _ (ws table : List ℕ) (valid : ValidTable table) (all : List ℕ) where
   CombedIs i met p [] = Unit {0}
   CombedIs i met p (c ∷ cs) = MemberIs i met p c × CombedIs i (c ∷ met) c cs
 
+  -- a list's members are put before those that were met
   abbrev pub pushed : List ℕ → List ℕ → List ℕ
   pushed [] met = met
   pushed (c ∷ cs) met = pushed cs (c ∷ met)
@@ -91,12 +93,14 @@ module _ (ws table : List ℕ) (valid : ValidTable table) (all : List ℕ) where
             rw (flip-other ms c d (λ q. n (omega arith)))
             (meaning (k d e) (λ t. (t .0, out n (t .1))) (λ t. (t .0, λ q. t .1 (List·Memᴰ·tail q))))
 
+    -- so the walk of a list comes through exactly if all its members are right
     combed-iff : (i : ℕ) (cs ms met : List ℕ) (p : ℕ) → length ms ≡ 256 → Marks ms met → Decides (combed ws table i ms p cs) (CombedIs i met p cs)
     combed-iff i [] ms met p l k = (λ h. tt, λ h. refl)
     combed-iff i (c ∷ cs) ms met p l k =
         both-if (listed-iff i ms met k p c)
         (λ m. combed-iff i cs (flipped ms c) (c ∷ met) c (length-flipped ms c ∙ l) (marks-step i ms met p c l k m))
 
+    -- and then the marks say what has not been met with its members too
     marks-all : (i : ℕ) (cs ms met : List ℕ) (p : ℕ) → length ms ≡ 256 → Marks ms met → CombedIs i met p cs
         → Marks (flipAll ms cs) (pushed cs met) × (length (flipAll ms cs) ≡ 256)
     marks-all i [] ms met p l k h = (k, l)
@@ -182,6 +186,7 @@ module _ (ws table : List ℕ) (valid : ValidTable table) (all heads tails : Lis
     pub ends : beyond ws (getD heads i 0) (list i) ≡ 0
     pub tail : getD tails i 0 ≡ lastOr 0 (list i)
 
+  -- the lists of n bins from b on, one after the other
   abbrev pub AllCombed : List ℕ → ℕ → ℕ → Type 0
   AllCombed met b zero = Unit {0}
   AllCombed met b (suc n) = ListIs met b × AllCombed (pushed ws table valid all (list b) met) (suc b) n
@@ -200,6 +205,7 @@ module _ (ws table : List ℕ) (valid : ValidTable table) (all heads tails : Lis
       let r = marks-all ws table valid all bounded b (list b) ms met 0 l k (q .combed) in
       all-iff n (suc b) (flipAll ms (list b)) (pushed ws table valid all (list b) met) (r .1) (r .0))
 
+  -- a list as it is walked is the bin's, and the other way if none of its members was met
   list-bin : (met : List ℕ) (i : ℕ) → ListIs met i → BinIs i
   list-bin met i q =
       record {
@@ -213,18 +219,11 @@ module _ (ws table : List ℕ) (valid : ValidTable table) (all heads tails : Lis
   bin-list met i q o =
       record {
         combed = linked-combed ws table valid all i (list i) met 0 (q .links) (q .once) (q .members) o eights;
-        ends = linked-ends ws table valid all (list i) (getD heads i 0) 0 (q .links) (first steps some);
+        ends = linked-ends ws table valid all (list i) (getD heads i 0) 0 (q .links) (read-head ws steps (getD heads i 0) some);
         tail = q .tail;
       }
-    where
-      first : (k : ℕ) → 0 < k → getD heads i 0 ≡ headOr 0 (membersFrom k ws (getD heads i 0))
-      first zero h = absurd (omega arith)
-      first (suc k) h = go (ℕ-discrete (getD heads i 0) 0)
-        where
-          go : Dec (getD heads i 0 ≡ 0) → getD heads i 0 ≡ headOr 0 (membersFrom (suc k) ws (getD heads i 0))
-          go (yes e) = rw e refl
-          go (no n) = rw (ne-eqb (getD heads i 0) 0 n, membersFrom)
 
+  -- and so for all bins
   all-bins : (n b : ℕ) (met : List ℕ) → AllCombed met b n → (i : ℕ) → b ≤ i → i < b + n → BinIs i
   all-bins zero b met h i lo hi = absurd (omega arith)
   all-bins (suc n) b met h i lo hi = go (ℕ-discrete i b) (λ l r. all-bins n (suc b) _ (h .1) i l r)
@@ -240,6 +239,7 @@ module _ (ws table : List ℕ) (valid : ValidTable table) (all heads tails : Lis
       let b = q .members c k .takes in
       cc
 
+  -- whatever was met is in the list of a bin below, so no member of this one was
   bins-all : (n b : ℕ) (met : List ℕ) → ((i : ℕ) → b ≤ i → i < b + n → BinIs i)
       → ((c : ℕ) → Mem c met → (j : ℕ) × (j < b) × BinIs j × Mem c (list j)) → AllCombed met b n
   bins-all zero b met f o = tt
@@ -274,30 +274,26 @@ module _ (ws table : List ℕ) (valid : ValidTable table) (all heads tails : Lis
       (once : Distinct all) where
     module _ (f : (i : ℕ) → i < n → BinIs i) where
       -- all members together
-      everyone : List ℕ
+      abbrev everyone : List ℕ
       everyone = gathered list (numbersFrom 0 n)
 
       everyone-once : Distinct everyone
-      unfolding everyone
       everyone-once =
           gathered-once list n 0 (λ i lo hi. f i (omega arith) .once)
           (λ i j lo lt hi c m k. let e = bins-apart i j (f i (omega arith)) (f j (omega arith)) c m k in omega arith)
 
       everyone-known : (c : ℕ) → Mem c everyone → Mem c all
-      unfolding everyone
       everyone-known c m =
           let r = gathered-from list n 0 m in
           f (r .0) (omega (arith, r .1 .1)) .members c (r .2) .known
 
       counted : length everyone ≡ total (λ i. length (list i)) (numbersFrom 0 n)
-      unfolding everyone
       counted = gathered-length list (numbersFrom 0 n)
 
       not-more : length everyone ≤ length all
       not-more = distinct-fits everyone all everyone-once everyone-known
 
       covers : total (λ i. length (list i)) (numbersFrom 0 n) % 2 ^ 32 ≡ length all → Covered n
-      unfolding everyone
       covers h c m =
           let a = not-more in
           let b = counted in
@@ -306,13 +302,13 @@ module _ (ws table : List ℕ) (valid : ValidTable table) (all heads tails : Lis
           (r .0, omega (arith, r .1 .1), r .2)
 
       count-all : Covered n → total (λ i. length (list i)) (numbersFrom 0 n) % 2 ^ 32 ≡ length all
-      unfolding everyone
       count-all g =
           let a = not-more in
           let b = counted in
           let d = distinct-fits all everyone once (λ c m. let r = g c m in gathered-has list n 0 (r .0) (omega arith) (omega (arith, r .1)) (r .2)) in
           omega arith
 
+    -- the walk comes through exactly if each bin's list is right and every chunk of `all` is in one
     pub combs-bins : Combs n ms → ((i : ℕ) → i < n → BinIs i) × Covered n
     combs-bins q =
         let f : (i : ℕ) → i < n → BinIs i = λ i h. all-bins n 0 [] (all-iff n 0 ms [] l marks .0 (q .whole)) i (omega arith) (omega arith) in

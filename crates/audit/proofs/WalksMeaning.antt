@@ -4,7 +4,7 @@ use mathlib.Core.Path.{_≡_, refl, sym, _∙_, subst}
 use mathlib.Core.Logic.{_⊎_, inl, inr}
 use mathlib.Core.Bool.{Bool, true, false, cond}
 use mathlib.Core.List.{List, [], _∷_, List·Memᴰ·not-nil, Memᴰ·map, Memᴰ·of-map}
-use Prim.Native.Nat.{ℕ, zero, suc, _+_, _-_, _%_, _^_, _≤_, _<_, max}
+use Prim.Native.Nat.{ℕ, _+_, _-_, _%_, _^_, _≤_, _<_, max}
 use native.Mathlib.Decide.{ℕ-discrete}
 use native.Mathlib.Omega.{arith}
 use lib.ListN.{length, getD, length-map, length-replicate}
@@ -24,7 +24,6 @@ use Rattle.rules.proofs.CheckLaws.{table-bins}
 use Rattle.rules.proofs.ChainLaws.{shape-chain}
 use Rattle.rules.proofs.KindsLaws.{ordinary-free}
 use Rattle.rules.proofs.ShapeLaws.{shape-is}
-use Rattle.audit.specs.declared.Audit.the-variants as found
 use Rattle.audit.specs.Audit.{settled, noMarks, marksOf, metAll, walksWell}
 use Rattle.audit.specs.Survey.{allSound, marking, markAll}
 use Rattle.audit.specs.Sweep.{listAt, allWhole}
@@ -58,20 +57,16 @@ settled-iff t bytes donor =
     meaning
     (both (both (number-is (t .end + 8) bytes) (denied (number-is (t .tops) 0)))
     (or-else (number-is donor 0) (denied (number-is (t .donors) 0))))
-    (λ q. (q .0 .0, some (t .tops) (q .0 .1), λ l. donors (q .1) l))
+    (λ q. (q .0 .0, omega (arith, q .0 .1), λ l. donors (q .1) l))
     (λ q. ((q .0, λ e. omega (arith, q .1)), back (q .2) (ℕ-discrete donor 0)))
   where
-    some : (n : ℕ) → (n ≡ 0 → ⊥) → 0 < n
-    some zero n = absurd (n refl)
-    some (suc n) k = omega arith
-
     donors : (donor ≡ 0) ⊎ (t .donors ≡ 0 → ⊥) → 0 < donor → 0 < t .donors
     donors (inl e) l = absurd (omega arith)
-    donors (inr n) l = some (t .donors) n
+    donors (inr n) l = omega arith
 
     back : (0 < donor → 0 < t .donors) → Dec (donor ≡ 0) → (donor ≡ 0) ⊎ (t .donors ≡ 0 → ⊥)
     back f (yes e) = inl e
-    back f (no n) = let l = f (some donor n) in inr (λ e. omega arith)
+    back f (no n) = let l = f (omega arith) in inr (λ e. omega arith)
 
 module _ (ws : List ℕ) (h : Heap) (big : 40 ≤ h .bytes) (small : h .bytes ≤ 65536) (table : Tabled h) where
   abbrev es : List Entry
@@ -79,6 +74,10 @@ module _ (ws : List ℕ) (h : Heap) (big : 40 ≤ h .bytes) (small : h .bytes �
 
   abbrev all : List ℕ
   all = ordinaries h es
+
+  -- the marks after the walk of the chain
+  abbrev markedAll : List ℕ
+  markedAll = marksOf ws (tableOf h) (h .heads) (h .tails) (h .bytes) (h .donor .0) (h .top .0) (h .used)
 
   -- an ordinary chunk's place is one of `all`, and the other way
   known-of : (e : Entry) → Mem e es → ordinary h e ≡ true → Mem (e .place) all
@@ -90,6 +89,7 @@ module _ (ws : List ℕ) (h : Heap) (big : 40 ≤ h .bytes) (small : h .bytes �
       let k = kept-from (ordinary h) es (r .1) in
       (r .0, k .0, (r .2, k .1))
 
+  -- there are few of them, and the bitmap has a mark for each
   few : length all < 2 ^ 32
   few =
       let a = kept-few (ordinary h) es in
@@ -111,7 +111,8 @@ module _ (ws : List ℕ) (h : Heap) (big : 40 ≤ h .bytes) (small : h .bytes �
     sized : (e : Entry) → Mem e es → ordinary h e ≡ true → word ws (e .place) size ≡ e .size
     sized e m o = let s = facts .chunks e m in s .sized (ordinary-free h e o (s .flags))
 
-    marks : Marks ws (tableOf h) (table .valid) all (marksOf ws (tableOf h) (h .heads) (h .tails) (h .bytes) (h .donor .0) (h .top .0) (h .used)) []
+    -- before the walk of the lists every ordinary chunk is marked, and none is met
+    marks : Marks ws (tableOf h) (table .valid) all markedAll []
     marks c e =
         meaning (marks-are ws h small facts c e) (λ m. (m, λ k. List·Memᴰ·not-nil k)) (λ t. t .0)
 
@@ -159,8 +160,11 @@ module _ (ws : List ℕ) (h : Heap) (big : 40 ≤ h .bytes) (small : h .bytes �
               takes = rw s (r .2 .1 .1);
             }
 
-    covered-binned : ((i : ℕ) → i < h .bins → HasBin i)
-        → Covered ws (tableOf h) (table .valid) all (h .heads) (h .tails) (h .bytes) (omega arith) eights bounded (h .bins)
+    -- every ordinary chunk is in a list, as the walk sees it, and as the check states it
+    abbrev AllListed : Type 0
+    AllListed = Covered ws (tableOf h) (table .valid) all (h .heads) (h .tails) (h .bytes) (omega arith) eights bounded (h .bins)
+
+    covered-binned : ((i : ℕ) → i < h .bins → HasBin i) → AllListed
         → (e : Entry) → Mem e es → ordinary h e ≡ true → InItsBin ws h e
     unfolding members
     covered-binned f g e m o =
@@ -168,31 +172,28 @@ module _ (ws : List ℕ) (h : Heap) (big : 40 ≤ h .bytes) (small : h .bytes �
         let t = f (r .0) (r .1) .members (e .place) (r .2) .takes in
         (r .0, (rw (sized e m o) at t), (r .1, r .2))
 
-    binned-covered : ((e : Entry) → Mem e es → ordinary h e ≡ true → InItsBin ws h e)
-        → Covered ws (tableOf h) (table .valid) all (h .heads) (h .tails) (h .bytes) (omega arith) eights bounded (h .bins)
+    binned-covered : ((e : Entry) → Mem e es → ordinary h e ≡ true → InItsBin ws h e) → AllListed
     unfolding members
     binned-covered f c m =
         let r = of-known c m in
         let b = f (r .0) (r .1) (r .2 .1) in
         (b .0, b .2 .0, (rw (r .2 .0) at (b .2 .1)))
 
-  abbrev marked-all : List ℕ
-  marked-all = marksOf ws (tableOf h) (h .heads) (h .tails) (h .bytes) (h .donor .0) (h .top .0) (h .used)
-
-  marks-long : length marked-all ≡ 256
+  marks-long : length markedAll ≡ 256
   marks-long = all-long noMarks es (length-replicate {A = ℕ} 256 0)
     where
       all-long : (ms : List ℕ) (ds : List Entry) → length ms ≡ 256 → length (markAll (h .bytes) (h .donor .0) (h .top .0) ms ds) ≡ 256
       all-long ms [] l = l
       all-long ms (d ∷ ds) l = all-long (marking ms (kindAt (h .bytes) (h .donor .0) (h .top .0) d) (d .place)) ds (marked-long ms (kindAt (h .bytes) (h .donor .0) (h .top .0) d) (d .place) ∙ l)
 
+  -- where both walks come through, the facts hold; and the other way
   rest : ChainFacts ws h es
-      → allWhole ws (tableOf h) (h .heads) (h .tails) (h .bytes) marked-all (numbersFrom 0 (length (tableOf h))) ≡ true
+      → allWhole ws (tableOf h) (h .heads) (h .tails) (h .bytes) markedAll (numbersFrom 0 (length (tableOf h))) ≡ true
       → metAll ws (tableOf h) (h .heads) (h .tails) (h .bytes) (h .donor .0) (h .top .0) (h .used) ≡ length (keep (ordinary h) es)
       → tallyFor h es .used ≡ h .used → Rest ws h
   rest facts d e u =
       let r =
-      combs-bins ws (tableOf h) (table .valid) all (h .heads) (h .tails) (h .bytes) (omega arith) (eights facts) bounded (h .bins) marked-all few
+      combs-bins ws (tableOf h) (table .valid) all (h .heads) (h .tails) (h .bytes) (omega arith) (eights facts) bounded (h .bins) markedAll few
       marks-long (marks facts) (ordinaries-once ws h)
       (record {
         whole = rw (table-bins h table) at d;
@@ -206,9 +207,9 @@ module _ (ws : List ℕ) (h : Heap) (big : 40 ≤ h .bytes) (small : h .bytes �
       }
 
   combs : (r : Rest ws h)
-      → Combs ws (tableOf h) (table .valid) all (h .heads) (h .tails) (h .bytes) (omega arith) (eights (r .chain)) bounded (h .bins) marked-all
+      → Combs ws (tableOf h) (table .valid) all (h .heads) (h .tails) (h .bytes) (omega arith) (eights (r .chain)) bounded (h .bins) markedAll
   combs r =
-      bins-combs ws (tableOf h) (table .valid) all (h .heads) (h .tails) (h .bytes) (omega arith) (eights (r .chain)) bounded (h .bins) marked-all few
+      bins-combs ws (tableOf h) (table .valid) all (h .heads) (h .tails) (h .bytes) (omega arith) (eights (r .chain)) bounded (h .bins) markedAll few
       marks-long (marks (r .chain)) (ordinaries-once ws h)
       (λ i l. of-listed (r .chain) i l (r .bins i l)) (binned-covered (r .chain) (r .binned))
 
@@ -221,7 +222,7 @@ module _ (ws : List ℕ) (h : Heap) (big : 40 ≤ h .bytes) (small : h .bytes �
       (itself (allSound ws (h .bytes) (h .donor .0) (h .top .0) 0 es))
       (settled-iff (tallyFor h es) (h .bytes) (h .donor .0)))
       (number-is (tallyFor h es .used) (h .used)))
-      (itself (allWhole ws (tableOf h) (h .heads) (h .tails) (h .bytes) marked-all (numbersFrom 0 (length (tableOf h))))))
+      (itself (allWhole ws (tableOf h) (h .heads) (h .tails) (h .bytes) markedAll (numbersFrom 0 (length (tableOf h))))))
       (number-is (metAll ws (tableOf h) (h .heads) (h .tails) (h .bytes) (h .donor .0) (h .top .0) (h .used)) (tallyFor h es .ordinary)))
       (λ ((((sound, (end, top, donor)), used), whole), count).
       rest (found-facts ws h big (record { sound = sound; end = end; top = top; donor = donor }))
@@ -229,7 +230,7 @@ module _ (ws : List ℕ) (h : Heap) (big : 40 ≤ h .bytes) (small : h .bytes �
       (λ r.
       let f = facts-found ws h big (r .chain) in
       let c = combs r in (
-        (((f .sound, (f .end, f .top, f .donor)), tally-used h es ∙ sym (r .used)), subst (λ (n : ℕ). allWhole ws (tableOf h) (h .heads) (h .tails) (h .bytes) marked-all (numbersFrom 0 n) ≡ true) (sym (table-bins h table)) (c .whole)),
+        (((f .sound, (f .end, f .top, f .donor)), tally-used h es ∙ sym (r .used)), subst (λ (n : ℕ). allWhole ws (tableOf h) (h .heads) (h .tails) (h .bytes) markedAll (numbersFrom 0 n) ≡ true) (sym (table-bins h table)) (c .whole)),
         subst (λ (n : ℕ). total (λ i. length (listAt ws (tableOf h) (h .heads) (h .tails) (h .bytes) i)) (numbersFrom 0 n) % 2 ^ 32 ≡ length all) (sym (table-bins h table)) (c .count)
             ∙ length-map (keep (ordinary h) es) (λ (d : Entry). d .place) ∙ sym (tally-ordinary h es),
       ))

@@ -2,19 +2,19 @@
 -- that is not given back or resized keeps its place, its length and its words. Assumes nothing.
 use mathlib.Core.Path.{_≡_, refl, sym, ap, subst, _∙_}
 use mathlib.Core.Logic.{_≢_, _⊎_, inl, inr}
-use mathlib.Core.Bool.{Bool, true, false, cond, true≢false, false≢true}
+use mathlib.Core.Bool.{true, false, true≢false, false≢true}
 use mathlib.Core.List.{List}
 use Prim.Native.Nat.{ℕ, _+_, _*_, _≤_, _<_}
 use native.Mathlib.Decide.{ℕ-discrete}
 use native.Mathlib.Omega.{arith}
-use lib.Dec.{leb}
 use lib.IntN.{ℤ}
-use borrow.Author.Tests.{ne-eqb, lt-ltb, le-ltb, leb-true}
+use borrow.Author.Tests.{ne-eqb, lt-ltb}
 use Rattle.grant.proofs.NeedLaws.{need-large, need-eight}
 use Rattle.record.specs.declared.answers.Answer.{Answer}
 use Rattle.record.specs.declared.answers.Answer.the-variants.{Done, Granted, Returned}
 use Rattle.record.specs.declared.heap.Heap.{Heap}
 use Rattle.record.specs.Answers.{figuresOf}
+use Rattle.record.specs.Heap.{withMerge}
 use Rattle.region.specs.declared.Block.{Block}
 use Rattle.region.specs.Words.{Store, written}
 use Rattle.region.proofs.WordsLaws.{off}
@@ -44,18 +44,19 @@ use Rattle.promises.specs.Room.{OnChain, HoldsBlock}
 use Rattle.promises.specs.Refused.{isSetup, recordOf}
 use Rattle.promises.specs.Apart.{SameWords, Keeps, KeepsAll, KeepsOthers, Gone, NoneNew, NoneNewBut, New, Clear, Stays, onlyLooks, Apart}
 use Rattle.promises.proofs.RefusedLaws.{refusing}
-use Rattle.promises.proofs.GrantedLaws.{kept-still, new-apart, new-clear, cleared-within, others-kept, none-others, moved-apart}
-use Rattle.promises.proofs.JudgedLaws.{accepted-made}
+use Rattle.promises.proofs.GrantedLaws.{NewApart, kept-still, new-apart, new-clear, cleared-within, others-kept, none-others, moved-apart}
+use Rattle.promises.proofs.JudgedLaws.{accepts, accepted-made}
 use Rattle.promises.proofs.ReasonLaws.{live-iff, one-block, here-holds}
+use Rattle.promises.proofs.ResizedLaws.{resized-so}
 
 -- a call that granted a block was not refused: its tests failed, and the outcome is what it made
 accepted : (h : Heap) (o : Outcome) (block : Block) (change : ℤ) (ts : Refusals) → judged h ts o .answer ≡ Granted block change
     → Failed ts × (judged h ts o ≡ o)
-accepted h o block change ts q = accepted-made h o ts (λ r e. let z : _≡_ {A = ℕ} 0 1 = cc in omega arith)
+accepted h o block change ts q = accepted-made h o ts (accepts (ap (λ (a : Answer). figuresOf a .refusal) q))
 
--- the block of an answer
-block-of : (before : ℕ) (e : Entry) (block : Block) (change : ℤ) → grants before e ≡ Granted block change → blockOf e ≡ block .0
-block-of before e block change q = ap (λ (a : Answer). figuresOf a .offset) q
+-- the block of an answer that grants one
+granted-block : (before : ℕ) (e : Entry) (block : Block) (change : ℤ) → grants before e ≡ Granted block change → blockOf e ≡ block .0
+granted-block before e block change q = ap (λ (a : Answer). figuresOf a .offset) q
 
 module _ (ws : List ℕ) (h : Heap) (p : Passes ws h) (block : Block) (change : ℤ) where
   -- a new block, whatever is written into it
@@ -70,20 +71,19 @@ module _ (ws : List ℕ) (h : Heap) (p : Passes ws h) (block : Block) (change : 
     taken = accepted h made-of block change (allocateRefusals (heapFails ws h) (asRead ws h) z) q
 
     block-is : blockOf (grant n (asRead ws h) .granted) ≡ block .0
-    block-is = block-of 0 (grant n (asRead ws h) .granted) block change (sym (ap (λ (o : Outcome). o .answer) (taken .1)) ∙ q)
+    block-is = granted-block 0 (grant n (asRead ws h) .granted) block change (sym (ap (λ (o : Outcome). o .answer) (taken .1)) ∙ q)
 
-    with-apart : let left = leftBy ws (allocateWith fill ws h z) in New ws h n (block .0) left × KeepsAll ws h left × NoneNewBut ws h (block .0) left
+    with-apart : NewApart ws h n (block .0) (leftBy ws (allocateWith fill ws h z))
     with-apart =
         rw (taken .1, ← block-is)
         (new-apart ws h p n (need-large z) (need-eight z) (taken .0 .1 .1 .0) (fill (grant n (asRead ws h) .granted)) (within _) (made-of .answer))
 
   -- a cleared one
-  module _ (z : ℕ) (q : allocateWith cleared ws h z .answer ≡ Granted block change) where
-    cleared-clear : Clear (block .0) (leftBy ws (allocateWith cleared ws h z))
-    cleared-clear =
-        let t = taken cleared cleared-within z q in
-        rw (t .1, ← block-is cleared cleared-within z q)
-        (new-clear ws h p (need overhead z) (need-large z) (need-eight z) (t .0 .1 .1 .0))
+  cleared-clear : (z : ℕ) → allocateWith cleared ws h z .answer ≡ Granted block change → Clear (block .0) (leftBy ws (allocateWith cleared ws h z))
+  cleared-clear z q =
+      let t = taken cleared cleared-within z q in
+      rw (t .1, ← block-is cleared cleared-within z q)
+      (new-clear ws h p (need overhead z) (need-large z) (need-eight z) (t .0 .1 .1 .0))
 
 -- the live block at b, whose chunk is e
 module _ (ws : List ℕ) (h : Heap) (p : Passes ws h) (b : ℕ) (e : Entry) (k : HoldsBlock ws h b e) where
@@ -93,10 +93,12 @@ module _ (ws : List ℕ) (h : Heap) (p : Passes ws h) (b : ℕ) (e : Entry) (k :
   is-live : isLive (asRead ws h) b ≡ true
   is-live = live-iff ws h b .1 (e, k)
 
+  -- what its free leaves
   free-left : ours (Free b) ws h ≡ leftBy ws (made (Returned (changeOf (blockSpot (asRead ws h) b .here .size) 0)) (freeBlock b (asRead ws h)))
   unfolding ours step free
   free-left = rw (passes-iff ws h .1 p, ne-eqb b 0 some-block, is-live, free-kept ws h p b is-live .housed) refl
 
+  -- the chunk that the rule finds is e
   abbrev old : Entry
   old = blockSpot (asRead ws h) b .here
 
@@ -108,11 +110,11 @@ module _ (ws : List ℕ) (h : Heap) (p : Passes ws h) (b : ℕ) (e : Entry) (k :
 
   -- is resized
   module _ (block : Block) (change : ℤ) (z : ℕ) (q : ours (Reallocate b z) ws h .answer ≡ Granted block change) where
-    abbrev large : ℕ
-    large = need overhead z
+    abbrev wanted : ℕ
+    wanted = need overhead z
 
     abbrev result : Grant
-    result = resized ws (blockSpot (asRead ws h) b) large (asRead ws h)
+    result = resized ws (blockSpot (asRead ws h) b) wanted (asRead ws h)
 
     abbrev outcome : Outcome
     outcome = made (grants (old .size) (result .granted)) (result .draft)
@@ -120,6 +122,7 @@ module _ (ws : List ℕ) (h : Heap) (p : Passes ws h) (b : ℕ) (e : Entry) (k :
     abbrev tests : Refusals
     tests = resizeRefusals (heapFails ws h) ws (asRead ws h) b z
 
+    -- what the call leaves: it was not refused
     resize-left : ours (Reallocate b z) ws h ≡ leftBy ws (judged h tests outcome)
     unfolding ours step reallocate resize
     resize-left = rw (ne-eqb b 0 some-block) refl
@@ -131,62 +134,64 @@ module _ (ws : List ℕ) (h : Heap) (p : Passes ws h) (b : ℕ) (e : Entry) (k :
     resized-left = resize-left ∙ ap (leftBy ws) (resize-taken .1)
 
     resized-block : blockOf (result .granted) ≡ block .0
-    resized-block = block-of (old .size) (result .granted) block change (sym (ap (λ (x : Left). x .answer) resized-left) ∙ q)
+    resized-block = granted-block (old .size) (result .granted) block change (sym (ap (λ (x : Left). x .answer) resized-left) ∙ q)
 
     -- a block that outgrows its chunk
-    module _ (less : e .size < large) where
+    module _ (less : e .size < wanted) where
       abbrev left : Left
       left = ours (Reallocate b z) ws h
 
-      room : nowhere (sourceOf large (asRead ws h)) ≡ false
+      room : nowhere (sourceOf wanted (asRead ws h)) ≡ false
       room =
           let f = resize-taken .0 .1 .1 .1 .0 in
-          rw (lt-ltb (old .size) large (rw old-is less)) at f
-
-      moved-is : result ≡ moved ws (blockSpot (asRead ws h) b) large (asRead ws h)
-      unfolding resized
-      moved-is = rw (lt-ltb (old .size) large (rw old-is less)) refl
+          rw (lt-ltb (old .size) wanted (rw old-is less)) at f
 
       abbrev moves : Grant
-      moves = moved ws (blockSpot (asRead ws h) b) large (asRead ws h)
+      moves = moved ws (blockSpot (asRead ws h) b) wanted (asRead ws h)
+
+      moved-is : result ≡ moves
+      unfolding resized
+      moved-is = rw (lt-ltb (old .size) wanted (rw old-is less)) refl
 
       moved-left : leftBy ws (made (grants (old .size) (moves .granted)) (moves .draft)) ≡ left
       moved-left = sym (resized-left ∙ ap (λ (x : Grant). leftBy ws (made (grants (old .size) (x .granted)) (x .draft))) moved-is)
 
+      -- what is promised of a moved block
       abbrev Moved : ℕ → ℕ → Entry → Left → Type 0
-      Moved d c x y = New ws h large d y × KeepsOthers ws h c y × Gone c y × NoneNewBut ws h d y × SameWords ws c (y .words) d (blockWords x)
+      Moved d c x y = New ws h wanted d y × KeepsOthers ws h c y × Gone c y × NoneNewBut ws h d y × SameWords ws c (y .words) d (blockWords x)
 
-      moved-well : Moved (block .0) b e left
-      moved-well =
+      moves-apart : Moved (block .0) b e left
+      moves-apart =
           let to : ℕ = blockOf (moves .granted) in
           let r : Moved to (blockOf old) old (leftBy ws (made (grants (old .size) (moves .granted)) (moves .draft))) =
-          moved-apart ws h p large (need-large z) (need-eight z) room old (old-holds .member) (old-holds .live) (rw old-is less) (grants (old .size) (moves .granted)) in
+          moved-apart ws h p wanted (need-large z) (need-eight z) room old (old-holds .member) (old-holds .live) (rw old-is less) (grants (old .size) (moves .granted)) in
           subst (λ (d : ℕ). Moved d b e left) (ap (λ (x : Grant). blockOf (x .granted)) (sym moved-is) ∙ resized-block)
           (subst (λ (x : Entry). Moved to b x left) old-is
           (subst (λ (c : ℕ). Moved to c old left) (old-holds .block)
           (subst (λ (y : Left). Moved to (blockOf old) old y) moved-left r)))
 
     -- one that its chunk has room for
-    module _ (fits : large ≤ e .size) where
+    module _ (fits : wanted ≤ e .size) where
+      -- what is promised of one that stays
       abbrev Stay : Grant → Type 0
       Stay x =
           let left = leftBy ws (made (grants (old .size) (x .granted)) (x .draft)) in
-          (blockOf (x .granted) ≡ b) × ((y : Entry) × Stays ws large b e (left .words) (left .heap) y) × KeepsOthers ws h b left × NoneNewBut ws h b left
+          (blockOf (x .granted) ≡ b) × ((y : Entry) × Stays ws wanted b e (left .words) (left .heap) y) × KeepsOthers ws h b left × NoneNewBut ws h b left
 
       -- a tail is split off
-      module _ (l : large + 24 ≤ old .size) where
+      module _ (l : wanted + 24 ≤ old .size) where
         abbrev shrinks : Grant
-        shrinks = shrunk (blockSpot (asRead ws h) b) large (asRead ws h)
+        shrinks = shrunk (blockSpot (asRead ws h) b) wanted (asRead ws h)
 
         abbrev shrunkWords : List ℕ
         shrunkWords = written ws (shrinks .draft .stores)
 
         shrunk-chain : shape shrunkWords (shrinks .draft .heap .bytes) ≡ shrinks .draft .chain
-        shrunk-chain = shrink-kept ws h p b is-live large (need-large z) (need-eight z) l .chain
+        shrunk-chain = shrink-kept ws h p b is-live wanted (need-large z) (need-eight z) l .chain
 
-        shrunk-stays : Stays ws large b e shrunkWords (shrinks .draft .heap) (shrinks .granted)
+        shrunk-stays : Stays ws wanted b e shrunkWords (shrinks .draft .heap) (shrinks .granted)
         shrunk-stays =
-            let t = shrink-there ws h p b is-live large (need-large z) (need-eight z) l in
+            let t = shrink-there ws h p b is-live wanted (need-large z) (need-eight z) l in
             record {
               held = record { member = rw shrunk-chain (t .0); live = t .1; block = old-holds .block };
               enough = omega arith;
@@ -194,18 +199,18 @@ module _ (ws : List ℕ) (h : Heap) (p : Passes ws h) (b : ℕ) (e : Entry) (k :
               same = λ j r.
                   let i = inside ws h p old (old-holds .member) .place in
                   off (shrinks .draft .stores) ws b j
-                  (shrink-spares-own ws h p b is-live large (need-large z) (need-eight z) l _ (omega (arith, old-holds .block)) (omega (arith, old-holds .block)));
+                  (shrink-spares-own ws h p b is-live wanted (need-large z) (need-eight z) l _ (omega (arith, old-holds .block)) (omega (arith, old-holds .block)));
             }
 
         shrunk-keeps : (d : Entry) → OnChain ws h d → live h d ≡ true → blockOf d ≢ b → Keeps ws shrunkWords (shrinks .draft .heap) d
         shrunk-keeps d m v o =
-            let s = shrink-others-stay ws h p b is-live large (need-large z) (need-eight z) l d m v o in
+            let s = shrink-others-stay ws h p b is-live wanted (need-large z) (need-eight z) l d m v o in
             record {
               held = record { member = rw shrunk-chain (s .0); live = s .1; block = refl };
               same = λ j r.
                   let i = inside ws h p d m in
                   off (shrinks .draft .stores) ws (blockOf d) j
-                  (shrink-spares ws h p b is-live large (need-large z) (need-eight z) l d m v o _ (omega arith) (omega arith));
+                  (shrink-spares ws h p b is-live wanted (need-large z) (need-eight z) l d m v o _ (omega arith) (omega arith));
             }
 
         shrunk-only : (d : Entry) → OnChain shrunkWords (shrinks .draft .heap) d → live (shrinks .draft .heap) d ≡ true
@@ -214,54 +219,48 @@ module _ (ws : List ℕ) (h : Heap) (p : Passes ws h) (b : ℕ) (e : Entry) (k :
           where
             go : Dec (blockOf d ≡ b) → (blockOf d ≡ b) ⊎ (OnChain ws h d × (live h d ≡ true))
             go (yes q) = inl q
-            go (no o) = inr (shrink-none-new ws h p b is-live large (need-large z) (need-eight z) l d (rw shrunk-chain at m) v o)
+            go (no o) = inr (shrink-none-new ws h p b is-live wanted (need-large z) (need-eight z) l d (rw shrunk-chain at m) v o)
 
       -- nothing changes
-      same-well : Stay (record { granted = old; draft = asRead ws h })
+      same-stays : Stay (record { granted = old; draft = asRead ws h })
       unfolding asRead
-      same-well = (
+      same-stays = (
         old-holds .block,
         (old, record { held = old-holds; enough = rw old-is fits; noMore = rw old-is (omega arith); same = λ j r. refl }),
         (λ d m v o. kept-still ws h d m v),
         λ d m v. inr (m, v),
       )
 
-      stay-well : Stay result
-      unfolding resized
-      stay-well = rw (le-ltb (old .size) large (rw old-is fits)) (go (leb (large + 24) (old .size)) refl)
-        where
-          go : (t : Bool) → leb (large + 24) (old .size) ≡ t
-              → Stay (cond t (shrunk (blockSpot (asRead ws h) b) large (asRead ws h)) (record { granted = old; draft = asRead ws h }))
-          go true u =
-              let l = leb-true (large + 24) (old .size) u in
-              (old-holds .block, (shrinks l .granted, shrunk-stays l), shrunk-keeps l, shrunk-only l)
-          go false u = same-well
+      result-stays : Stay result
+      result-stays =
+          let f : wanted ≤ old .size = rw old-is fits in
+          resized-so Stay ws (blockSpot (asRead ws h) b) wanted (asRead ws h) (λ less. absurd (omega arith))
+          (λ l. (old-holds .block, (shrinks l .granted, shrunk-stays l), shrunk-keeps l, shrunk-only l)) same-stays
 
-      stays-well : let left = ours (Reallocate b z) ws h in
-          (block .0 ≡ b) × ((y : Entry) × Stays ws large b e (left .words) (left .heap) y) × KeepsOthers ws h b left × NoneNewBut ws h b left
-      stays-well = let r = stay-well in rw resized-left (sym resized-block ∙ r .0, r .1, r .2, r .3)
+      stays-apart : let left = ours (Reallocate b z) ws h in
+          (block .0 ≡ b) × ((y : Entry) × Stays ws wanted b e (left .words) (left .heap) y) × KeepsOthers ws h b left × NoneNewBut ws h b left
+      stays-apart = let r = result-stays in rw resized-left (sym resized-block ∙ r .0, r .1, r .2, r .3)
 
 -- a question changes nothing, answered or refused
 unchanged-judged : (h : Heap) (a : Answer) (ts : Refusals) → judged h ts (unchanged h a) ≡ unchanged h (judged h ts (unchanged h a) .answer)
 unchanged-judged h a ts = judged-so (λ x. x ≡ unchanged h (x .answer)) h (unchanged h a) ts (λ r. refl) (λ _. refl)
 
-module _ (ws : List ℕ) (h : Heap) (p : Passes ws h) where
-  still : KeepsAll ws h (leftBy ws (unchanged h Done)) × NoneNew ws h (leftBy ws (unchanged h Done))
-  still = (kept-still ws h, λ e m l. (m, l))
+-- where nothing is written every live block is kept, and none is new
+still : (ws : List ℕ) (h : Heap) → KeepsAll ws h (leftBy ws (unchanged h Done)) × NoneNew ws h (leftBy ws (unchanged h Done))
+still ws h = (kept-still ws h, λ e m l. (m, l))
 
+module _ (ws : List ℕ) (h : Heap) (p : Passes ws h) where
   look : (call : Call) → onlyLooks call ≡ true → KeepsAll ws h (ours call ws h) × NoneNew ws h (ours call ws h)
   unfolding ours step setMerge check askChunk askBin free asRead
   look (Setup table donor merge) q = absurd (false≢true q)
   look (Allocate z) q = absurd (false≢true q)
   look (AllocateCleared count size) q = absurd (false≢true q)
-  look (Free b) q = rw (passes-iff ws h .1 p, q) still
+  look (Free b) q = rw (passes-iff ws h .1 p, q) (still ws h)
   look (Reallocate b z) q = absurd (false≢true q)
-  look (SetMerge on) q =
-      rw (passes-iff ws h .1 p)
-      (λ e m l. record { held = record { member = m; live = l; block = refl }; same = λ k r. refl }, λ e m l. (m, l))
-  look Check q = still
-  look (AskChunk question place) q = rw (unchanged-judged h _ _) still
-  look (AskBin question i) q = rw (unchanged-judged h _ _) still
+  look (SetMerge on) q = rw (passes-iff ws h .1 p) (still ws (withMerge h on))
+  look Check q = still ws h
+  look (AskChunk question place) q = rw (unchanged-judged h _ _) (still ws h)
+  look (AskBin question i) q = rw (unchanged-judged h _ _) (still ws h)
 
 -- a refused call gives the record as it came
 came : (call : Call) (h : Heap) → isSetup call ≡ false → recordOf call h ≡ h
@@ -277,14 +276,12 @@ came (AskBin question i) h q = refl
 
 module _ (ws : List ℕ) (h : Heap) (p : Passes ws h) (block : Block) (change : ℤ) where
   allocated : (z : ℕ) → ours (Allocate z) ws h .answer ≡ Granted block change
-      → New ws h (need overhead z) (block .0) (ours (Allocate z) ws h) × KeepsAll ws h (ours (Allocate z) ws h)
-      × NoneNewBut ws h (block .0) (ours (Allocate z) ws h)
+      → NewApart ws h (need overhead z) (block .0) (ours (Allocate z) ws h)
   unfolding ours step allocate
   allocated z q = with-apart ws h p block change asFound (λ e. tt) z q
 
   reallocated : (z : ℕ) → ours (Reallocate 0 z) ws h .answer ≡ Granted block change
-      → New ws h (need overhead z) (block .0) (ours (Reallocate 0 z) ws h) × KeepsAll ws h (ours (Reallocate 0 z) ws h)
-      × NoneNewBut ws h (block .0) (ours (Reallocate 0 z) ws h)
+      → NewApart ws h (need overhead z) (block .0) (ours (Reallocate 0 z) ws h)
   unfolding ours step reallocate allocate
   reallocated z q = with-apart ws h p block change asFound (λ e. tt) z q
 
@@ -302,12 +299,12 @@ kept-apart ws h p =
       allocate = λ z block change q. allocated ws h p block change z q;
       cleared = λ count size block change q. cleared-apart ws h p block change count size q;
       noBlock = λ z block change q. reallocated ws h p block change z q;
-      moved = λ b z block change e k l q. moved-well ws h p b e k block change z q l;
-      stays = λ b z block change e k l q. stays-well ws h p b e k block change z q l;
+      moved = λ b z block change e k l q. moves-apart ws h p b e k block change z q l;
+      stays = λ b z block change e k l q. stays-apart ws h p b e k block change z q l;
       free = λ b e k.
           rw (free-left ws h p b e k)
           (others-kept ws h p b (is-live ws h p b e k), none-others ws h p b (is-live ws h p b e k));
       looks = look ws h p;
       refused = λ call s r q.
-          rw (refusing .heap call ws h r q ∙ came call h s, refusing .words call ws h r q) (still ws h p);
+          rw (refusing .heap call ws h r q ∙ came call h s, refusing .words call ws h r q) (still ws h);
     }

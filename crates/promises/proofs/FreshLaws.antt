@@ -19,6 +19,7 @@ use Rattle.rules.specs.Kinds.{ordinary, live, outside}
 use Rattle.rules.specs.Check.{Fits, Tabled, Unbinned, TopIs, DonorIs, Listed, usedBytes, Passes, PassesAs}
 use Rattle.rules.specs.Draft.{headers, noBinWords}
 use Rattle.rules.specs.Setup.{fresh, firstHeaders}
+use Rattle.rules.proofs.ChainLaws.{each-cons}
 use Rattle.rules.proofs.KindsLaws.{kind-start, kind-end, kind-top, kind-donor}
 use Rattle.rules.proofs.ShapeLaws.{read-none}
 use Rattle.rules.proofs.TiledLaws.{tiled-empty}
@@ -39,6 +40,10 @@ zero-past t n i l =
     ap (λ (k : ℕ). getD (t ++ replicate n 0) k 0) (omega arith)
     ∙ getD-append-add t (replicate n 0) (i - length t) 0
     ∙ zero-at n (i - length t)
+
+-- whatever P is, it holds of each of no chunks
+no-more : (P : Entry → Type 0) (e : Entry) → Mem e [] → P e
+no-more P e m = absurd (List·Memᴰ·not-nil m)
 
 -- where no chunk is live none is used
 none-used : (h : Heap) (es : List Entry) → ((e : Entry) → Mem e es → live h e ≡ false) → usedBytes h es ≡ 0
@@ -169,15 +174,10 @@ module _ (ws table : List ℕ) (merge : Bool) (valid : ValidTable table) (enough
   plain-laid =
       record {
         tiled = omega arith;
-        chunks = each;
+        chunks = each-cons start-laid (each-cons (top-laid 0 (omega arith) (omega arith)) (each-cons end-laid (no-more (Laid bytes))));
         ended = record { startSize = refl; startUsed = refl; endUsed = refl };
         reaches = omega arith;
       }
-    where
-      each : (e : Entry) → Mem e plain → Laid bytes e
-      each e (List·Memᴰ·head q) = rw q start-laid
-      each e (List·Memᴰ·tail (List·Memᴰ·head q)) = rw q (top-laid 0 (omega arith) (omega arith))
-      each e (List·Memᴰ·tail (List·Memᴰ·tail (List·Memᴰ·head q))) = rw q end-laid
 
   plain-headed : Headed (words 0) outside plain outside
   plain-headed =
@@ -215,12 +215,9 @@ module _ (ws table : List ℕ) (merge : Bool) (valid : ValidTable table) (enough
   plain-passes =
       passes 0 plain plain-laid plain-headed
       (topOf 0, List·Memᴰ·tail (List·Memᴰ·head refl), (record { here = refl; free = refl; out = plain-top }, omega arith))
-      (λ some. absurd (omega arith)) none
-    where
-      none : (e : Entry) → Mem e plain → Neither 0 e
-      none e (List·Memᴰ·head q) = rw q (start-neither 0 (omega arith) (omega arith))
-      none e (List·Memᴰ·tail (List·Memᴰ·head q)) = rw q (top-neither 0 (omega arith) (omega arith))
-      none e (List·Memᴰ·tail (List·Memᴰ·tail (List·Memᴰ·head q))) = rw q (end-neither 0 (omega arith) (omega arith))
+      (λ some. absurd (omega arith))
+      (each-cons (start-neither 0 (omega arith) (omega arith))
+      (each-cons (top-neither 0 (omega arith) (omega arith)) (each-cons (end-neither 0 (omega arith) (omega arith)) (no-more (Neither 0)))))
 
   -- with a donor
   module _ (donor : ℕ) (large : 24 ≤ donor) (eight : donor % 8 ≡ 0) (room : donor + 40 ≤ bytes) where
@@ -234,16 +231,13 @@ module _ (ws table : List ℕ) (merge : Bool) (valid : ValidTable table) (enough
     donated-laid =
         record {
           tiled = omega arith;
-          chunks = each;
+          chunks =
+              each-cons start-laid
+              (each-cons (laid-between bytes (donorOf donor) refl (omega arith) (omega arith) large (omega arith))
+              (each-cons (top-laid donor eight room) (each-cons end-laid (no-more (Laid bytes)))));
           ended = record { startSize = refl; startUsed = refl; endUsed = refl };
           reaches = omega arith;
         }
-      where
-        each : (e : Entry) → Mem e donated → Laid bytes e
-        each e (List·Memᴰ·head q) = rw q start-laid
-        each e (List·Memᴰ·tail (List·Memᴰ·head q)) = rw q (laid-between bytes (donorOf donor) refl (omega arith) (omega arith) large (omega arith))
-        each e (List·Memᴰ·tail (List·Memᴰ·tail (List·Memᴰ·head q))) = rw q (top-laid donor eight room)
-        each e (List·Memᴰ·tail (List·Memᴰ·tail (List·Memᴰ·tail (List·Memᴰ·head q)))) = rw q end-laid
 
     -- the stores, written out
     abbrev stores : List Store
@@ -319,13 +313,8 @@ module _ (ws table : List ℕ) (merge : Bool) (valid : ValidTable table) (enough
         passes donor donated donated-laid donated-headed
         (topOf donor, List·Memᴰ·tail (List·Memᴰ·tail (List·Memᴰ·head refl)), (record { here = refl; free = refl; out = top-out }, omega arith))
         (λ there. (donorOf donor, List·Memᴰ·tail (List·Memᴰ·head refl), rw donor-named (record { here = refl; free = refl; out = donor-out }, omega arith)))
-        none
-      where
-        none : (e : Entry) → Mem e donated → Neither donor e
-        none e (List·Memᴰ·head q) = rw q (start-neither donor eight room)
-        none e (List·Memᴰ·tail (List·Memᴰ·head q)) = rw q donor-neither
-        none e (List·Memᴰ·tail (List·Memᴰ·tail (List·Memᴰ·head q))) = rw q (top-neither donor eight room)
-        none e (List·Memᴰ·tail (List·Memᴰ·tail (List·Memᴰ·tail (List·Memᴰ·head q)))) = rw q (end-neither donor eight room)
+        (each-cons (start-neither donor eight room)
+        (each-cons donor-neither (each-cons (top-neither donor eight room) (each-cons (end-neither donor eight room) (no-more (Neither donor))))))
 
   pub fresh-passes : (donor : ℕ) → Fitting ws donor → Passes (words donor) (opened donor)
   fresh-passes donor (inl z) = rw z plain-passes

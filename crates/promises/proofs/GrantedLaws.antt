@@ -32,7 +32,7 @@ use Rattle.rules.specs.Cut.{Grant}
 use Rattle.rules.specs.Outcome.{made}
 use Rattle.rules.specs.Allocate.{sourceOf, grant, cleared}
 use Rattle.rules.specs.Free.{isLive, freeBlock}
-use Rattle.rules.specs.Statements.{leftBy}
+use Rattle.rules.specs.Statements.{Left, leftBy}
 use Rattle.rules.proofs.SpotLaws.{inside, is-ordinary, is-donor}
 use Rattle.settling.proofs.FillLaws.{Within, filled-within, below-block, above-block}
 use Rattle.promises.specs.Room.{OnChain, HoldsBlock}
@@ -40,25 +40,33 @@ use Rattle.promises.specs.Apart.{SameWords, Keeps, KeepsAll, KeepsOthers
 use Rattle.promises.proofs.ServeLaws.{top-can, donor-can, ordinary-can}
 use Rattle.promises.proofs.ReasonLaws.{one-block}
 
--- words that were written one after the other from number i on are read back
+-- n words written one after the other, from number i of the block at b on
+abbrev pub fillFrom : ℕ → ℕ → (ℕ → ℕ) → ℕ → List Store
+fillFrom b i value n = map (λ j. put b j (value j)) (numbersFrom i n)
+
+-- they are read back
 fill-reads : (value : ℕ → ℕ) (b n i : ℕ) (ws : List ℕ) → b / 4 + i + n ≤ length ws → (k : ℕ) → i ≤ k → k < i + n
-    → word (written ws (map (λ j. put b j (value j)) (numbersFrom i n))) b k ≡ value k
+    → word (written ws (fillFrom b i value n)) b k ≡ value k
 fill-reads value b zero i ws r k lo hi = absurd (omega arith)
 fill-reads value b (suc n) i ws r k lo hi =
     go (ℕ-discrete k i)
     (λ l. fill-reads value b n (suc i) (store ws b i (value i)) (omega (arith, length-store ws b i (value i))) k l (omega arith))
   where
-    later : (n j : ℕ) → i < j → Off (b / 4 + i) (map (λ j. put b j (value j)) (numbersFrom j n))
+    later : (n j : ℕ) → i < j → Off (b / 4 + i) (fillFrom b j value n)
     later zero j l = tt
     later (suc n) j l = (λ q. omega arith, later n (suc j) (omega arith))
 
-    go : Dec (k ≡ i) → let after = written (store ws b i (value i)) (map (λ j. put b j (value j)) (numbersFrom (suc i) n)) in
+    go : Dec (k ≡ i) → let after = written (store ws b i (value i)) (fillFrom b (suc i) value n) in
         (suc i ≤ k → word after b k ≡ value k) → word after b k ≡ value k
     go (yes q) f =
         rw q
-        (off (map (λ j. put b j (value j)) (numbersFrom (suc i) n)) (store ws b i (value i)) b i (later n (suc i) (omega arith))
+        (off (fillFrom b (suc i) value n) (store ws b i (value i)) b i (later n (suc i) (omega arith))
         ∙ word-same ws b i (value i) (omega arith))
     go (no m) f = f (omega arith)
+
+-- a block of n bytes at b is new, and the live blocks are then those of before and this one
+abbrev pub NewApart : List ℕ → Heap → ℕ → ℕ → Left → Type 0
+NewApart ws h n b left = New ws h n b left × KeepsAll ws h left × NoneNewBut ws h b left
 
 -- nothing is written, and no chunk changes its kind
 pub kept-still : (ws : List ℕ) (h : Heap) (e : Entry) → OnChain ws h e → live h e ≡ true → Keeps ws ws h e
@@ -77,7 +85,7 @@ module _ (ws : List ℕ) (h : Heap) (p : Passes ws h) (n : ℕ) (large : 24 ≤ 
   abbrev grantedHeap : Heap
   grantedHeap = granting.grantedHeap ws h p n large eight some
 
-  abbrev pub from : Entry
+  abbrev from : Entry
   from = chosen ws h p n large eight some
 
   -- the chunk that was chosen can serve
@@ -93,6 +101,7 @@ module _ (ws : List ℕ) (h : Heap) (p : Passes ws h) (n : ℕ) (large : 24 ≤ 
       go FromTop q k = top-can ws h p n from (k .free) (k .place) (k .spare refl)
       go Nowhere q k = absurd (true≢false (sym (ap nowhere q) ∙ some))
 
+  -- and the new chunk is cut from it
   cut-from : CutFrom ws h n new from
   cut-from =
       let c = cutting ws h p n large eight some in
@@ -125,6 +134,7 @@ module _ (ws : List ℕ) (h : Heap) (p : Passes ws h) (n : ℕ) (large : 24 ≤ 
         go (inl q) = let i = inside ws h p e m in below-block new ss w _ (omega arith)
         go (inr q) = above-block new ss w _ (omega arith)
 
+    -- so every live block is kept
     keeps-all : (e : Entry) → OnChain ws h e → live h e ≡ true → Keeps ws filledWords grantedHeap e
     keeps-all e m l =
         record {
@@ -145,10 +155,11 @@ module _ (ws : List ℕ) (h : Heap) (p : Passes ws h) (n : ℕ) (large : 24 ≤ 
         go (inr k) = inr k
 
     -- it meets the promise of a new block
-    pub new-apart : (a : Answer) → let left = leftBy ws (made a (alsoWrites ss (granting.given ws h p n large eight some .draft))) in
-        New ws h n (blockOf new) left × KeepsAll ws h left × NoneNewBut ws h (blockOf new) left
+    pub new-apart : (a : Answer)
+        → NewApart ws h n (blockOf new) (leftBy ws (made a (alsoWrites ss (granting.given ws h p n large eight some .draft))))
     new-apart a = ((new, from, (new-held, cut-from)), keeps-all, only-new)
 
+-- zeros to the chunk's end fall into its block
 pub cleared-within : (e : Entry) → Within e (cleared e)
 cleared-within e = filled-within e (λ k. 0) (blockWords e) (omega arith)
 
@@ -169,12 +180,13 @@ new-clear ws h p n large eight some e k j r =
 
 -- the live block at b is given back
 module _ (ws : List ℕ) (h : Heap) (p : Passes ws h) (b : ℕ) (l : isLive (asRead ws h) b ≡ true) where
-  abbrev pub freed : Draft
+  abbrev freed : Draft
   freed = freeBlock b (asRead ws h)
 
-  abbrev pub freedWords : List ℕ
+  abbrev freedWords : List ℕ
   freedWords = written ws (freed .stores)
 
+  -- every other live block is kept, and no block is live that was not
   pub others-kept : (e : Entry) → OnChain ws h e → live h e ≡ true → blockOf e ≢ b → Keeps ws freedWords (freed .heap) e
   others-kept e m k o =
       let r = others-stay ws h p b l e m k o in
@@ -216,6 +228,7 @@ module _ (ws : List ℕ) (h : Heap) (p : Passes ws h) (n : ℕ) (large : 24 ≤ 
   abbrev longer : blockWords e ≤ blockWords to
   longer = moving.fits ws h p n large eight some e m l less
 
+  -- the copy keeps every live block, and so does the free, but for the old one
   copied-keeps : (d : Entry) → OnChain ws h d → live h d ≡ true → Keeps ws copiedWords copiedHeap d
   copied-keeps = keeps-all ws h p n large eight some copies within
 
@@ -224,11 +237,13 @@ module _ (ws : List ℕ) (h : Heap) (p : Passes ws h) (n : ℕ) (large : 24 ≤ 
       rw (moving.again-is ws h p n large eight some e m l less .0, moving.moved-words ws h p n large eight some e m l less)
       (others-kept copiedWords copiedHeap (moving.copied-passes ws h p n large eight some e m l less) (blockOf e) (moving.live-again ws h p n large eight some e m l less) d k j o)
 
+  -- the new one too
   to-kept : Keeps copiedWords movedWords movedHeap to
   to-kept =
       let r = new-held ws h p n large eight some copies within in
       moved-keeps to (r .member) (r .live) (λ q. granted-new ws h p n large eight some e m l (omega arith))
 
+  -- it begins with the old one's words
   copied-reads : SameWords ws (blockOf e) copiedWords (blockOf to) (blockWords e)
   copied-reads k r =
       let x = granting.granted-lies ws h p n large eight some in
@@ -236,6 +251,7 @@ module _ (ws : List ℕ) (h : Heap) (p : Passes ws h) (n : ℕ) (large : 24 ≤ 
       rw (granting.appended ws h p n large eight some copies within)
       (fill-reads (λ j. word ws (blockOf e) j) (blockOf to) (blockWords e) 0 (granting.grantedWords ws h p n large eight some) (omega arith) k (omega arith) (omega arith))
 
+  -- and no block is live but those of the copy, without the old one
   moved-only : (d : Entry) → OnChain movedWords movedHeap d → live movedHeap d ≡ true
       → OnChain copiedWords copiedHeap d × (live copiedHeap d ≡ true) × (blockOf d ≢ blockOf e)
   moved-only d k j =
@@ -243,6 +259,7 @@ module _ (ws : List ℕ) (h : Heap) (p : Passes ws h) (n : ℕ) (large : 24 ≤ 
       (rw (moving.again-is ws h p n large eight some e m l less .0, moving.moved-words ws h p n large eight some e m l less) at k)
       (rw (moving.again-is ws h p n large eight some e m l less .0) at j)
 
+  -- it meets the promise of a moved block
   pub moved-apart : (a : Answer) → let left = leftBy ws (made a (freeBlock (blockOf e) (moving.copiedOver ws h p n large eight some e m l less))) in
       New ws h n (blockOf to) left × KeepsOthers ws h (blockOf e) left × Gone (blockOf e) left × NoneNewBut ws h (blockOf to) left
       × SameWords ws (blockOf e) movedWords (blockOf to) (blockWords e)

@@ -1,33 +1,31 @@
 -- Where the stores of a call fall: on a heap that passes a grant, a move and whatever goes into the block write nothing past the heap bytes;
 -- so no call on any region writes an odd last word (`stores-below`). Assumes nothing.
-use mathlib.Core.Path.{_≡_, refl}
+use mathlib.Core.Path.{_≡_}
 use mathlib.Core.Logic.{inl, inr}
 use mathlib.Core.Bool.{Bool, true, false, not, cond, _&&_, _||_}
-use mathlib.Core.List.{List, [], _∷_, _++_, map}
+use mathlib.Core.List.{List, [], _∷_}
 use Prim.Native.Nat.{ℕ, _+_, _/_, _%_, _≤_, _<_, _*_}
 use native.Mathlib.Omega.{arith}
-use lib.Dec.{leb, ltb, eqb}
+use lib.Dec.{ltb, eqb}
 use lib.ListN.{length}
-use borrow.Author.Tests.{leb-true, ltb-true, not-false}
-use Rattle.lists.specs.Lists.{Mem, numbersFrom}
-use Rattle.lists.proofs.SplitLaws.{in-split}
+use borrow.Author.Tests.{lt-ltb, not-false}
 use Rattle.record.specs.declared.heap.Heap.{Heap}
 use Rattle.record.specs.declared.answers.Answer.{Answer}
 use Rattle.record.specs.declared.answers.Answer.the-variants.{Done, Told}
 use Rattle.record.specs.declared.answers.Refusal.the-variants.{NotThere}
 use Rattle.record.specs.Heap.{empty, withMerge}
-use Rattle.region.specs.Words.{Store, put, word}
+use Rattle.region.specs.Words.{Store, word}
 use Rattle.region.proofs.PrefixLaws.{Below, below-both}
 use Rattle.region.proofs.WordsLaws.{length-written}
-use Rattle.rules.specs.Shape.{Entry, shape, heapBytes}
-use Rattle.rules.specs.Kinds.{live, blockOf, blockEnd, blockWords, overhead}
+use Rattle.rules.specs.Shape.{Entry, heapBytes}
+use Rattle.rules.specs.Kinds.{blockOf, blockEnd, blockWords, overhead}
 use Rattle.rules.specs.Check.{Passes, passes}
 use Rattle.rules.specs.Draft.{Draft, Spot, asRead, alsoWrites}
 use Rattle.rules.specs.Serve.{nowhere, need}
 use Rattle.rules.specs.Cut.{Grant}
 use Rattle.rules.specs.Allocate.{sourceOf, grant, asFound, cleared, allocateWith, allocate, allocateCleared, allocateRefusals, allocated}
 use Rattle.rules.specs.Free.{isLive, blockSpot, freeBlock, free, freeRefusals, freed}
-use Rattle.rules.specs.Reallocate.{shrunk, moved, resized, resize, reallocate, resizeRefusals, resizedTo}
+use Rattle.rules.specs.Reallocate.{moved, resized, resize, reallocate, resizeRefusals, resizedTo}
 use Rattle.rules.specs.Outcome.{Outcome, Refusals, judged, heapFails, unchanged}
 use Rattle.rules.specs.Setup.{setup, donorFits, setupRefusals, opened}
 use Rattle.rules.specs.Merge.{setMerge, check}
@@ -41,23 +39,25 @@ use Rattle.settling.proofs.FillLaws.{Within, filled-within}
 use Rattle.grant.proofs.GrantedChunk.{grantedWords, kept, new-there}
 use Rattle.grant.proofs.GrantSpares.{grant-inside}
 use Rattle.grant.proofs.NeedLaws.{need-large, need-eight}
-use Rattle.release.proofs.ReleaseMeaning.{splits}
 use Rattle.release.proofs.ReleaseSpares.{free-inside, shrink-inside}
 use Rattle.resize.proofs.MovedLaws.{fits, copiedOver, copiedWords, copiedHeap, copied-passes, live-again, again-is}
-use Rattle.promises.proofs.ReasonLaws.{Fitting, fitting-iff, length-in}
+use Rattle.promises.proofs.ReasonLaws.{Fitting, fitting-iff, length-in, live-holds}
+use Rattle.promises.proofs.ResizedLaws.{resized-so}
+use Rattle.promises.proofs.GrantedLaws.{fillFrom}
 
 -- what is written into a block is below its end
 within-below : (m : ℕ) (e : Entry) (ss : List Store) → blockEnd e / 4 ≤ m → Within e ss → Below m ss
 within-below m e [] l w = tt
 within-below m e (s ∷ ss) l w = (omega (arith, w .1), within-below m e ss l (w .2))
 
-module _ (ws : List ℕ) (h : Heap) (p : Passes ws h) (n : ℕ) (large : 24 ≤ n) (eight : n % 8 ≡ 0) where
-  abbrev pub Inner : Draft → Type 0
-  Inner d = Below (h .bytes / 4) (d .stores)
+-- what the draft writes is below the heap's end
+abbrev Inner : Heap → Draft → Type 0
+Inner h d = Below (h .bytes / 4) (d .stores)
 
+module _ (ws : List ℕ) (h : Heap) (p : Passes ws h) (n : ℕ) (large : 24 ≤ n) (eight : n % 8 ≡ 0) where
   -- a block of n bytes that was granted, and the heap then
   module _ (some : nowhere (sourceOf n (asRead ws h)) ≡ false) where
-    abbrev pub given : Grant
+    abbrev given : Grant
     given = grant n (asRead ws h)
 
     same-bytes : given .draft .heap .bytes ≡ h .bytes
@@ -70,56 +70,47 @@ module _ (ws : List ℕ) (h : Heap) (p : Passes ws h) (n : ℕ) (large : 24 ≤ 
 
     -- words written into it, as many as fit
     abbrev filling : (ℕ → ℕ) → ℕ → List Store
-    filling value k = map (λ i. put (blockOf (given .granted)) i (value i)) (numbersFrom 0 k)
+    filling value k = fillFrom (blockOf (given .granted)) 0 value k
 
-    filled-below : (value : ℕ → ℕ) (k : ℕ) → k ≤ blockWords (given .granted) → Inner (alsoWrites (filling value k) (given .draft))
+    filled-below : (value : ℕ → ℕ) (k : ℕ) → k ≤ blockWords (given .granted) → Inner h (alsoWrites (filling value k) (given .draft))
     filled-below value k l =
         let e = granted-ends in
         below-both (h .bytes / 4) (given .draft .stores) (filling value k) (grant-inside ws h p n large eight some)
         (within-below (h .bytes / 4) (given .granted) (filling value k) (omega arith) (filled-within (given .granted) value k l))
 
-    pub found-below : Inner (alsoWrites (asFound (given .granted)) (given .draft))
+    found-below : Inner h (alsoWrites (asFound (given .granted)) (given .draft))
     found-below = below-both (h .bytes / 4) (given .draft .stores) [] (grant-inside ws h p n large eight some) tt
 
-    pub cleared-below : Inner (alsoWrites (cleared (given .granted)) (given .draft))
+    cleared-below : Inner h (alsoWrites (cleared (given .granted)) (given .draft))
     cleared-below = filled-below (λ i. 0) (blockWords (given .granted)) (omega arith)
 
   -- the live block at b
   module _ (b : ℕ) (l : isLive (asRead ws h) b ≡ true) where
-    abbrev pub at : Spot
+    abbrev at : Spot
     at = blockSpot (asRead ws h) b
 
     -- is moved: it is live still when the old words have been copied
-    module _ (some : nowhere (sourceOf n (asRead ws h)) ≡ false) (less : at .here .size < n) where
-      found : (shape ws (h .bytes) ≡ at .low ++ at .here ∷ at .high) × (live h (at .here) ≡ true) × (blockOf (at .here) ≡ b)
-      found = splits ws h p b l
+    moved-below : nowhere (sourceOf n (asRead ws h)) ≡ false → at .here .size < n → Inner h (moved ws at n (asRead ws h) .draft)
+    moved-below some less =
+        let e : Entry = at .here in
+        let k = live-holds ws h p b l in
+        let m = k .member in
+        let v = k .live in
+        rw (again-is ws h p n large eight some e m v less .1)
+        (below-both (h .bytes / 4) (copiedOver ws h p n large eight some e m v less .stores)
+        (freeBlock (blockOf e) (asRead (copiedWords ws h p n large eight some e m v less) (copiedHeap ws h p n large eight some e m v less)) .stores)
+        (filled-below some (λ i. word ws (blockOf e) i) (blockWords e) (fits ws h p n large eight some e m v less))
+        (rw (same-bytes some) at
+        (free-inside (copiedWords ws h p n large eight some e m v less) (copiedHeap ws h p n large eight some e m v less) (copied-passes ws h p n large eight some e m v less)
+        (blockOf e) (live-again ws h p n large eight some e m v less))))
 
-      there : Mem (at .here) (shape ws (h .bytes))
-      there = in-split (at .low) (at .here) (at .high) (found .0)
-
-      moved-below : Inner (moved ws at n (asRead ws h) .draft)
-      moved-below =
-          let e : Entry = at .here in
-          let m = there in
-          let v = found .1 in
-          rw (again-is ws h p n large eight some e m v less .1)
-          (below-both (h .bytes / 4) (copiedOver ws h p n large eight some e m v less .stores)
-          (freeBlock (blockOf e) (asRead (copiedWords ws h p n large eight some e m v less) (copiedHeap ws h p n large eight some e m v less)) .stores)
-          (filled-below some (λ i. word ws (blockOf e) i) (blockWords e) (fits ws h p n large eight some e m v less))
-          (rw (same-bytes some) at
-          (free-inside (copiedWords ws h p n large eight some e m v less) (copiedHeap ws h p n large eight some e m v less) (copied-passes ws h p n large eight some e m v less)
-          (blockOf e) (live-again ws h p n large eight some e m v less))))
-
-    pub resized-below : (ltb (at .here .size) n && nowhere (sourceOf n (asRead ws h)) ≡ false) → Inner (resized ws at n (asRead ws h) .draft)
-    unfolding resized asRead
-    resized-below q = go (ltb (at .here .size) n) refl q (leb (n + 24) (at .here .size)) refl
-      where
-        go : (t : Bool) → ltb (at .here .size) n ≡ t → t && nowhere (sourceOf n (asRead ws h)) ≡ false
-            → (u : Bool) → leb (n + 24) (at .here .size) ≡ u
-            → Inner (cond t (moved ws at n (asRead ws h)) (cond u (shrunk at n (asRead ws h)) (record { granted = at .here; draft = asRead ws h })) .draft)
-        go true e q u f = moved-below q (ltb-true (at .here .size) n e)
-        go false e q true f = shrink-inside ws h p b l n large eight (leb-true (n + 24) (at .here .size) f)
-        go false e q false f = tt
+    -- is resized, and there is room if it has to move
+    resized-below : (ltb (at .here .size) n && nowhere (sourceOf n (asRead ws h)) ≡ false) → Inner h (resized ws at n (asRead ws h) .draft)
+    unfolding asRead
+    resized-below q =
+        resized-so (λ x. Inner h (x .draft)) ws at n (asRead ws h)
+        (λ less. moved-below (rw (lt-ltb (at .here .size) n less) at q) less)
+        (λ spare. shrink-inside ws h p b l n large eight spare) tt
 
 -- a refusal writes nothing
 judged-below : (m : ℕ) (h : Heap) (o : Outcome) (ts : Refusals) → (Failed ts → Below m (o .stores)) → Below m (judged h ts o .stores)
@@ -127,6 +118,7 @@ judged-below m h o ts = judged-so (λ x. Below m (x .stores)) h o ts (λ r. tt)
 
 -- each store falls below an odd last word
 module _ (ws : List ℕ) (h : Heap) where
+  -- how many words there are without it
   abbrev even : ℕ
   even = length ws / 2 * 2
 
@@ -139,7 +131,7 @@ module _ (ws : List ℕ) (h : Heap) where
   -- a block that is granted, whatever is written into it
   with-below : (fill : Entry → List Store) (z : ℕ)
       → ((p : Passes ws h) → nowhere (sourceOf (need overhead z) (asRead ws h)) ≡ false
-      → let g = grant (need overhead z) (asRead ws h) in Below (h .bytes / 4) (alsoWrites (fill (g .granted)) (g .draft) .stores))
+      → let g = grant (need overhead z) (asRead ws h) in Inner h (alsoWrites (fill (g .granted)) (g .draft)))
       → Below even (allocateWith fill ws h z .stores)
   with-below fill z b =
       judged-below even h (allocated fill (asRead ws h) z) (allocateRefusals (heapFails ws h) (asRead ws h) z)

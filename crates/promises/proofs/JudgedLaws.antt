@@ -1,20 +1,44 @@
 -- A list of tests before an acceptance, as each call has one: where the tests decide the reasons, their numbers go up and no reason is left out,
--- the first reason that holds is given (`judged-first`), and then nothing is changed (`judged-keeps`). Assumes nothing.
-use mathlib.Core.Path.{_≡_, refl, sym, ap}
+-- the first reason that holds is given (`judged-first`), and then nothing is changed (`judged-keeps`). `Judging` says that a call is so.
+-- Assumes nothing.
+use mathlib.Core.Path.{_≡_, refl, sym, ap, _∙_}
 use mathlib.Core.Logic.{_↔_}
-use mathlib.Core.Bool.{Bool, true, false, false≢true}
-use mathlib.Core.List.{[], _∷_, map, List·Memᴰ·head, List·Memᴰ·tail, List·Memᴰ·not-nil}
+use mathlib.Core.Bool.{Bool, true, false, not, false≢true}
+use mathlib.Core.List.{List, [], _∷_, map, List·Memᴰ·head, List·Memᴰ·tail, List·Memᴰ·not-nil}
 use Prim.Native.Nat.{ℕ, _<_}
 use native.Mathlib.Omega.{arith}
 use Rattle.lists.specs.Lists.{Mem}
-use Rattle.lists.proofs.ListsLaws.{Decides}
+use Rattle.lists.proofs.ListsLaws.{Decides, meaning, denied}
+use Rattle.record.specs.declared.answers.Answer.{Answer}
 use Rattle.record.specs.declared.answers.Answer.the-variants.{Refused}
 use Rattle.record.specs.declared.answers.Refusal.{Refusal}
+use Rattle.record.specs.declared.answers.Refusal.the-variants.{RegionLength, BadTable, DonorSize, HeapFails, BlockSize, NotLive, NoRoom, NotThere, NoBinTakes}
 use Rattle.record.specs.declared.heap.Heap.{Heap}
-use Rattle.record.specs.Answers.{numberOf}
+use Rattle.record.specs.Answers.{numberOf, figuresOf}
+use Rattle.rules.specs.Check.{Passes, passes}
 use Rattle.rules.specs.Outcome.{Outcome, Refusals, judged}
+use Rattle.rules.specs.Calls.{Call, step}
+use Rattle.rules.proofs.CheckLaws.{passes-iff}
 use Rattle.rules.proofs.OutcomeLaws.{Failed, judged-so}
 use Rattle.promises.specs.Kept.{Accepted}
+use Rattle.promises.specs.Refused.{Because, fails, isSetup, recordOf}
+use Rattle.promises.proofs.ReasonLaws.{passes?}
+
+-- the number of a refusal is not 0
+numbered : (r : Refusal) → 0 < numberOf r
+numbered RegionLength = omega arith
+numbered BadTable = omega arith
+numbered DonorSize = omega arith
+numbered HeapFails = omega arith
+numbered BlockSize = omega arith
+numbered NotLive = omega arith
+numbered NoRoom = omega arith
+numbered NotThere = omega arith
+numbered NoBinTakes = omega arith
+
+-- an answer whose number is 0 is no refusal
+pub accepts : {a : Answer} → figuresOf a .refusal ≡ 0 → Accepted a
+accepts z r q = omega (arith, numbered r, sym (ap (λ (x : Answer). figuresOf x .refusal) q) ∙ z)
 
 -- where no refusal is given the tests have failed
 pub accepted-made : (h : Heap) (o : Outcome) (ts : Refusals) → Accepted (judged h ts o .answer) → Failed ts × (judged h ts o ≡ o)
@@ -31,15 +55,20 @@ abbrev pub Rising : ℕ → Refusals → Type 0
 Rising n [] = Unit {0}
 Rising n (t ∷ ts) = (n < numberOf (t .1)) × Rising (numberOf (t .1)) ts
 
+-- the refusals that they give
+abbrev given : Refusals → List Refusal
+given ts = map (λ (t : Bool × Refusal). t .1) ts
+
 -- they stand for all reasons
 abbrev pub Stands : (Refusal → Type 0) → Refusals → Type 0
-Stands B ts = (r : Refusal) → B r → Mem r (map (λ (t : Bool × Refusal). t .1) ts)
+Stands B ts = (r : Refusal) → B r → Mem r (given ts)
 
 -- r is the first of the reasons
-abbrev pub IsFirst : (Refusal → Type 0) → Refusal → Type 0
+abbrev IsFirst : (Refusal → Type 0) → Refusal → Type 0
 IsFirst B r = B r × ((q : Refusal) → numberOf q < numberOf r → B q → ⊥)
 
-higher : (n : ℕ) (ts : Refusals) → Rising n ts → {r : Refusal} → Mem r (map (λ (t : Bool × Refusal). t .1) ts) → n < numberOf r
+-- what the tests give is above n
+higher : (n : ℕ) (ts : Refusals) → Rising n ts → {r : Refusal} → Mem r (given ts) → n < numberOf r
 higher n (t ∷ ts) u (List·Memᴰ·head e) = rw e (u .0)
 higher n (t ∷ ts) u (List·Memᴰ·tail m) = let a = higher (numberOf (t .1)) ts (u .1) m in omega (arith, u .0)
 
@@ -51,21 +80,21 @@ module _ (B : Refusal → Type 0) (h : Heap) (o : Outcome) (accepted : Accepted 
   judged-first n ((true, x) ∷ ts) u s d r =
       let b = d .0 .0 refl in (
         λ e. let q : r ≡ x = cc in rw q (b, λ y l k. lower y l (s y k)),
-        λ f. given f b (s r (f .0)),
+        λ f. no-other f b (s r (f .0)),
       )
     where
-      lower : (y : Refusal) → numberOf y < numberOf x → Mem y (x ∷ map (λ (t : Bool × Refusal). t .1) ts) → ⊥
+      lower : (y : Refusal) → numberOf y < numberOf x → Mem y (x ∷ given ts) → ⊥
       lower y l (List·Memᴰ·head e) = let q = ap numberOf e in omega arith
       lower y l (List·Memᴰ·tail m) = let a = higher (numberOf x) ts (u .1) m in omega arith
 
-      given : IsFirst B r → B x → Mem r (x ∷ map (λ (t : Bool × Refusal). t .1) ts) → Refused x ≡ Refused r
-      given f b (List·Memᴰ·head e) = ap Refused (sym e)
-      given f b (List·Memᴰ·tail m) = absurd (f .1 x (higher (numberOf x) ts (u .1) m) b)
+      no-other : IsFirst B r → B x → Mem r (x ∷ given ts) → Refused x ≡ Refused r
+      no-other f b (List·Memᴰ·head e) = ap Refused (sym e)
+      no-other f b (List·Memᴰ·tail m) = absurd (f .1 x (higher (numberOf x) ts (u .1) m) b)
   judged-first n ((false, x) ∷ ts) u s d r =
       let none : B x → ⊥ = λ b. false≢true (d .0 .1 b) in
       judged-first (numberOf x) ts (u .1) (λ y k. further none y k (s y k)) (d .1 none) r
     where
-      further : (B x → ⊥) → (y : Refusal) → B y → Mem y (x ∷ map (λ (t : Bool × Refusal). t .1) ts) → Mem y (map (λ (t : Bool × Refusal). t .1) ts)
+      further : (B x → ⊥) → (y : Refusal) → B y → Mem y (x ∷ given ts) → Mem y (given ts)
       further none y k (List·Memᴰ·head e) = absurd (none (rw e at k))
       further none y k (List·Memᴰ·tail m) = m
 
@@ -74,3 +103,38 @@ module _ (B : Refusal → Type 0) (h : Heap) (o : Outcome) (accepted : Accepted 
       → (judged h ts o .heap ≡ h) × (judged h ts o .stores ≡ [])
   judged-keeps ts r =
       judged-so (λ x. x .answer ≡ Refused r → (x .heap ≡ h) × (x .stores ≡ [])) h o ts (λ q e. (refl, refl)) (λ _ e. absurd (accepted r e))
+
+-- where each refusal stands among those of a call
+pub first : {x : Refusal} {xs : List Refusal} → Mem x (x ∷ xs)
+first = List·Memᴰ·head refl
+
+pub second : {x y : Refusal} {xs : List Refusal} → Mem x (y ∷ x ∷ xs)
+second = List·Memᴰ·tail first
+
+pub third : {x y z : Refusal} {xs : List Refusal} → Mem x (y ∷ z ∷ x ∷ xs)
+third = List·Memᴰ·tail second
+
+pub fourth : {x y z u : Refusal} {xs : List Refusal} → Mem x (y ∷ z ∷ u ∷ x ∷ xs)
+fourth = List·Memᴰ·tail third
+
+pub fifth : {x y z u v : Refusal} {xs : List Refusal} → Mem x (y ∷ z ∷ u ∷ v ∷ x ∷ xs)
+fifth = List·Memᴰ·tail fourth
+
+-- a call is such a list of tests before an acceptance, which decide the reasons of its refusals
+pub record Judging (call : Call) (ws : List ℕ) (h : Heap) : Type 0 where
+  pub tests : Refusals
+  pub made : Outcome
+  pub accepted : Accepted (made .answer)
+  pub is : step call ws h ≡ judged (recordOf call h) tests made
+  pub rising : Rising 0 tests
+  pub stands : Stands (Because ws h call) tests
+  pub decided : Decided (Because ws h call) tests
+
+module _ (ws : List ℕ) (h : Heap) where
+  -- refusal 4, of every call but setup
+  pub fails-iff : (call : Call) → isSetup call ≡ false → Decides (not (passes ws h)) (Because ws h call HeapFails)
+  fails-iff call s = meaning (denied (passes-iff ws h)) (λ n. fails s n) (λ k. elim k [ fails s n ↦ n ])
+
+  -- where 4 is not given the heap passes
+  pub well : (call : Call) → isSetup call ≡ false → (Because ws h call HeapFails → ⊥) → Passes ws h
+  well call s n = passes? ws h (λ k. n (fails s k))

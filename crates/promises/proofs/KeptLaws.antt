@@ -2,15 +2,14 @@
 -- Assumes nothing.
 use mathlib.Core.Path.{_≡_, refl}
 use mathlib.Core.Bool.{Bool, true, false, not, cond, _&&_}
-use mathlib.Core.List.{List, [], _∷_, _++_}
-use Prim.Native.Nat.{ℕ, _+_, _*_, _%_, _≤_, _<_}
+use mathlib.Core.List.{List, [], _∷_}
+use Prim.Native.Nat.{ℕ, _*_, _%_, _≤_, _<_}
 use native.Mathlib.Omega.{arith}
-use lib.Dec.{eqb, leb, ltb}
+use lib.Dec.{eqb, ltb}
 use lib.ListN.{length}
-use borrow.Author.Tests.{leb-true, ltb-true, not-false}
+use borrow.Author.Tests.{lt-ltb, not-false}
+use Rattle.grant.proofs.GrantedChunk.{filled}
 use Rattle.grant.proofs.NeedLaws.{need-large, need-eight}
-use Rattle.lists.proofs.ListsLaws.{less}
-use Rattle.lists.proofs.SplitLaws.{in-split}
 use Rattle.record.specs.declared.answers.Answer.{Answer}
 use Rattle.record.specs.declared.answers.Answer.the-variants.{Done, Granted, Returned, Told, Counted, Refused}
 use Rattle.record.specs.declared.heap.Heap.{Heap}
@@ -20,34 +19,37 @@ use Rattle.record.proofs.TableLaws.{valid-iff}
 use Rattle.region.specs.Words.{Store, written}
 use Rattle.release.proofs.ReleaseKept.{free-kept}
 use Rattle.release.proofs.ShrinkKept.{shrink-kept}
+use Rattle.resize.proofs.MovedLaws.{copiedWords, copiedHeap, copied-passes, live-again, again-is, moved-words}
 use Rattle.rules.specs.Shape.{Entry, shape, heapBytes}
-use Rattle.rules.specs.Kinds.{overhead, blockWords, blockOf}
+use Rattle.rules.specs.Kinds.{overhead, blockOf}
 use Rattle.rules.specs.Check.{Passes}
-use Rattle.rules.specs.Draft.{Draft, asRead}
+use Rattle.rules.specs.Draft.{Draft, Spot, asRead}
 use Rattle.rules.specs.Serve.{need, nowhere}
 use Rattle.rules.specs.Outcome.{Outcome, Refusals, judged, heapFails, unchanged}
 use Rattle.rules.specs.Setup.{setup, donorFits, fresh, firstHeaders, setupRefusals, opened}
 use Rattle.rules.specs.Allocate.{sourceOf, grant, asFound, cleared, allocateWith, allocate, allocateCleared, allocateRefusals, allocated}
 use Rattle.rules.specs.Free.{isLive, blockSpot, freeBlock, free, freeRefusals, freed}
-use Rattle.rules.specs.Reallocate.{shrunk, moved, resized, resize, reallocate, resizeRefusals, resizedTo}
+use Rattle.rules.specs.Reallocate.{moved, resized, resize, reallocate, resizeRefusals, resizedTo}
 use Rattle.rules.specs.Merge.{setMerge, checked, check}
 use Rattle.rules.specs.Ask.{askChunk, askBin, chunkAnswers, askedSpot, isThere, binAnswers, askRefusals, asked}
 use Rattle.rules.specs.Calls.{Call, Setup, Allocate, AllocateCleared, Free, Reallocate, SetMerge, Check, AskChunk, AskBin, State, recordAfter, step}
 use Rattle.rules.proofs.OutcomeLaws.{Failed, judged-so}
-use Rattle.settling.proofs.FillLaws.{Within, filled-within, fills}
+use Rattle.settling.proofs.FillLaws.{Within, fills}
 use Rattle.promises.specs.Ways.{ours}
 use Rattle.promises.specs.Kept.{Passing, Accepted, OnLiveBlocks, afterStores, Keeping}
-use Rattle.promises.proofs.FreshLaws.{fresh-passes}
-use Rattle.release.proofs.ReleaseMeaning.{splits}
-use Rattle.promises.specs.Room.{OnChain}
-use Rattle.grant.proofs.GrantedChunk.{given, filled}
-use Rattle.resize.proofs.MovedLaws.{copiedWords, copiedHeap, copied-passes, live-again, again-is, moved-words}
 use Rattle.promises.proofs.JudgedLaws.{accepted-made}
-use Rattle.promises.proofs.ReasonLaws.{fitting-iff, length-in}
+use Rattle.promises.proofs.ReasonLaws.{fitting-iff, length-in, live-holds}
+use Rattle.promises.proofs.ResizedLaws.{resized-so}
+use Rattle.promises.proofs.GrantedLaws.{cleared-within}
+use Rattle.promises.proofs.FreshLaws.{fresh-passes}
 
 -- what an outcome leaves for the next call
 abbrev left : List ℕ → Heap → Outcome → State
 left ws h o = record { words = written ws (o .stores); heap = recordAfter h (o .heap) (o .answer) }
+
+-- the heap passes once a draft's stores are written
+abbrev PassesAfter : List ℕ → Draft → Type 0
+PassesAfter ws d = Passes (written ws (d .stores)) (d .heap)
 
 -- an answer with the record that came
 same-record : (h : Heap) (a : Answer) → recordAfter h h a ≡ h
@@ -79,60 +81,42 @@ module _ (ws : List ℕ) (h : Heap) (p : Passes ws h) where
   judged-passes : (came : Heap) (o : Outcome) (ts : Refusals) → (Failed ts → Passing (left ws h o)) → Passing (left ws h (judged came ts o))
   judged-passes came o ts = judged-so (λ x. Passing (left ws h x)) came o ts (λ r. p)
 
-  -- a block of n bytes that was granted, whatever is written into it
-  module _ (n : ℕ) (large : 24 ≤ n) (eight : n % 8 ≡ 0) where
-    granted-passes : (some : nowhere (sourceOf n (asRead ws h)) ≡ false) (ss : List Store) → Within (given ws h p n large eight some .granted) ss
-        → Passes (written ws (given ws h p n large eight some .draft .stores ++ ss)) (given ws h p n large eight some .draft .heap)
-    granted-passes some ss w = filled ws h p n large eight some ss w .2
+  -- the live block at b, which is to have n bytes, moves, or is resized whichever way
+  module _ (n : ℕ) (large : 24 ≤ n) (eight : n % 8 ≡ 0) (b : ℕ) (l : isLive (asRead ws h) b ≡ true) where
+    abbrev at : Spot
+    at = blockSpot (asRead ws h) b
 
-    -- the live block at b is moved, or loses its tail, or stays
-    module _ (b : ℕ) (l : isLive (asRead ws h) b ≡ true) where
-      abbrev PassesAfter : Draft → Type 0
-      PassesAfter d = Passes (written ws (d .stores)) (d .heap)
+    moved-passes : nowhere (sourceOf n (asRead ws h)) ≡ false → at .here .size < n → PassesAfter ws (moved ws at n (asRead ws h) .draft)
+    moved-passes some less =
+        let e : Entry = at .here in
+        let k = live-holds ws h p b l in
+        let m = k .member in
+        let v = k .live in
+        rw (again-is ws h p n large eight some e m v less .0, moved-words ws h p n large eight some e m v less)
+        (free-kept (copiedWords ws h p n large eight some e m v less) (copiedHeap ws h p n large eight some e m v less) (copied-passes ws h p n large eight some e m v less) (blockOf e)
+        (live-again ws h p n large eight some e m v less) .passes)
 
-      moved-passes : nowhere (sourceOf n (asRead ws h)) ≡ false → blockSpot (asRead ws h) b .here .size < n
-          → PassesAfter (moved ws (blockSpot (asRead ws h) b) n (asRead ws h) .draft)
-      moved-passes some less =
-          let (s, v, _) = splits ws h p b l in
-          let e : Entry = blockSpot (asRead ws h) b .here in
-          let m : OnChain ws h e = in-split (blockSpot (asRead ws h) b .low) e (blockSpot (asRead ws h) b .high) s in
-          rw (again-is ws h p n large eight some e m v less .0, moved-words ws h p n large eight some e m v less)
-          (free-kept (copiedWords ws h p n large eight some e m v less) (copiedHeap ws h p n large eight some e m v less) (copied-passes ws h p n large eight some e m v less) (blockOf e)
-          (live-again ws h p n large eight some e m v less) .passes)
+    resized-passes : (ltb (at .here .size) n && nowhere (sourceOf n (asRead ws h))) ≡ false → PassesAfter ws (resized ws at n (asRead ws h) .draft)
+    unfolding asRead
+    resized-passes q =
+        resized-so (λ x. PassesAfter ws (x .draft)) ws at n (asRead ws h)
+        (λ less. moved-passes (rw (lt-ltb (at .here .size) n less) at q) less)
+        (λ spare. shrink-kept ws h p b l n large eight spare .passes) p
 
-      resized-passes : (ltb (blockSpot (asRead ws h) b .here .size) n && nowhere (sourceOf n (asRead ws h))) ≡ false
-          → PassesAfter (resized ws (blockSpot (asRead ws h) b) n (asRead ws h) .draft)
-      unfolding resized asRead
-      resized-passes q = let s = blockSpot (asRead ws h) b in go (ltb (s .here .size) n) refl q (leb (n + 24) (s .here .size)) refl
-        where
-          go : (t : Bool) → ltb (blockSpot (asRead ws h) b .here .size) n ≡ t → (t && nowhere (sourceOf n (asRead ws h))) ≡ false
-              → (u : Bool) → leb (n + 24) (blockSpot (asRead ws h) b .here .size) ≡ u
-              → let s = blockSpot (asRead ws h) b in
-              PassesAfter (cond t (moved ws s n (asRead ws h)) (cond u (shrunk s n (asRead ws h)) (record { granted = s .here; draft = asRead ws h })) .draft)
-          go true e q u f = moved-passes q (ltb-true (blockSpot (asRead ws h) b .here .size) n e)
-          go false e q true f = shrink-kept ws h p b l n large eight (leb-true (n + 24) (blockSpot (asRead ws h) b .here .size) f) .passes
-          go false e q false f = p
-
-  with-passes : (fill : Entry → List Store) (z : ℕ)
-      → ((some : nowhere (sourceOf (need overhead z) (asRead ws h)) ≡ false)
-      → let g = grant (need overhead z) (asRead ws h) in Within (g .granted) (fill (g .granted)))
-      → Passing (left ws h (allocateWith fill ws h z))
-  with-passes fill z w =
-      let g = grant (need overhead z) (asRead ws h) in
+  -- a block that is granted, whatever is written into it
+  with-passes : (fill : Entry → List Store) → ((e : Entry) → Within e (fill e)) → (z : ℕ) → Passing (left ws h (allocateWith fill ws h z))
+  with-passes fill within z =
+      let e = grant (need overhead z) (asRead ws h) .granted in
       judged-passes h (allocated fill (asRead ws h) z) (allocateRefusals (heapFails ws h) (asRead ws h) z)
-      (λ (_, (_, (some, _))). granted-passes (need overhead z) (need-large z) (need-eight z) some (fill (g .granted)) (w some))
+      (λ (_, (_, (some, _))). filled ws h p (need overhead z) (need-large z) (need-eight z) some (fill e) (within e) .2)
 
   allocate-passes : (z : ℕ) → Passing (left ws h (allocate ws h z))
   unfolding allocate
-  allocate-passes z = with-passes asFound z (λ some. tt)
+  allocate-passes = with-passes asFound (λ e. tt)
 
   cleared-passes : (count size : ℕ) → Passing (left ws h (allocateCleared ws h count size))
   unfolding allocateCleared
-  cleared-passes count size =
-      with-passes cleared (count * size)
-      (λ some.
-      let e = grant (need overhead (count * size)) (asRead ws h) .granted in
-      filled-within e (λ k. 0) (blockWords e) (omega arith))
+  cleared-passes count size = with-passes cleared cleared-within (count * size)
 
   free-passes : (b : ℕ) → Passing (left ws h (free ws h b))
   unfolding free asRead
@@ -140,7 +124,7 @@ module _ (ws : List ℕ) (h : Heap) (p : Passes ws h) where
       judged-passes h (freed (asRead ws h) b) (freeRefusals (heapFails ws h) (asRead ws h) b) (λ (_, (l, _)). go (eqb b 0) l)
     where
       go : (t : Bool) → (not t && not (isLive (asRead ws h) b)) ≡ false
-          → let d = cond t (asRead ws h) (freeBlock b (asRead ws h)) in Passes (written ws (d .stores)) (d .heap)
+          → PassesAfter ws (cond t (asRead ws h) (freeBlock b (asRead ws h)))
       go true l = p
       go false l = free-kept ws h p b (not-false (isLive (asRead ws h) b) l) .passes
 

@@ -1,7 +1,9 @@
 pub mod ServeLaws
-pub mod JudgedLaws
 pub mod ReasonLaws
+pub mod JudgedLaws
+pub mod BlockReasons
 pub mod RefusedLaws
+pub mod ResizedLaws
 pub mod RoomLaws
 pub mod CountsLaws
 pub mod DeterminedLaws

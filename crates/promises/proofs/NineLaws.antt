@@ -1,12 +1,9 @@
 -- Number 9 is never given (`never-nine`): where a call comes to put a chunk, the heap passes, and then a bin takes every size. Assumes nothing.
 use mathlib.Core.Path.{_≡_, refl, sym, _∙_}
-use mathlib.Core.Bool.{Bool, true, false, cond, false≢true}
+use mathlib.Core.Bool.{Bool, true, false, false≢true}
 use mathlib.Core.List.{List}
-use Prim.Native.Nat.{ℕ, _+_, _*_, _<_}
+use Prim.Native.Nat.{ℕ, _*_, _<_}
 use native.Mathlib.Omega.{arith}
-use lib.Dec.{leb, ltb}
-use borrow.Author.Tests.{ltb-true, leb-true}
-use Rattle.lists.proofs.SplitLaws.{in-split}
 use Rattle.record.specs.declared.answers.Refusal.{Refusal}
 use Rattle.record.specs.declared.answers.Refusal.the-variants.{HeapFails, NotLive, NoRoom, NoBinTakes}
 use Rattle.record.specs.declared.heap.Heap.{Heap}
@@ -17,21 +14,22 @@ use Rattle.rules.specs.Check.{Passes}
 use Rattle.rules.specs.Draft.{Draft, asRead, Spot}
 use Rattle.rules.specs.Free.{isLive, blockSpot}
 use Rattle.rules.specs.Kinds.{overhead}
-use Rattle.rules.specs.Reallocate.{moved, shrunk, resized}
+use Rattle.rules.specs.Reallocate.{moved, resized}
 use Rattle.rules.specs.Serve.{need, nowhere}
 use Rattle.rules.specs.Shape.{Entry}
 use Rattle.grant.proofs.NeedLaws.{need-large, need-eight}
 use Rattle.grant.proofs.GrantKept.{grant-kept}
 use Rattle.release.proofs.ReleaseKept.{free-kept}
-use Rattle.release.proofs.ReleaseMeaning.{splits}
 use Rattle.release.proofs.ShrinkKept.{shrink-kept}
 use Rattle.resize.proofs.MoveMeaning.{move-housed}
 use Rattle.promises.specs.Ways.{ours}
 use Rattle.promises.specs.Room.{HoldsBlock, NoneServes}
-use Rattle.promises.specs.Refused.{NoBlock, Because, fails, freeNotLive, reallocateNotLive, allocateRoom, clearedRoom, reallocateRoom, allocateBin, clearedBin, freeBin, reallocateNewBin, reallocateBin, isSetup, NeverNine}
+use Rattle.promises.specs.Refused.{NoBlock, Because, freeNotLive, reallocateNotLive, allocateRoom, clearedRoom, reallocateRoom, allocateBin, clearedBin, freeBin, reallocateNewBin, reallocateBin, isSetup, NeverNine}
 use Rattle.promises.proofs.ServeLaws.{room-iff}
 use Rattle.promises.proofs.RefusedLaws.{refusing}
-use Rattle.promises.proofs.ReasonLaws.{passes?, live-iff, one-block, here, here-holds}
+use Rattle.promises.proofs.ReasonLaws.{live-iff, one-block, live-holds}
+use Rattle.promises.proofs.JudgedLaws.{well}
+use Rattle.promises.proofs.ResizedLaws.{resized-so}
 
 -- the call is refused for no number below 9
 abbrev NoneBefore : List ℕ → Heap → Call → Type 0
@@ -49,9 +47,11 @@ module _ (ws : List ℕ) (h : Heap) (p : Passes ws h) where
       go true e = absurd (f (room-iff ws h p (need overhead z) (need-large z) .0 e))
       go false e = e
 
+  -- then a bin takes what is put: of a grant, of a move, of any resized block
   granted-housed : (z : ℕ) → (NoneServes ws h (need overhead z) → ⊥) → grant (need overhead z) before .draft .homeless ≡ false
   granted-housed z f = grant-kept ws h p (need overhead z) (need-large z) (need-eight z) (found z f) .housed
 
+  -- a block is live, unless it is none
   is-live : (b : ℕ) → 0 < b → (NoBlock ws h b → ⊥) → isLive before b ≡ true
   is-live b l f = go (isLive before b) refl
     where
@@ -68,23 +68,21 @@ module _ (ws : List ℕ) (h : Heap) (p : Passes ws h) where
 
     moved-housed : nowhere (sourceOf n before) ≡ false → s .here .size < n → moved ws s n before .draft .homeless ≡ false
     moved-housed some less =
-        let (q, v, _) = splits ws h p b l in
-        move-housed ws h p n (need-large z) (need-eight z) some (s .here) (in-split (s .low) (s .here) (s .high) q) v less
+        let k = live-holds ws h p b l in
+        move-housed ws h p n (need-large z) (need-eight z) some (s .here) (k .member) (k .live) less
 
     resized-housed : (s .here .size < n → NoneServes ws h n → ⊥) → resized ws s n before .draft .homeless ≡ false
-    unfolding resized asRead
-    resized-housed f = go (ltb (s .here .size) n) refl (leb (n + 24) (s .here .size)) refl
-      where
-        go : (t : Bool) → ltb (s .here .size) n ≡ t → (u : Bool) → leb (n + 24) (s .here .size) ≡ u
-            → cond t (moved ws s n before) (cond u (shrunk s n before) (record { granted = s .here; draft = before })) .draft .homeless ≡ false
-        go true e u g = let less = ltb-true (s .here .size) n e in moved-housed (found z (f less)) less
-        go false e true g = shrink-kept ws h p b l n (need-large z) (need-eight z) (leb-true (n + 24) (s .here .size) g) .housed
-        go false e false g = refl
+    unfolding asRead
+    resized-housed f =
+        resized-so (λ x. x .draft .homeless ≡ false) ws s n before (λ less. moved-housed (found z (f less)) less)
+        (λ large. shrink-kept ws h p b l n (need-large z) (need-eight z) large .housed) refl
 
 module _ (ws : List ℕ) (h : Heap) where
+  -- the heap passes, since the call is not refused for failing
   passing : (call : Call) → isSetup call ≡ false → NoneBefore ws h call → Passes ws h
-  passing call s u = passes? ws h (λ n. u HeapFails (omega arith) (fails s n))
+  passing call s u = well ws h call s (u HeapFails (omega arith))
 
+  -- so the reason of number 9 does not hold
   none-bins : (call : Call) → Because ws h call NoBinTakes → NoneBefore ws h call → ⊥
   none-bins (Allocate z) (allocateBin w) u =
       let p = passing (Allocate z) refl u in
@@ -102,9 +100,9 @@ module _ (ws : List ℕ) (h : Heap) where
   none-bins (Reallocate b z) (reallocateBin l w) u =
       let p = passing (Reallocate b z) refl u in
       let live = is-live ws h p b l (λ n. u NotLive (omega arith) (reallocateNotLive n)) in
-      let some = live-iff ws h b .0 live in
-      let outgrown : here ws h p b some .size < need overhead z → (e : Entry) → HoldsBlock ws h b e → e .size < need overhead z
-      = λ less e k. rw (one-block ws h p b e (here ws h p b some) k (here-holds ws h p b some)) less in
+      let old : Entry = blockSpot (asRead ws h) b .here in
+      let outgrown : old .size < need overhead z → (e : Entry) → HoldsBlock ws h b e → e .size < need overhead z
+      = λ less e k. rw (one-block ws h p b e old k (live-holds ws h p b live)) less in
       false≢true (sym (resized-housed ws h p b z live (λ less n. u NoRoom (omega arith) (reallocateRoom (outgrown less, n)))) ∙ w)
 
 pub never-nine : NeverNine ours

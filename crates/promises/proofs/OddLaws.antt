@@ -1,13 +1,13 @@
 -- An odd last word of the region decides nothing and is not written, whatever the call (`odd-apart`). Assumes nothing.
 use mathlib.Core.Path.{_≡_, refl, sym, ap, ap₂, _∙_}
 use mathlib.Core.Bool.{Bool, true, false, not, cond}
-use mathlib.Core.List.{List, [], _∷_, map, List·Memᴰ·head}
+use mathlib.Core.List.{List, [], _∷_, List·Memᴰ·head}
 use Prim.Native.Nat.{ℕ, zero, suc, _+_, _*_, _/_, _≤_, _<_}
 use native.Mathlib.Omega.{arith}
 use lib.Dec.{eqb, ltb}
 use lib.ListN.{length, getD, take, drop}
 use lib.Seq.{getD-take, length-take-le, take-at, drop-at}
-use Rattle.lists.specs.Lists.{headOr, keep, numbersFrom}
+use Rattle.lists.specs.Lists.{headOr, keep}
 use Rattle.lists.proofs.ListsLaws.{Decides}
 use Rattle.lists.proofs.MembersLaws.{kept-from}
 use Rattle.record.specs.declared.answers.Answer.the-variants.{Done, Counted, Refused}
@@ -36,6 +36,7 @@ use Rattle.rules.proofs.SpotLaws.{inside}
 use Rattle.promises.specs.Ways.{ours}
 use Rattle.promises.specs.Odd.{evenWords, oddWord, AlikeButOdd, OddApart}
 use Rattle.promises.proofs.InsideLaws.{stores-below}
+use Rattle.promises.proofs.GrantedLaws.{fillFrom}
 
 -- two tests that decide facts which follow from each other are the same
 same-test : {t u : Bool} {P Q : Type 0} → Decides t P → Decides u Q → (P → Q) → (Q → P) → t ≡ u
@@ -49,7 +50,7 @@ same-test {t} {u} {P} {Q} = go t u
 
 -- words copied from two regions that agree there
 copied-same : (c : ℕ) (f g : ℕ → ℕ) (n i : ℕ) → ((k : ℕ) → i ≤ k → k < i + n → f k ≡ g k)
-    → map (λ k. put c k (f k)) (numbersFrom i n) ≡ map (λ k. put c k (g k)) (numbersFrom i n)
+    → fillFrom c i f n ≡ fillFrom c i g n
 copied-same c f g zero i e = refl
 copied-same c f g (suc n) i e =
     ap₂ (λ (v : ℕ) (ss : List Store). put c i v ∷ ss) (e i (omega arith) (omega arith)) (copied-same c f g n (suc i) (λ k lo hi. e k (omega arith) (omega arith)))
@@ -90,9 +91,10 @@ module _ (us vs : List ℕ) (h : Heap) (a : AlikeButOdd us vs) where
   read-same : passes us h ≡ true → asRead us h ≡ asRead vs h
   read-same q = let p = passes-iff us h .0 q in sym (same-read us vs h (agrees us vs h a (p .fits)) p)
 
-  word-same : Passes us h → (c k : ℕ) → c / 4 + k < h .bytes / 4 → word us c k ≡ word vs c k
+  -- and so is every word of the heap
+  word-alike : Passes us h → (c k : ℕ) → c / 4 + k < h .bytes / 4 → word us c k ≡ word vs c k
   unfolding word
-  word-same p c k l = agrees us vs h a (p .fits) (c / 4 + k) l
+  word-alike p c k l = agrees us vs h a (p .fits) (c / 4 + k) l
 
   -- by what the check says: refused alike, or read alike
   module _ (F : Bool → Draft → Outcome) (fails : (d e : Draft) → F false d ≡ F false e) where
@@ -103,6 +105,7 @@ module _ (us vs : List ℕ) (h : Heap) (a : AlikeButOdd us vs) where
         go true q = rw (read-same q, test-same) refl
         go false q = rw (← test-same, q) (fails (asRead us h) (asRead vs h))
 
+  -- so each call has the same outcome on both
   with-same : (fill : Entry → List Store) (z : ℕ) → allocateWith fill us h z ≡ allocateWith fill vs h z
   with-same fill z = by-reading (λ t d. judged h (allocateRefusals (not t, HeapFails) d z) (allocated fill d z)) (λ d e. refl)
 
@@ -126,7 +129,7 @@ module _ (us vs : List ℕ) (h : Heap) (a : AlikeButOdd us vs) where
       let old = blockSpot d b .here in
       let e = here-ends us h p b in
       let same : (new : Entry) → copied us old new ≡ copied vs old new =
-      λ new. copied-same (blockOf new) _ _ (blockWords old) 0 (λ k lo hi. word-same p (blockOf old) k (omega arith)) in
+      λ new. copied-same (blockOf new) _ _ (blockWords old) 0 (λ k lo hi. word-alike p (blockOf old) k (omega arith)) in
       rw (same (grant n d .granted))
 
   resize-same : (b z : ℕ) → resize us h b z ≡ resize vs h b z
@@ -188,22 +191,24 @@ module _ (us vs : List ℕ) (h : Heap) (a : AlikeButOdd us vs) where
 
 -- a region after stores below its odd word
 module _ (ws : List ℕ) (ss : List Store) (b : Below (length ws / 2 * 2) ss) where
-  abbrev even-words : ℕ
-  even-words = length ws / 2 * 2
+  -- how many words there are without it
+  abbrev even : ℕ
+  even = length ws / 2 * 2
 
-  prefix-length : length (written (take even-words ws) ss) ≡ even-words
-  prefix-length = length-written ss (take even-words ws) ∙ length-take-le even-words ws (omega arith)
+  prefix-length : length (written (take even ws) ss) ≡ even
+  prefix-length = length-written ss (take even ws) ∙ length-take-le even ws (omega arith)
 
   even-written : evenWords (written ws ss) ≡ written (evenWords ws) ss
   even-written =
-      rw (length-written ss ws, ← written-prefix even-words ss ws b)
-      (take-at (written (take even-words ws) ss) (drop even-words ws) even-words prefix-length)
+      rw (length-written ss ws, ← written-prefix even ss ws b)
+      (take-at (written (take even ws) ss) (drop even ws) even prefix-length)
 
   odd-written : oddWord (written ws ss) ≡ oddWord ws
   odd-written =
-      rw (length-written ss ws, ← written-prefix even-words ss ws b)
-      (drop-at (written (take even-words ws) ss) (drop even-words ws) even-words prefix-length)
+      rw (length-written ss ws, ← written-prefix even ss ws b)
+      (drop-at (written (take even ws) ss) (drop even ws) even prefix-length)
 
+-- and the regions are alike afterwards
 words-alike : (call : Call) (h : Heap) (us vs : List ℕ) → AlikeButOdd us vs → AlikeButOdd (ours call us h .words) (ours call vs h .words)
 unfolding ours
 words-alike call h us vs a =

@@ -24,6 +24,7 @@ use Rattle.rules.proofs.SpotLaws.{one-chunk, spot-splits, spot-member}
 use Rattle.promises.specs.Room.{HoldsBlock}
 use Rattle.promises.specs.Refused.{WrongDonor, AskedOf}
 
+-- a heap of which it is not so that it fails passes
 pub passes? : (ws : List ℕ) (h : Heap) → ((Passes ws h → ⊥) → ⊥) → Passes ws h
 passes? ws h n = go (passes ws h) refl
   where
@@ -119,8 +120,13 @@ module _ (ws : List ℕ) (h : Heap) where
         let k = holds-iff h b here .0 (spot-splits (holdsBlock h b) (shape ws (h .bytes)) a .1) in
         record { member = spot-member (holdsBlock h b) (shape ws (h .bytes)) a; live = k .0; block = k .1 }
 
+    -- it is too small exactly if every chunk that holds the block is, since there is one
     pub outgrown-iff : (n : ℕ) → Decides (ltb (here .size) n) ((e : Entry) → HoldsBlock ws h b e → e .size < n)
     outgrown-iff n = meaning (less (here .size) n) (λ l e k. rw (one-block p b e here k here-holds) l) (λ f. f here here-holds)
+
+  -- the same, by the test that finds it
+  pub live-holds : Passes ws h → (b : ℕ) → isLive (asRead ws h) b ≡ true → HoldsBlock ws h b (blockSpot (asRead ws h) b .here)
+  live-holds p b l = here-holds p b (live-iff b .0 l)
 
   -- the chunk that a question is asked of
   pub there-iff : (q p : ℕ) → Decides (isThere (asRead ws h) q p) ((e : Entry) × AskedOf ws h q p e)

@@ -37,6 +37,7 @@ use Rattle.promises.specs.Room.{NoneServes}
 abbrev found : Source → Bool
 found s = not (nowhere s)
 
+-- the first of the tries that find something is found, if one does
 found-first : (ss : List Source) → found (firstOf ss) ≡ any found ss
 found-first [] = refl
 found-first (FromBin c ∷ ss) = refl
@@ -157,6 +158,7 @@ module _ (ws : List ℕ) (h : Heap) (p : Passes ws h) (n : ℕ) where
         (found-if FromTop (leb (n + 24) (sizeOn es (h .top .0))) refl (at-most (n + 24) (sizeOn es (h .top .0))))
         (λ t. false≢true t, λ z. absurd z))))
 
+    -- a member of a bin's list serves, if the bin or its own size says that it is large enough
     member-can : (j c : ℕ) → j < h .bins → Mem c (binList ws h j) → ((e : Entry) → binOf (tableOf h) (e .size) ≡ Bin j → sizeOn es c ≡ e .size → n ≤ e .size) → Some
     member-can j c l m large =
         let k = member-entry ws h p j c l m in

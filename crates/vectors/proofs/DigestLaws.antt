@@ -9,6 +9,7 @@ use lib.ListN.{length, getD, drop}
 use lib.Seq.{drop-cons}
 use Rattle.vectors.specs.Digest.{rotated, mixed, digestFrom}
 
+-- the word shifted both ways and joined by `or`, which is a sum since the parts share no bit
 module _ (x : ℕ) (small : x < 2 ^ 32) where
   pub rotates : bitOr ((x * 2 ^ 5) % 2 ^ 32) (x / 2 ^ 27) ≡ rotated x
   unfolding rotated
@@ -20,7 +21,7 @@ module _ (x : ℕ) (small : x < 2 ^ 32) where
   unfolding rotated
   rotated-small = omega arith
 
--- one word more
+-- one word more is mixed in
 pub digests-one : (d i : ℕ) (ws : List ℕ) → i < length ws
     → digestFrom (mixed d (getD ws i 0)) (drop (i + 1) ws) ≡ digestFrom d (drop i ws)
 unfolding digestFrom

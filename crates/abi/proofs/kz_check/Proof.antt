@@ -6,7 +6,7 @@ use Rattle.abi.proofs.kz_check.Statement.{statement}
 use Rattle.abi.proofs.kz_check.Tie as tie
 
 returns : tie.Need-returns
-returns c = refuses _ _ _ _ _ (c .before .before .if1 .taken) (c .refuse-record .ensures)
+returns c = refuses _ (c .before .before .if1 .taken) (c .refuse-record .ensures)
 
 returns-2 : tie.Need-returns-2
 returns-2 c =
@@ -15,7 +15,7 @@ returns-2 c =
     let well = read .before .before in
     let a = well .before .before .before .args in
     tells (a .region .now) (a .state .now) (read .unpack .ensures .1) (well .if1 .left)
-    (λ h. check (a .region .now) h) (check-stays (a .region .now)) _ _ _ _ _
+    (λ h. check (a .region .now) h) (check-stays (a .region .now)) _
     (read .unpack .ensures .0) (called .check .ensures) (c .tell .ensures)
 
 pub kz-check-spec : {M : Type 1} → statement M

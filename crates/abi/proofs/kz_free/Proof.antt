@@ -6,7 +6,7 @@ use Rattle.abi.proofs.kz_free.Statement.{statement}
 use Rattle.abi.proofs.kz_free.Tie as tie
 
 returns : tie.Need-returns
-returns c = refuses _ _ _ _ _ (c .before .before .if1 .taken) (c .refuse-record .ensures)
+returns c = refuses _ (c .before .before .if1 .taken) (c .refuse-record .ensures)
 
 returns-2 : tie.Need-returns-2
 returns-2 c =
@@ -14,7 +14,7 @@ returns-2 c =
     let read = called .before .before in
     let well = read .before .before in
     let a = well .before .before .before .args in
-    answers _ _ (λ h. free (a .region .now) h (a .block)) _ _ _ _ _ _ (well .if1 .left) (read .unpack .ensures .0)
+    answers _ _ (λ h. free (a .region .now) h (a .block)) _ (well .if1 .left) (read .unpack .ensures .0)
     (called .free .ensures) (c .hand-back .ensures)
 
 pub kz-free-spec : {M : Type 1} → statement M

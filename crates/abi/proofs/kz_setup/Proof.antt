@@ -5,7 +5,10 @@ use Rattle.abi.proofs.kz_setup.Statement.{statement}
 use Rattle.abi.proofs.kz_setup.Tie as tie
 
 returns : tie.Need-returns
-returns c = opens _ _ _ _ _ _ (c .before .before .before .before .before .setup .ensures) (c .before .answer-words .ensures) (c .pack .ensures)
+returns c =
+    let said = c .before in
+    let called = said .before .before .before .before in
+    opens _ _ _ (called .setup .ensures) (said .answer-words .ensures) (c .pack .ensures)
 
 pub kz-setup-spec : {M : Type 1} → statement M
 kz-setup-spec =

@@ -5,10 +5,10 @@ use Rattle.ask.proofs.ask_block.Statement.{statement}
 use Rattle.ask.proofs.ask_block.Tie as tie
 
 returns : tie.Need-returns
-returns c = no-holder _ _ (c .before .before .find-block .ensures) (c .enum-told .given .1)
+returns c = no-holder (c .before .before .find-block .ensures) (c .enum-told .given .1)
 
 returns-2 : tie.Need-returns-2
-returns-2 c = holder-told _ _ (c .before .before .before .find-block .ensures) _ (c .before .sought .given .1)
+returns-2 c = holder-told (c .before .before .before .find-block .ensures) (c .before .sought .given .1)
 
 pub ask-block-spec : {M : Type 1} → statement M
 ask-block-spec =

@@ -5,11 +5,11 @@ use Rattle.ask.proofs.ask_place.Statement.{statement}
 use Rattle.ask.proofs.ask_place.Tie as tie
 
 returns : tie.Need-returns
-returns c = no-place _ _ (c .before .before .find-chunk .ensures) _ _ _ _ _ _ (c .enum-told .given .1)
+returns c = no-place (c .before .before .find-chunk .ensures) _ _ _ _ _ _ (c .enum-told .given .1)
 
 returns-2 : tie.Need-returns-2
 returns-2 c =
-    place-told _ _ (c .before .before .before .before .find-chunk .ensures) _ _ _ _ _ _ _
+    place-told (c .before .before .before .before .find-chunk .ensures) _ _ _ _ _ _
     (c .before .before .sought .given .1) (c .of-chunk .ensures)
 
 pub ask-place-spec : {M : Type 1} → statement M

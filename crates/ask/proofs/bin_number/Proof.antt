@@ -5,11 +5,11 @@ use Rattle.ask.proofs.bin_number.Statement.{statement}
 use Rattle.ask.proofs.bin_number.Tie as tie
 
 returns : tie.Need-returns
-returns c = number-of-none _ _ _ (c .before .before .bin-of .ensures) (c .enum-told .given .1)
+returns c = number-of-none _ _ (c .before .before .bin-of .ensures) (c .enum-told .given .1)
 
 returns-2 : tie.Need-returns-2
 returns-2 c =
-    number-of-bin _ _ _ (c .before .before .before .bin-of .ensures) _ (c .before .binned .given .1)
+    number-of-bin _ _ (c .before .before .before .bin-of .ensures) (c .before .binned .given .1)
 
 pub bin-number-spec : {M : Type 1} → statement M
 bin-number-spec =

@@ -14,18 +14,18 @@ abbrev μ-loop : tie.MeasureT-loop
 μ-loop region first steps at₀ met₀ at met = steps - met
 
 loop-holds : tie.Need-loop-holds Inv-loop μ-loop
-loop-holds c = counting-begins _ _ _
+loop-holds c = counting-begins
 
 returns : tie.Need-returns Inv-loop μ-loop
-returns c = counted-all _ _ _ _ _ (c .before .before .loop .inv) (c .if1 .taken)
+returns c = counted-all (c .before .before .loop .inv) (c .if1 .taken)
 
 loop-again : tie.Need-loop-again Inv-loop μ-loop
 loop-again c =
-    counting-goes _ _ _ _ _ (c .before .before .before .loop .inv) (c .before .if1 .left) (c .before .before .loop-test .taken)
+    counting-goes (c .before .before .before .loop .inv) (c .before .if1 .left) (c .before .before .loop-test .taken)
     (c .word .ensures)
 
 returns-2 : tie.Need-returns-2 Inv-loop μ-loop
-returns-2 c = counted-most _ _ _ _ _ (c .before .loop .inv) (c .loop-test .left)
+returns-2 c = counted-most (c .before .loop .inv) (c .loop-test .left)
 
 pub count-members-spec : {M : Type 1} → statement M
 count-members-spec =

@@ -18,10 +18,10 @@ found c =
     (length-unmapped ℕ (h .sizes) 32 (search needs)) (length-unmapped ℕ (h .heads) 32 (search needs)) (length-unmapped ℕ (h .tails) 32 (search needs))
 
 returns : tie.Need-returns
-returns c = finds-passing _ _ _ (found (c .before .before)) _ (c .enum-told .given .1)
+returns c = finds-passing _ _ (found (c .before .before)) (c .enum-told .given .1)
 
 returns-2 : tie.Need-returns-2
-returns-2 c = finds-failing _ _ _ (found (c .before .before)) (c .enum-told2 .given .1)
+returns-2 c = finds-failing _ _ (found (c .before .before)) (c .enum-told2 .given .1)
 
 pub passes-spec : {M : Type 1} → statement M
 passes-spec =

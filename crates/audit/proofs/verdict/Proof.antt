@@ -18,10 +18,10 @@ found c =
     (length-unmapped ℕ (h .sizes) 32 (search needs)) (length-unmapped ℕ (h .heads) 32 (search needs)) (length-unmapped ℕ (h .tails) 32 (search needs))
 
 returns : tie.Need-returns
-returns c = answer-counts _ _ _ (found (c .before .before .before)) _ (c .before .found .given .1)
+returns c = answer-counts _ _ (found (c .before .before .before)) (c .before .found .given .1)
 
 returns-2 : tie.Need-returns-2
-returns-2 c = answer-fails _ _ _ (found (c .before .before)) (c .enum-told .given .1)
+returns-2 c = answer-fails _ _ (found (c .before .before)) (c .enum-told .given .1)
 
 pub verdict-spec : {M : Type 1} → statement M
 verdict-spec =

@@ -5,13 +5,15 @@ use Rattle.audit.proofs.survey.added.Tie as tie
 
 returns : tie.Need-returns
 returns c =
+    let tops = c .before .before in
+    let ordinary = tops .before .before in
     rw (
       c .wrapping-add-u326 .ensures,
       c .before .wrapping-add-u325 .ensures,
-      c .before .before .wrapping-add-u324 .ensures,
-      c .before .before .before .wrapping-add-u323 .ensures,
-      c .before .before .before .before .wrapping-add-u322 .ensures,
-      c .before .before .before .before .before .wrapping-add-u32 .ensures,
+      tops .wrapping-add-u324 .ensures,
+      tops .before .wrapping-add-u323 .ensures,
+      ordinary .wrapping-add-u322 .ensures,
+      ordinary .before .wrapping-add-u32 .ensures,
     )
 
 pub added-spec : {M : Type 1} → statement M

@@ -18,7 +18,7 @@ abbrev μ-loop : tie.MeasureT-loop
 μ-loop region bytes donor top marks₀ tally₀ before₀ at₀ marks tally before at = bytes - at
 
 loop-holds : tie.Need-loop-holds Inv-loop μ-loop
-loop-holds c = (begins _ _ _ _ _, refl)
+loop-holds c = (begins, refl)
 
 sub-size : tie.Need-sub-size Inv-loop μ-loop
 sub-size c =
@@ -32,8 +32,8 @@ returns c =
     let examined = c .before .before in
     let ended = examined .before in
     let read = ended .before in
-    walk-breaks _ _ _ _ _ _ _ _ _ (read .word .ensures) (ended .end-of .ensures) (examined .examine .ensures) (omega arith) _ _ _
-    (read .before .loop .inv .0) (c .enum-told .given .1)
+    walk-breaks (read .before .loop .inv .0) (omega arith) (read .word .ensures) (ended .end-of .ensures) (examined .examine .ensures)
+    (c .enum-told .given .1)
 
 same-length-2 : tie.Need-same-length-2 Inv-loop μ-loop
 same-length-2 c = search needs
@@ -59,9 +59,9 @@ returns-2 : tie.Need-returns-2 Inv-loop μ-loop
 returns-2 c =
     let tallied = c .before in
     let read = read tallied in
-    walk-ends _ _ _ _ _ _ _ _ _ (read .word .ensures) (ended tallied .end-of .ensures) (examined tallied .examine .ensures)
-    (omega arith) _ _ _ (read .before .loop .inv .0) _ (told tallied .seen .given .1)
-    _ refl _ (tallied .tallied .ensures) _ (marked tallied .mark .ensures) (c .if1 .taken)
+    walk-ends (read .before .loop .inv .0) (omega arith) (read .word .ensures) (ended tallied .end-of .ensures)
+    (examined tallied .examine .ensures) (told tallied .seen .given .1) refl (tallied .tallied .ensures) (marked tallied .mark .ensures)
+    (c .if1 .taken)
 
 -- where the walk goes on, the next chunk is further on, inside the heap bytes, and the walk is where it should be
 goes : (c : tie.Else1 Inv-loop μ-loop)
@@ -72,9 +72,9 @@ goes : (c : tie.Else1 Inv-loop μ-loop)
 goes c =
     let tallied = c .before in
     let read = read tallied in
-    walk-goes _ _ _ _ _ _ _ _ _ (read .word .ensures) (ended tallied .end-of .ensures) (examined tallied .examine .ensures)
-    (omega arith) _ _ _ (read .before .loop .inv .0) _ (told tallied .seen .given .1)
-    _ refl _ (tallied .tallied .ensures) _ (marked tallied .mark .ensures) (c .if1 .left)
+    walk-goes (read .before .loop .inv .0) (omega arith) (read .word .ensures) (ended tallied .end-of .ensures)
+    (examined tallied .examine .ensures) (told tallied .seen .given .1) refl (tallied .tallied .ensures) (marked tallied .mark .ensures)
+    (c .if1 .left)
 
 loop-less : tie.Need-loop-less Inv-loop μ-loop
 loop-less c = omega (arith, goes c .0, goes c .1)

@@ -5,7 +5,7 @@ use native.Mathlib.Omega.{arith}
 use mathlib.Core.Path.{_≡_, refl}
 use borrow.Author.Needs.{needs}
 use lib.ListN.{length}
-use Rattle.audit.proofs.SweepLaws.{Sweeping, sweeping-begins, sweeping-goes, dirty-list, dirty-tail, all-clean, torn-is, whole-is}
+use Rattle.audit.proofs.SweepLaws.{Sweeping, sweeping-begins, sweeping-goes, dirty-list, dirty-tail, all-clean}
 use Rattle.audit.proofs.sweep.sweep_bins.Statement.{statement}
 use Rattle.audit.proofs.sweep.sweep_bins.Tie as tie
 
@@ -17,7 +17,7 @@ abbrev μ-loop : tie.MeasureT-loop
 μ-loop region marks₀ table heads tails steps bin₀ met₀ marks bin met = length table - bin
 
 loop-holds : tie.Need-loop-holds Inv-loop μ-loop
-loop-holds c = (sweeping-begins _ _ _ _ _ _, refl)
+loop-holds c = (sweeping-begins, refl)
 
 -- behind the sweep of a list: the end of the list is read, and the bin is one of the table's
 module _ (swept : tie.After-sweep-list Inv-loop μ-loop) where
@@ -31,16 +31,16 @@ returns : tie.Need-returns Inv-loop μ-loop
 returns c =
     let swept = c .before .before .before .before in
     let turn = turn swept in
-    dirty-list _ _ _ _ _ _ _ _ _ (turn .before .loop .inv .0) (turn .loop-test .taken) (ended swept .end-of .ensures)
-    (torn-is _ _ _ _ _ _ _ _ (swept .sweep-list .ensures) (c .enum-told .given .1))
+    dirty-list (turn .before .loop .inv .0) (turn .loop-test .taken) (ended swept .end-of .ensures) _ (swept .sweep-list .ensures)
+    (c .enum-told .given .1)
 
 returns-2 : tie.Need-returns-2 Inv-loop μ-loop
 returns-2 c =
     let whole = c .before .before .before in
     let swept = whole .before .before .before .before in
     let turn = turn swept in
-    dirty-tail _ _ _ _ _ _ _ _ _ (turn .before .loop .inv .0) (turn .loop-test .taken) (ended swept .end-of .ensures) _
-    (whole-is _ _ _ _ _ _ _ _ (swept .sweep-list .ensures) (whole .swept .given .1)) (c .before .end-of2 .ensures) (c .if1 .taken)
+    dirty-tail (turn .before .loop .inv .0) (turn .loop-test .taken) (ended swept .end-of .ensures) _ (swept .sweep-list .ensures)
+    (whole .swept .given .1) (c .before .end-of2 .ensures) (c .if1 .taken)
 
 loop-again : tie.Need-loop-again Inv-loop μ-loop
 loop-again c =
@@ -48,14 +48,14 @@ loop-again c =
     let whole = same-tail .before .before .before in
     let swept = whole .before .before .before .before in
     let turn = turn swept in (
-      sweeping-goes _ _ _ _ _ _ _ _ _ (turn .before .loop .inv .0) (turn .loop-test .taken) (ended swept .end-of .ensures) _
-          (whole-is _ _ _ _ _ _ _ _ (swept .sweep-list .ensures) (whole .swept .given .1)) (same-tail .before .end-of2 .ensures)
+      sweeping-goes (turn .before .loop .inv .0) (turn .loop-test .taken) (ended swept .end-of .ensures) _ (swept .sweep-list .ensures)
+          (whole .swept .given .1) (same-tail .before .end-of2 .ensures)
           (same-tail .if1 .left) (c .wrapping-add-u32 .ensures),
       search needs,
     )
 
 returns-3 : tie.Need-returns-3 Inv-loop μ-loop
-returns-3 c = all-clean _ _ _ _ _ _ _ _ _ (c .before .loop .inv .0) (c .loop-test .left)
+returns-3 c = all-clean (c .before .loop .inv .0) (c .loop-test .left)
 
 pub sweep-bins-spec : {M : Type 1} → statement M
 sweep-bins-spec =

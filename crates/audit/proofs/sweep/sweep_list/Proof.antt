@@ -16,11 +16,11 @@ abbrev μ-loop : tie.MeasureT-loop
 μ-loop region marks₀ table bin first steps at₀ before₀ met₀ left₀ marks at before met left = left
 
 loop-holds : tie.Need-loop-holds Inv-loop μ-loop
-loop-holds c = (combing-begins _ _ _ _ _ _, refl)
+loop-holds c = (combing-begins, refl)
 
 returns : tie.Need-returns Inv-loop μ-loop
 returns c =
-    torn-long _ _ _ _ _ _ _ _ _ _ _ (c .before .before .loop .inv .0) _ (c .if1 .taken) (c .before .loop-test .taken)
+    torn-long (c .before .before .loop .inv .0) _ (c .if1 .taken) (c .before .loop-test .taken)
 
 -- behind the test of a member: the turn of the loop that tests it
 abbrev turn : tie.After-is-listed Inv-loop μ-loop → tie.In-loop Inv-loop μ-loop
@@ -37,7 +37,7 @@ module _ (next : tie.After-word Inv-loop μ-loop) where
 returns-2 : tie.Need-returns-2 Inv-loop μ-loop
 returns-2 c =
     let turn = turn (c .before) in
-    torn-here _ _ _ _ _ _ _ _ _ _ _ (turn .before .loop .inv .0) (turn .loop-test .taken) (omega arith)
+    torn-here (turn .before .loop .inv .0) (turn .loop-test .taken) (omega arith)
     (c .before .is-listed .ensures) _ (c .if2 .taken)
 
 fits : tie.Need-add-met Inv-loop μ-loop
@@ -47,13 +47,13 @@ loop-again : tie.Need-loop-again Inv-loop μ-loop
 loop-again c =
     let listed = listed c in
     let turn = turn (listed .before) in (
-      combing-goes _ _ _ _ _ _ _ _ _ _ _ (turn .before .loop .inv .0) (turn .loop-test .taken) (omega arith)
-          (listed .before .is-listed .ensures) (listed .if2 .left) _ (cleared c .flip .ensures) (c .word .ensures),
+      combing-goes (turn .before .loop .inv .0) (turn .loop-test .taken) (omega arith)
+          (listed .before .is-listed .ensures) (listed .if2 .left) (cleared c .flip .ensures) (c .word .ensures),
       search needs,
     )
 
 returns-3 : tie.Need-returns-3 Inv-loop μ-loop
-returns-3 c = whole-list _ _ _ _ _ _ _ _ _ _ _ (c .before .loop .inv .0) _ refl (c .loop-test .left)
+returns-3 c = whole-list (c .before .loop .inv .0) refl (c .loop-test .left)
 
 pub sweep-list-spec : {M : Type 1} → statement M
 sweep-list-spec =
