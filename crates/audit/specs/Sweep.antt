@@ -59,7 +59,7 @@ module _ (ws table heads tails : List ℕ) (steps : ℕ) where
   abbrev pub listAt : ℕ → List ℕ
   listAt i = membersFrom steps ws (getD heads i 0)
 
-  -- the lists of the bins is, one after the other
+  -- the lists of the bins in `is`, one after the other
   abbrev pub allWhole : List ℕ → List ℕ → Bool
   allWhole ms [] = true
   allWhole ms (i ∷ is) =

@@ -113,7 +113,7 @@ pub fn walk(region: &[u32], bytes: u32, donor: Chunk, top: Chunk, marks: &mut [u
         if end == bytes {
             return Survey::Surveyed(tally);
         }
-        // the chunk goes on, so that it ends at the link; to wait for the link alone makes the walk faster
+        // the chunk ends at the link here, so that `end` is `next`: the next turn need not wait for the tests that made `end`
         before = at;
         at = next;
     }

@@ -1,4 +1,4 @@
--- What a request for room leaves behind, as the code makes it: these definitions mirror the code.
+-- What a request for room leaves behind, as the code makes it: these definitions mirror the code, the record being its callers' part.
 -- That on a heap that passes it is what the rules say is proved (`ServeMeaning`).
 use mathlib.Core.List.{List}
 use Prim.Native.Nat.{ℕ, _+_, _-_, _%_, _^_}

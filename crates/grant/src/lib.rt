@@ -1,4 +1,5 @@
-// Granting a block: how many bytes it needs, from where they come, the cut that makes it, and the record afterwards. The check and the refusals come before.
+// Granting a block: how many bytes it needs, from where they come, and the cut that makes it. The check and the refusals come before.
+// The record is not known here, but for its parts.
 pub mod choose;
 pub mod cut;
 pub mod need;

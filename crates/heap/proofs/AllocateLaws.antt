@@ -1,6 +1,6 @@
 -- The two allocates: what the code leaves is what the rule says, refused or not. Assumes nothing.
 use mathlib.Core.Path.{_≡_, refl, ap, _∙_}
-use mathlib.Core.Bool.{Bool, true, false, cond}
+use mathlib.Core.Bool.{Bool, true, false}
 use mathlib.Core.List.{List}
 use Prim.Native.Nat.{ℕ, _*_, _≤_, _<_}
 use native.Mathlib.Nat.{mul-le-mul}
@@ -12,14 +12,14 @@ use Rattle.record.specs.declared.answers.Refusal.the-variants.{HeapFails, Block
 use Rattle.record.specs.declared.answers.Reply.{Reply}
 use Rattle.record.specs.declared.heap.Heap.{Heap}
 use Rattle.record.specs.Heap.{tableOf}
-use Rattle.rules.specs.Allocate.{asFound, cleared, allocateWith, allocate, allocateCleared}
+use Rattle.rules.specs.Allocate.{allocateWith}
 use Rattle.rules.specs.Check.{passes}
 use Rattle.rules.specs.Serve.{permitted}
 use Rattle.rules.specs.Statements.{Meets, replied}
 use Rattle.grant.specs.Need.{needM}
 use Rattle.grant.proofs.NeedLaws.{permitted-need}
 use Rattle.replies.specs.Replies.{refusing}
-use Rattle.heap.specs.Grants.{grantBlockM}
+use Rattle.heap.specs.Grants.{filling, grantBlockM}
 use Rattle.heap.proofs.GrantLaws.{grant-block-is}
 
 permitted-few : (z : ℕ) → permitted z ≡ true → z ≤ 65488
@@ -34,39 +34,15 @@ product-fits count size p q =
     let l : count * size ≤ 4294967295 * 4294967295 = mul-le-mul {n₂ = 4294967295} {m₂ = 4294967295} (omega arith) (omega arith) in
     record { fits = omega arith }
 
--- of both at once, by what the block is filled with
-module _ (ws : List ℕ) (h : Heap) (clears : Bool) (z : ℕ) where
-  grants-as : passes ws h ≡ true → permitted z ≡ true → (n : ℕ) → n ≡ needM z → (r : Reply) (words : List ℕ) → replied r words ≡ grantBlockM ws (tableOf h) h n clears
-      → Meets ws (allocateWith (cond clears cleared asFound) ws h z) r words
-  grants-as q k n e r words g =
-      g ∙ ap (λ (m : ℕ). grantBlockM ws (tableOf h) h m clears) (e ∙ permitted-need z k) ∙ grant-block-is ws h q z k clears
-
-module _ (ws : List ℕ) (h : Heap) (z : ℕ) where
-  pub allocate-fails : passes ws h ≡ false → Meets ws (allocate ws h z) (refusing h HeapFails) ws
-  unfolding allocate
+module _ (ws : List ℕ) (h : Heap) (z : ℕ) (clears : Bool) where
+  pub allocate-fails : passes ws h ≡ false → Meets ws (allocateWith (filling clears) ws h z) (refusing h HeapFails) ws
   allocate-fails q = rw q refl
 
   module _ (q : passes ws h ≡ true) where
-    pub allocate-refuses : permitted z ≡ false → Meets ws (allocate ws h z) (refusing h BlockSize) ws
-    unfolding allocate
+    pub allocate-refuses : permitted z ≡ false → Meets ws (allocateWith (filling clears) ws h z) (refusing h BlockSize) ws
     allocate-refuses k = rw (q, k) refl
 
-    pub allocate-grants : permitted z ≡ true → (n : ℕ) → n ≡ needM z → (r : Reply) (words : List ℕ) → replied r words ≡ grantBlockM ws (tableOf h) h n false
-        → Meets ws (allocate ws h z) r words
-    unfolding allocate
-    allocate-grants = grants-as ws h false z q
-
-module _ (ws : List ℕ) (h : Heap) (count size : ℕ) where
-  pub cleared-fails : passes ws h ≡ false → Meets ws (allocateCleared ws h count size) (refusing h HeapFails) ws
-  unfolding allocateCleared
-  cleared-fails q = rw q refl
-
-  module _ (q : passes ws h ≡ true) where
-    pub cleared-refuses : permitted (count * size) ≡ false → Meets ws (allocateCleared ws h count size) (refusing h BlockSize) ws
-    unfolding allocateCleared
-    cleared-refuses k = rw (q, k) refl
-
-    pub cleared-grants : permitted (count * size) ≡ true → (n : ℕ) → n ≡ needM (count * size) → (r : Reply) (words : List ℕ)
-        → replied r words ≡ grantBlockM ws (tableOf h) h n true → Meets ws (allocateCleared ws h count size) r words
-    unfolding allocateCleared
-    cleared-grants = grants-as ws h true (count * size) q
+    pub allocate-grants : permitted z ≡ true → (n : ℕ) → n ≡ needM z → (r : Reply) (words : List ℕ) → replied r words ≡ grantBlockM ws (tableOf h) h n clears
+        → Meets ws (allocateWith (filling clears) ws h z) r words
+    allocate-grants k n e r words g =
+        g ∙ ap (λ (m : ℕ). grantBlockM ws (tableOf h) h m clears) (e ∙ permitted-need z k) ∙ grant-block-is ws h q z k clears

@@ -17,7 +17,7 @@ use Rattle.region.specs.declared.Block.{Block}
 use Rattle.region.specs.Places.{blockAt}
 use Rattle.region.specs.Words.{Store, written}
 use Rattle.region.proofs.WordsLaws.{written-append}
-use Rattle.rules.specs.Allocate.{sourceOf, grant, asFound, cleared, allocateWith}
+use Rattle.rules.specs.Allocate.{sourceOf, grant, cleared, allocateWith}
 use Rattle.rules.specs.Check.{Passes, passes}
 use Rattle.rules.specs.Cut.{Grant}
 use Rattle.rules.specs.Draft.{asRead, alsoWrites}
@@ -35,7 +35,7 @@ use Rattle.grant.proofs.ChooseMeaning.{choose-is}
 use Rattle.grant.proofs.ServeMeaning.{handed, serve-is, grant-housed}
 use Rattle.grant.proofs.GrantedChunk.{granted-lies}
 use Rattle.replies.specs.Replies.{reply, refusing, changeM}
-use Rattle.heap.specs.Grants.{filledM, grantedM, grantBlockM}
+use Rattle.heap.specs.Grants.{filling, filledM, grantedM, grantBlockM}
 use Rattle.replies.proofs.ChangeLaws.{change-kept, change-ruled}
 
 -- the code's steps, over plain variables
@@ -46,12 +46,12 @@ module _ (ws table : List ℕ) (h : Heap) (n : ℕ) (clears : Bool) (source : So
   grants-none q r er = rw (er, sym e, sym et, q)
 
   pub grants-some : t ≡ false → (l : Leaves) → l ≡ servedM ws table h source n
-      → (block : Block) → block .0 ≡ blockAt (l .chunk .0) → (end : ℕ) → end ≡ (l .chunk .0 + l .size) % 2 ^ 32
-      → (filled : List ℕ) → filled ≡ filledM (l .words) clears (block .0) end → (change : ℤ) → change ≡ changeM 0 (l .size)
+      → (filled : List ℕ) → filled ≡ filledM (l .words) clears (l .chunk .0) (l .size)
+      → (block : Block) → block .0 ≡ blockAt (l .chunk .0) → (change : ℤ) → change ≡ changeM 0 (l .size)
       → replied (reply (l .heap) (Granted block (toZ w32 (ofZ w32 change)))) filled ≡ grantBlockM ws table h n clears
   unfolding grantBlockM grantedM
-  grants-some q l el block eb end ee filled ef change ec =
-      rw (sym e, sym et, q, sym el, ec, change-kept 0 (l .size), ef, eb, ee)
+  grants-some q l el filled ef block eb change ec =
+      rw (sym e, sym et, q, sym el, ec, change-kept 0 (l .size), ef, eb)
 
 -- the rule's grant, which is a chunk of a heap that passes
 module _ (ws : List ℕ) (h : Heap) (q : passes ws h ≡ true) (z : ℕ) (k : permitted z ≡ true) where
@@ -66,38 +66,40 @@ module _ (ws : List ℕ) (h : Heap) (q : passes ws h ≡ true) (z : ℕ) (k : pe
 
   module _ (some : nowhere (sourceOf n (asRead ws h)) ≡ false) where
     -- zeros, or nothing
-    filled-is : (clears : Bool) → filledM (written ws (granted .draft .stores)) clears (blockOf (granted .granted)) (blockEnd (granted .granted))
-        ≡ written ws (granted .draft .stores ++ cond clears cleared asFound (granted .granted))
+    filled-is : (clears : Bool) → filledM (written ws (granted .draft .stores)) clears (granted .granted .place) (granted .granted .size)
+        ≡ written ws (granted .draft .stores ++ filling clears (granted .granted))
     unfolding filledM
     filled-is true =
         let l = granted-lies ws h well n (need-large z) (need-eight z) some in
-        clear-is (written ws (granted .draft .stores)) (granted .granted) (l .place) (l .size) (l .least) (l .fits)
-        ∙ sym (written-append (granted .draft .stores) (cleared (granted .granted)) ws)
+        let b : blockAt (granted .granted .place) ≡ blockOf (granted .granted) = omega arith in
+        let e : (granted .granted .place + granted .granted .size) % 2 ^ 32 ≡ blockEnd (granted .granted) = omega arith in
+        rw (b, e)
+        (clear-is (written ws (granted .draft .stores)) (granted .granted) (l .place) (l .size) (l .least) (l .fits)
+        ∙ sym (written-append (granted .draft .stores) (cleared (granted .granted)) ws))
     filled-is false = ap (written ws) (sym (append-nil (granted .draft .stores)))
 
     code-is : (clears : Bool) → grantedM clears (handed ws granted)
-        ≡ leftBy ws (made (grants 0 (granted .granted)) (alsoWrites (cond clears cleared asFound (granted .granted)) (granted .draft)))
+        ≡ leftBy ws (made (grants 0 (granted .granted)) (alsoWrites (filling clears (granted .granted)) (granted .draft)))
     unfolding grantedM
     code-is clears =
         let l = granted-lies ws h well n (need-large z) (need-eight z) some in
         let b : blockAt (granted .granted .place) ≡ blockOf (granted .granted) = omega arith in
-        let e : (granted .granted .place + granted .granted .size) % 2 ^ 32 ≡ blockEnd (granted .granted) = omega arith in
-        rw (b, e, change-ruled 0 (granted .granted .size) (omega arith) (omega arith), filled-is clears)
+        rw (b, change-ruled 0 (granted .granted .size) (omega arith) (omega arith), filled-is clears)
 
     ruled-is : (fill : Entry → List Store) → allocateWith fill ws h z ≡ made (grants 0 (granted .granted)) (alsoWrites (fill (granted .granted)) (granted .draft))
     ruled-is fill = rw (q, k, some, grant-housed ws h well n (need-large z) (need-eight z) _ refl some)
 
     serves : (clears : Bool) → grantBlockM ws (tableOf h) h n clears
-        ≡ leftBy ws (made (grants 0 (granted .granted)) (alsoWrites (cond clears cleared asFound (granted .granted)) (granted .draft)))
+        ≡ leftBy ws (made (grants 0 (granted .granted)) (alsoWrites (filling clears (granted .granted)) (granted .draft)))
     unfolding grantBlockM
     serves clears =
         rw (choose-is ws h well n, some, serve-is ws h well n (need-large z) (need-eight z) (sourceOf n (asRead ws h)) refl some) (code-is clears)
 
-  pub grant-block-is : (clears : Bool) → grantBlockM ws (tableOf h) h n clears ≡ leftBy ws (allocateWith (cond clears cleared asFound) ws h z)
+  pub grant-block-is : (clears : Bool) → grantBlockM ws (tableOf h) h n clears ≡ leftBy ws (allocateWith (filling clears) ws h z)
   unfolding grantBlockM
   grant-block-is clears = by (nowhere (sourceOf n (asRead ws h))) refl
     where
       by : (t : Bool) → nowhere (sourceOf n (asRead ws h)) ≡ t
-          → grantBlockM ws (tableOf h) h n clears ≡ leftBy ws (allocateWith (cond clears cleared asFound) ws h z)
+          → grantBlockM ws (tableOf h) h n clears ≡ leftBy ws (allocateWith (filling clears) ws h z)
       by true e = rw (choose-is ws h well n, e, q, k)
-      by false e = serves e clears ∙ sym (ap (leftBy ws) (ruled-is e (cond clears cleared asFound)))
+      by false e = serves e clears ∙ sym (ap (leftBy ws) (ruled-is e (filling clears)))

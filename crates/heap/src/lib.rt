@@ -1,7 +1,7 @@
 // The public calls: each takes the region and the record, and hands the record back beside its answer.
 // Each asks the check first; setup needs none. How chunks are found, joined and written is in the layers below.
 ghost use Rattle.rules.specs.Statements.{Allocates, AllocatesCleared, AsksBin, AsksChunk, Checks, Frees, Reallocates, SetsMerge, SetsUp};
-use crate::grants::grant_block;
+use crate::grants::allocate_with;
 use audit::passes;
 use audit::verdict;
 use grant::need::is_permitted;
@@ -102,33 +102,15 @@ pub fn ask_bin(region: &mut [u32], heap: Heap, question: u32, bin: u32) -> Reply
 pub fn allocate(region: &mut [u32], heap: Heap, z: u32) -> Reply
     ensures { λ r. ⌜ Allocates (now (region .entry)) heap z r (now (region .exit)) ⌝ }
 {
-    if !passes(region, heap) {
-        return refused(heap, Refusal::HeapFails);
-    }
-    if !is_permitted(z as u64) {
-        return refused(heap, Refusal::BlockSize);
-    }
-    let bins = heap.bins as usize;
-    let sizes = heap.sizes;
-    let need = need_of(z);
-    grant_block(region, &sizes[..bins], heap, need, false)
+    allocate_with(region, heap, z as u64, false)
 }
 
 // The product is that of two numbers, which 64 bits always hold.
 pub fn allocate_cleared(region: &mut [u32], heap: Heap, count: u32, size: u32) -> Reply
     ensures { λ r. ⌜ AllocatesCleared (now (region .entry)) heap count size r (now (region .exit)) ⌝ }
 {
-    if !passes(region, heap) {
-        return refused(heap, Refusal::HeapFails);
-    }
     let product = count as u64 * size as u64;
-    if !is_permitted(product) {
-        return refused(heap, Refusal::BlockSize);
-    }
-    let bins = heap.bins as usize;
-    let sizes = heap.sizes;
-    let need = need_of(product as u32);
-    grant_block(region, &sizes[..bins], heap, need, true)
+    allocate_with(region, heap, product, true)
 }
 
 pub fn free(region: &mut [u32], heap: Heap, block: Block) -> Reply
