@@ -6,9 +6,6 @@
 
 enum { WORDS = 64 };
 
-/* Questions of a chunk. */
-enum { BIN = 1, NEXT = 4, SIZE = 8, TYPE = 9 };
-
 typedef struct {
     uint32_t region[WORDS];
     uint32_t record[KZ_RECORD_WORDS];
@@ -37,16 +34,16 @@ static void print_kind(Station *s, uint32_t chunk)
 {
     if (chunk == 0)
         puts("start");
-    else if (ask(s, NEXT, chunk) == 0)
+    else if (ask(s, KZ_ASK_NEXT, chunk) == 0)
         puts("end");
-    else if (ask(s, TYPE, chunk) == 1)
+    else if (ask(s, KZ_ASK_TYPE, chunk) == 1)
         puts("inuse");
     else if (chunk == s->record[KZ_RECORD_DONOR])
         puts("donor");
     else if (chunk == s->record[KZ_RECORD_TOP])
         puts("top");
     else
-        printf("free %u\n", (unsigned)ask(s, BIN, chunk));
+        printf("free %u\n", (unsigned)ask(s, KZ_ASK_BIN, chunk));
 }
 
 static void print_heap(Station *s)
@@ -55,9 +52,9 @@ static void print_heap(Station *s)
     printf("%u %u %u\n", (unsigned)s->record[KZ_RECORD_BYTES], (unsigned)s->record[KZ_RECORD_BINS],
            (unsigned)s->record[KZ_RECORD_USED]);
     do {
-        printf("%u %u ", (unsigned)chunk, (unsigned)ask(s, SIZE, chunk));
+        printf("%u %u ", (unsigned)chunk, (unsigned)ask(s, KZ_ASK_SIZE, chunk));
         print_kind(s, chunk);
-        chunk = ask(s, NEXT, chunk);
+        chunk = ask(s, KZ_ASK_NEXT, chunk);
     } while (chunk != 0);
 }
 

@@ -37,6 +37,22 @@
 #define KZ_CHECK_USED 3
 #define KZ_CHECK_FREE 4
 
+/* Questions about a chunk by its place; KZ_ASK_CHUNK alone is about a block. The answer is the value; where there is none, 0. */
+#define KZ_ASK_BIN 1   /* of a chunk in a bin */
+#define KZ_ASK_BLOCK 2 /* of a chunk whose block is live */
+#define KZ_ASK_CHUNK 3 /* of a live block */
+#define KZ_ASK_NEXT 4
+#define KZ_ASK_NEXT_IN_BIN 5
+#define KZ_ASK_PREVIOUS 6
+#define KZ_ASK_PREVIOUS_IN_BIN 7
+#define KZ_ASK_SIZE 8
+#define KZ_ASK_TYPE 9 /* 0 free, 1 in use */
+
+/* Questions about a bin by its number. */
+#define KZ_ASK_COUNT 1
+#define KZ_ASK_FIRST 2
+#define KZ_ASK_LAST 3
+
 /* Refusals. Every function returns one, and writes it to word 0 of the answer. A refused call changes neither region nor record;
    a refused setup leaves a record of zeros. */
 #define KZ_ACCEPTED 0
@@ -54,21 +70,28 @@
 extern "C" {
 #endif
 
-/* Writes the record and does not read it. */
+/* A heap in 10 to 16,384 words: the sizes of its bins, the first of them 24; the bytes of its donor, from which small blocks come,
+   0 for none; whether chunks that are given back join their neighbours. Writes the record and does not read it. */
 uint32_t kz_setup(uint32_t *region, size_t words, const uint32_t *table, size_t bins, uint32_t donor, bool merge,
                   uint32_t *record, uint32_t *answer);
 
+/* A block of z bytes, 1 to 65,488: its offset in bytes from the region's first word. Its words are as they were found. */
 uint32_t kz_allocate(uint32_t *region, size_t words, uint32_t *record, uint32_t z, uint32_t *answer);
 
+/* A block of count times size bytes, every word of it 0. */
 uint32_t kz_allocate_cleared(uint32_t *region, size_t words, uint32_t *record, uint32_t count, uint32_t size,
                              uint32_t *answer);
 
+/* Gives a block back. Block 0 is accepted, and nothing is done. */
 uint32_t kz_free(uint32_t *region, size_t words, uint32_t *record, uint32_t block, uint32_t *answer);
 
+/* Gives a block z bytes. It may move, and begins with what it held. Block 0: as kz_allocate. */
 uint32_t kz_reallocate(uint32_t *region, size_t words, uint32_t *record, uint32_t block, uint32_t z, uint32_t *answer);
 
+/* Whether chunks that are given back join their neighbours from now on. */
 uint32_t kz_set_merge(uint32_t *region, size_t words, uint32_t *record, bool on, uint32_t *answer);
 
+/* Looks at the whole heap, and counts. Every other call but setup looks at it first, too. */
 uint32_t kz_check(uint32_t *region, size_t words, uint32_t *record, uint32_t *answer);
 
 uint32_t kz_ask_chunk(uint32_t *region, size_t words, uint32_t *record, uint32_t question, uint32_t place,
