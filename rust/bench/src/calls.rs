@@ -213,6 +213,21 @@ fn measure(kind: Kind, live: usize) -> Row {
     Row { kind, live, ours: steps[0], walk: parts.walk, rest: parts.rest, peers }
 }
 
+/// Steps of allocate + free with 20 strips, and nothing measured: for a profiler that counts instructions. A name that is
+/// not there plays nothing.
+pub fn play(who: &str, steps: usize) {
+    let load = load(LIVE[0], steps);
+    match who {
+        "kruzhvela" => Station::new(Kruzhvela::new(16_384, &BINS, 0, true), &load).run(Kind::AllocateFree, &load),
+        "glibc" => Station::new(Glibc, &load).run(Kind::AllocateFree, &load),
+        #[cfg(newlib)]
+        "newlib" => Station::new(NewlibFull, &load).run(Kind::AllocateFree, &load),
+        #[cfg(newlib)]
+        "nano" => Station::new(NewlibNano, &load).run(Kind::AllocateFree, &load),
+        _ => 0,
+    };
+}
+
 pub fn rows() -> Vec<Row> {
     KINDS.iter().flat_map(|&(kind, _)| LIVE.iter().map(move |&live| measure(kind, live))).collect()
 }

@@ -1,4 +1,5 @@
 //! The proved heap's times, as ratios to peers measured in the same run: prints the tables and writes docs/BENCHMARKS.md.
+//! `bench steps WHO N` plays N steps instead and prints nothing: docs/BENCHMARKS.md says what they are counted for.
 
 mod calls;
 mod checks;
@@ -7,13 +8,20 @@ mod loads;
 mod peers;
 mod report;
 
-use std::fs;
 use std::path::Path;
+use std::{env, fs};
 
 /// Where what is written by hand begins: it is kept.
 const BY_HAND: &str = "## What the figures say";
 
 fn main() -> std::io::Result<()> {
+    let words: Vec<String> = env::args().skip(1).collect();
+    if let [word, who, steps] = &words[..] {
+        if word == "steps" {
+            calls::play(who, steps.parse().unwrap_or(0));
+            return Ok(());
+        }
+    }
     let text = report::whole(&checks::rows(), &calls::rows());
     print!("{text}");
     let path = Path::new(env!("CARGO_MANIFEST_DIR")).join("../../docs/BENCHMARKS.md");
