@@ -5,17 +5,12 @@ use mathlib.Core.List.{List, [], _∷_, List·Memᴰ·head, List·Memᴰ·tail, 
 use Prim.Native.Nat.{ℕ, suc, _≤_, _<_}
 use native.Mathlib.Omega.{arith}
 use Rattle.lists.specs.Lists.{Mem, headOr, lastOr, keep, Distinct}
+use Rattle.lists.proofs.ListsLaws.{each-cons}
 use Rattle.region.specs.Words.{word, forward}
 use Rattle.rules.specs.Shape.{Entry, flagsAt, shape}
 use Rattle.rules.specs.Kinds.{outside}
 use Rattle.rules.specs.Ask.{placesOf}
 use Rattle.rules.proofs.ShapeLaws.{Up, lastEntry, upEntry, shape-is, chain-by}
-
--- what holds of the first and of all others holds of each
-pub each-cons : {A : Type 0} {P : A → Type 0} {x : A} {xs : List A} → P x → ((y : A) → Mem y xs → P y)
-    → (y : A) → Mem y (x ∷ xs) → P y
-each-cons here rest y (List·Memᴰ·head e) = rw e here
-each-cons here rest y (List·Memᴰ·tail m) = rest y m
 
 -- places go up, the first of them from c on
 abbrev pub Rising : ℕ → List Entry → Type 0

@@ -9,7 +9,7 @@ use native.Mathlib.Omega.{arith}
 use lib.ListN.{length, drop}
 use borrow.Author.Tests.{eqb-true}
 use Rattle.lists.specs.Lists.{Mem, headOr, lastOr, butLast, any}
-use Rattle.lists.proofs.ListsLaws.{number-is, for-some}
+use Rattle.lists.proofs.ListsLaws.{number-is, each-cons, for-some}
 use Rattle.lists.proofs.SplitLaws.{begins-with, ends-with, in-split, first-splits}
 use Rattle.record.specs.declared.heap.Heap.{Heap}
 use Rattle.record.specs.declared.kinds.Kind.the-variants.{InUse, Donor, Top}
@@ -19,7 +19,7 @@ use Rattle.rules.specs.Kinds.{ordinaryKind, freeKind, kindOf, ordinary, 
 use Rattle.rules.specs.Check.{Backed, Unbinned, Passes}
 use Rattle.rules.specs.Draft.{Spot, spot}
 use Rattle.rules.proofs.ShapeLaws.{Up, lastEntry, upEntry, shape-is, chain-by}
-use Rattle.rules.proofs.ChainLaws.{each-cons, same-place, shape-chain}
+use Rattle.rules.proofs.ChainLaws.{same-place, shape-chain}
 use Rattle.rules.proofs.KindsLaws.{Being, being, kind-top, kind-donor, ordinary-kind, live-kind, free-kinds, being-as}
 use Rattle.rules.proofs.TiledLaws.{Tiled, tiled-cut, tiled-up, tiled-in, tiled-apart, tiled-eights, tiled-empty, tiled-one, tiled-few, tiled-some}
 
