@@ -21,7 +21,7 @@ use Rattle.rules.specs.Check.{Passes}
 use Rattle.rules.specs.Draft.{meet}
 use Rattle.rules.proofs.ShapeLaws.{Leads}
 use Rattle.bins.specs.Books.{Books, books, leaveM, putM}
-use Rattle.bins.proofs.RunsLaws.{Node, NoLink, meet-off, run-keeps, run-whole, whole-run}
+use Rattle.bins.proofs.RunsLaws.{Node, NoLinkOf, NoLink, meet-off, linked-keeps}
 use Rattle.bins.proofs.BooksLaws.{Holds, Far, left, putAt, putStores, leave-is, leave-holds, leave-others, put-off, put-is, put-holds, put-others, put-head-is, put-tail-is}
 use Rattle.bins.proofs.HeapBooks.{heap-holds, members-far, lists-apart, linked-leads}
 
@@ -39,6 +39,10 @@ pub record OnWay (b : Books) (lists : ℕ → List ℕ) (n : ℕ) : Type 0 where
 abbrev pub relisted : ℕ → List ℕ → (ℕ → List ℕ) → ℕ → List ℕ
 relisted i cs lists j = cond (eqb j i) cs (lists j)
 
+-- the lists without the chunk at c, which was in bin i
+abbrev pub unlisted : ℕ → ℕ → (ℕ → List ℕ) → ℕ → List ℕ
+unlisted i c lists = relisted i (upTo (eqb c) (lists i) ++ past (eqb c) (lists i)) lists
+
 module _ (i : ℕ) (cs : List ℕ) (lists : ℕ → List ℕ) where
   pub relisted-same : relisted i cs lists i ≡ cs
   relisted-same = rw (eq-eqb i i refl)
@@ -53,34 +57,33 @@ module _ (i : ℕ) (cs : List ℕ) (lists : ℕ → List ℕ) where
       go (yes q) = inl (q, rw (eq-eqb j i q) at m)
       go (no ne) = inr (ne, rw (ne-eqb j i ne) at m)
 
--- words that a step leaves alone: none but the links of members, and the links and the bin word of the chunk that is put
+-- words that leaving leaves alone: all but links of members
 pub leave-off : (c : ℕ) (cs : List ℕ) (x : ℕ) → NoLink x cs → Off x (meet (upTo (eqb c) cs) (past (eqb c) cs))
 leave-off c cs x f =
     meet-off x (upTo (eqb c) cs) (past (eqb c) cs) (λ d m. f d (before-from (eqb c) cs m)) (λ d m. f d (after-from (eqb c) cs m))
-
-module _ (b : Books) (i c d k : ℕ) where
-  pub put-word : (xs ys : List ℕ) → NoLink (d / 4 + k) (xs ++ ys)
-      → (d / 4 + k ≢ c / 4 + nextInBin) × (d / 4 + k ≢ c / 4 + previousInBin) × (d / 4 + k ≢ c / 4 + bin)
-      → word (putAt b i xs c ys .words) d k ≡ word (b .words) d k
-  put-word xs ys f h =
-      off (putStores i xs c ys) (b .words) d k
-      (put-off b i xs c ys (d / 4 + k) (λ x m. f x (Memᴰ·append-left ys m)) (λ y m. f y (Memᴰ·append-right xs m)) h)
 
 -- words of a chunk that are no links of members, if members are the chunk itself or far from it
 pub no-link : (d k : ℕ) (cs : List ℕ) → k < 6 → k ≢ nextInBin → k ≢ previousInBin → d % 8 ≡ 0
     → ((c : ℕ) → Mem c cs → (c % 8 ≡ 0) × (d ≢ c → Far d c)) → NoLink (d / 4 + k) cs
 no-link d k cs s n3 n4 z f = λ c m. at c (f c m .0) (f c m .1) (ℕ-discrete d c)
   where
-    at : (c : ℕ) → c % 8 ≡ 0 → (d ≢ c → Far d c) → Dec (d ≡ c) → (d / 4 + k ≢ c / 4 + nextInBin) × (d / 4 + k ≢ c / 4 + previousInBin)
+    at : (c : ℕ) → c % 8 ≡ 0 → (d ≢ c → Far d c) → Dec (d ≡ c) → NoLinkOf (d / 4 + k) c
     at c e g (yes q) = omega arith
     at c e g (no ne) = let r = g ne in omega arith
+
+-- of a chunk far from all members
+pub far-no-link : (d k : ℕ) (cs : List ℕ) → k < 6 → d % 8 ≡ 0 → ((c : ℕ) → Mem c cs → (c % 8 ≡ 0) × Far d c) → NoLink (d / 4 + k) cs
+far-no-link d k cs s z f = λ c m. at c (f c m .0) (f c m .1)
+  where
+    at : (c : ℕ) → c % 8 ≡ 0 → Far d c → NoLinkOf (d / 4 + k) c
+    at c e g = omega arith
 
 -- of the first three words of a header, if members below it end below it
 pub header-no-link : (d k : ℕ) (cs : List ℕ) → k < 3 → d % 8 ≡ 0
     → ((c : ℕ) → Mem c cs → (c % 8 ≡ 0) × (c < d → c + 24 ≤ d)) → NoLink (d / 4 + k) cs
 header-no-link d k cs s z f = λ c m. at c (f c m .0) (f c m .1) (decLt c d)
   where
-    at : (c : ℕ) → c % 8 ≡ 0 → (c < d → c + 24 ≤ d) → Dec (c < d) → (d / 4 + k ≢ c / 4 + nextInBin) × (d / 4 + k ≢ c / 4 + previousInBin)
+    at : (c : ℕ) → c % 8 ≡ 0 → (c < d → c + 24 ≤ d) → Dec (c < d) → NoLinkOf (d / 4 + k) c
     at c e g (yes q) = let r = g q in omega arith
     at c e g (no ne) = omega arith
 
@@ -121,9 +124,7 @@ module _ (b : Books) (lists : ℕ → List ℕ) (n : ℕ) (w : OnWay b lists n) 
           record {
             head = h .head;
             tail = h .tail;
-            links =
-                run-whole _ 0 (lists j)
-                (run-keeps ss (b .words) 0 0 (lists j) (λ d m. let o = f j d l m in (o .0, o .1)) (whole-run (b .words) 0 (lists j) (h .links)));
+            links = linked-keeps ss (b .words) (lists j) (λ d m. let o = f j d l m in (o .0, o .1)) (h .links);
             nodes = rw length-written (h .nodes);
             once = h .once;
           }
@@ -247,7 +248,8 @@ module _ (b : Books) (lists : ℕ → List ℕ) (n : ℕ) (w : OnWay b lists n) 
     put-binned j d lj (inl m) =
         let g = w .holds j lj .nodes d m in
         let f = free j d lj m in
-        put-word b i c d bin xs ys (rw s at (way-no-link i j d bin l lj m (omega arith) (omega arith) (omega arith))) (omega arith)
+        off (putStores i xs c ys) (b .words) d bin
+        (put-off b i xs c ys (d / 4 + bin) (rw s at (way-no-link i j d bin l lj m (omega arith) (omega arith) (omega arith))) (omega arith))
         ∙ w .binned j d lj m
     put-binned j d lj (inr q) =
         let ss : List Store = meet xs (c ∷ []) ++ meet (c ∷ []) ys in
@@ -272,16 +274,16 @@ module _ (b : Books) (lists : ℕ → List ℕ) (n : ℕ) (w : OnWay b lists n) 
   module _ (i c : ℕ) (l : i < n) (m : Mem c (lists i)) where
     pub way-leaves : let xs = upTo (eqb c) (lists i) in
         let ys = past (eqb c) (lists i) in
-        (leaveM b c ≡ left b i xs ys) × OnWay (left b i xs ys) (relisted i (xs ++ ys) lists) n
+        (leaveM b c ≡ left b i xs ys) × OnWay (left b i xs ys) (unlisted i c lists) n
     way-leaves = way-leaves-between i c l (upTo (eqb c) (lists i)) (past (eqb c) (lists i)) (split-at-member m)
 
-    pub way-left-far : (j d : ℕ) → j < n → Mem d (relisted i (upTo (eqb c) (lists i) ++ past (eqb c) (lists i)) lists j) → Far c d
+    pub way-left-far : (j d : ℕ) → j < n → Mem d (unlisted i c lists j) → Far c d
     way-left-far = left-far i c l (upTo (eqb c) (lists i)) (past (eqb c) (lists i)) (split-at-member m)
 
-    pub way-stays : (j : ℕ) {d : ℕ} → Mem d (relisted i (upTo (eqb c) (lists i) ++ past (eqb c) (lists i)) lists j) → Mem d (lists j)
+    pub way-stays : (j : ℕ) {d : ℕ} → Mem d (unlisted i c lists j) → Mem d (lists j)
     way-stays = stays i c l (upTo (eqb c) (lists i)) (past (eqb c) (lists i)) (split-at-member m)
 
-    pub way-remains : (j : ℕ) {d : ℕ} → d ≢ c → Mem d (lists j) → Mem d (relisted i (upTo (eqb c) (lists i) ++ past (eqb c) (lists i)) lists j)
+    pub way-remains : (j : ℕ) {d : ℕ} → d ≢ c → Mem d (lists j) → Mem d (unlisted i c lists j)
     way-remains = remains i c l (upTo (eqb c) (lists i)) (past (eqb c) (lists i)) (split-at-member m)
 
   -- at its head, at its tail

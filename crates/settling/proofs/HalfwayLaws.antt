@@ -24,10 +24,9 @@ use Rattle.rules.specs.Check.{Unused, Unbinned, BelongsTo, Passes}
 use Rattle.rules.specs.Draft.{Draft, asRead, headers, meet, leave, leaveBin, relink}
 use Rattle.rules.proofs.KindsLaws.{kind-ordinary, ordinary-free}
 use Rattle.rules.proofs.SpotLaws.{flags-free, is-top, is-donor}
-use Rattle.bins.proofs.RunsLaws.{NoLink}
 use Rattle.bins.proofs.BooksLaws.{Far}
 use Rattle.bins.proofs.HeapBooks.{list-none}
-use Rattle.bins.proofs.WayLaws.{OnWay, relisted, relisted-other, header-no-link, leave-off, way-begins, way-keeps, way-leaves, way-left-far, way-stays, way-remains}
+use Rattle.bins.proofs.WayLaws.{OnWay, relisted, relisted-other, far-no-link, header-no-link, leave-off, way-begins, way-keeps, way-leaves, way-left-far, way-stays, way-remains}
 use Rattle.settling.proofs.DraftLaws.{booksOf}
 use Rattle.settling.proofs.LayoutLaws.{Beside, Laid, Layout, laid-once, laid-beside, laid-below}
 use Rattle.settling.proofs.HeaderLaws.{Headed, headed-below, Spares, headed-keeps, linkStores, link-headed, link-off}
@@ -81,13 +80,6 @@ halfway-begins ws h p =
         (false≢true
         (sym o
         ∙ ap ordinaryKind (sym (kind-ordinary (h .bytes) (h .donor .0) (h .top .0) e (λ q. omega arith) (λ q. omega arith) (λ q. omega arith) t n))))
-
--- words of a chunk far from all members are no links of theirs
-pub far-no-link : (x k : ℕ) (cs : List ℕ) → k < 6 → x % 8 ≡ 0 → ((c : ℕ) → Mem c cs → (c % 8 ≡ 0) × Far x c) → NoLink (x / 4 + k) cs
-far-no-link x k cs s z f = λ c m. at c (f c m .0) (f c m .1)
-  where
-    at : (c : ℕ) → c % 8 ≡ 0 → Far x c → (x / 4 + k ≢ c / 4 + nextInBin) × (x / 4 + k ≢ c / 4 + previousInBin)
-    at c e g = omega arith
 
 -- stores that are to none of a chunk's links and bin word
 abbrev pub Passing : List Store → ℕ → Type 0
