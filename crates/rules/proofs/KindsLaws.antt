@@ -111,13 +111,16 @@ free-kinds P o d t Start f = absurd (false≢true f)
 free-kinds P o d t InUse f = absurd (false≢true f)
 free-kinds P o d t End f = absurd (false≢true f)
 
--- by the record's donor and top: a chunk of a kind, an ordinary chunk is free, and a free one has no live block
+-- by the record's donor and top: a chunk of a kind, an ordinary chunk is free and not in use, and a free one has no live block
 module _ (h : Heap) (e : Entry) where
   pub being-as : (k : Kind) → kindOf h e ≡ k → Being (h .bytes) (h .donor .0) (h .top .0) e k
   being-as k q = subst (Being (h .bytes) (h .donor .0) (h .top .0) e) q (being (h .bytes) (h .donor .0) (h .top .0) e)
 
   pub ordinary-free : ordinary h e ≡ true → e .flags ≤ 1 → e .flags ≡ 0
   ordinary-free o l = omega (arith, being-as Ordinary (ordinary-kind (kindOf h e) o) .2)
+
+  pub used-not-ordinary : e .flags ≡ 1 → ordinary h e ≡ true → ⊥
+  used-not-ordinary u o = let z = ordinary-free o (omega arith) in omega arith
 
   pub free-not-live : e .flags ≡ 0 → live h e ≡ false
   free-not-live f = go (kindOf h e) (being (h .bytes) (h .donor .0) (h .top .0) e)

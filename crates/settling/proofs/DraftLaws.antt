@@ -31,13 +31,13 @@ use Rattle.bins.proofs.RunsLaws.{Node}
 use Rattle.bins.proofs.BooksLaws.{Far, putStores}
 use Rattle.bins.proofs.WayLaws.{OnWay, way-begins, way-keeps, way-leaves, way-left-far, way-stays, way-remains, way-puts-head, way-puts-tail}
 use Rattle.settling.specs.Settling.{putBinnedM, putInBinM, alsoWritten, settleM, donorAfter, topAfter}
-use Rattle.settling.proofs.HeaderLaws.{linkStores}
+use Rattle.settling.proofs.LinkLaws.{linkStores}
 
 -- the words and the ends of a draft
 abbrev pub booksOf : List ℕ → Draft → Books
 booksOf ws d = books (written ws (d .stores)) (d .heap .heads) (d .heap .tails)
 
--- the header at y is not below that of the chunk at x, or well above it
+-- a header at y is not above the chunk at x, or stands clear above that one's header
 abbrev pub Clears : ℕ → ℕ → Type 0
 Clears x y = (y % 8 ≡ 0) × (x < y → x + 24 ≤ y)
 
@@ -65,7 +65,7 @@ pub record Follows (ws : List ℕ) (h : Heap) (d : Draft) : Type 0 where
   pub way : OnWay (booksOf ws d) (d .lists) (h .bins)
   pub from : (j c : ℕ) → j < h .bins → Mem c (d .lists j) → Mem c (binList ws h j)
   pub table : tableOf (d .heap) ≡ tableOf h
-  pub heap : d .heap ≡ with h (d .heap .heads) (d .heap .tails) (h .donor .0) (h .top .0) (h .merge) (h .used)
+  pub heap : d .heap ≡ withEnds h (d .heap .heads) (d .heap .tails)
   pub housed : d .homeless ≡ false
 
 pub begins : (ws : List ℕ) (h : Heap) → Passes ws h → Follows ws h (asRead ws h)
@@ -191,7 +191,7 @@ module _ (ws : List ℕ) (h : Heap) (d : Draft) (f : Follows ws h d) where
         rw (f .table, b .1, f .table) (put-into (b .0) l (ltb (b .0) (smallBins (tableOf h))))
 
     kept : (i : ℕ) (t : Bool) → let after = cond t (putBetween i [] c (d .lists i) d) (putBetween i (d .lists i) c [] d) in
-        (after .homeless ≡ false) × (after .heap ≡ with h (after .heap .heads) (after .heap .tails) (h .donor .0) (h .top .0) (h .merge) (h .used))
+        (after .homeless ≡ false) × (after .heap ≡ withEnds h (after .heap .heads) (after .heap .tails))
     unfolding putBetween
     kept i true =
         (f .housed, ap (λ (x : Heap). withEnds x (set (d .heap .heads) i c) (set (d .heap .tails) i (lastOr c (d .lists i)))) (f .heap))
@@ -200,7 +200,7 @@ module _ (ws : List ℕ) (h : Heap) (d : Draft) (f : Follows ws h d) where
 
     -- a bin takes it, and of the record only the bins' ends change
     put-keeps : let after = putInBin (entry c s u) d in
-        (after .homeless ≡ false) × (after .heap ≡ with h (after .heap .heads) (after .heap .tails) (h .donor .0) (h .top .0) (h .merge) (h .used))
+        (after .homeless ≡ false) × (after .heap ≡ withEnds h (after .heap .heads) (after .heap .tails))
     unfolding putInBin putInto
     put-keeps =
         let b = bin-from (tableOf h) (p .table .valid) s large in

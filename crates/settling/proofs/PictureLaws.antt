@@ -76,7 +76,7 @@ module _ (ws : List ℕ) (h : Heap) (p : Passes ws h) (es : List Entry) (d : Dra
       go (yes l) =
           rw (f .way .holds i l .head)
           (members-steps (h .bytes) words (d .lists i) (list-short i l) (way-leads (booksOf ws d) (d .lists) (h .bins) (f .way) i l))
-      go (no n) = rw (f .headsEnd i (omega arith), f .none i (omega arith)) (read-none words (h .bytes))
+      go (no n) = rw (f .ends .headsEnd i (omega arith), f .none i (omega arith)) (read-none words (h .bytes))
 
   top-stands : (e : Entry) × Mem e es × TopIs words (now h d) e
   top-stands =
@@ -108,13 +108,13 @@ module _ (ws : List ℕ) (h : Heap) (p : Passes ws h) (es : List Entry) (d : Dra
       let t = p .table in
       record {
         sizePlaces = t .sizePlaces;
-        headPlaces = f .headPlaces;
-        tailPlaces = f .tailPlaces;
+        headPlaces = f .ends .headPlaces;
+        tailPlaces = f .ends .tailPlaces;
         bins = t .bins;
         valid = t .valid;
         sizesEnd = t .sizesEnd;
-        headsEnd = f .headsEnd;
-        tailsEnd = f .tailsEnd;
+        headsEnd = f .ends .headsEnd;
+        tailsEnd = f .ends .tailsEnd;
       }
 
   listed-still : (i : ℕ) → i < h .bins → Listed words (now h d) es i (binList words (now h d) i)
@@ -197,10 +197,7 @@ uses-halfway : (ws : List ℕ) (h : Heap) (es : List Entry) (before after : ℕ)
 uses-halfway ws h es before after d f =
     record {
       heap = ap (λ (g : Heap). withUsed g (d .heap .used + after - before)) (f .heap);
-      headPlaces = f .headPlaces;
-      tailPlaces = f .tailPlaces;
-      headsEnd = f .headsEnd;
-      tailsEnd = f .tailsEnd;
+      ends = f .ends;
       way = f .way;
       none = f .none;
       members = f .members;
