@@ -82,6 +82,7 @@ module _ (b : Books) (i : ℕ) (xs : List ℕ) (c : ℕ) (ys : List ℕ) where
   around : Holds b i (xs ++ c ∷ ys) → Run (b .words) 0 xs c × Run (b .words) (lastOr 0 xs) (c ∷ ys) 0
   around h = run-cut (b .words) 0 0 xs (c ∷ ys) (whole-run (b .words) 0 (xs ++ c ∷ ys) (h .links))
 
+  -- the chunk at c leaves: what the code does, the bin's list then, and the other bins
   pub leave-is : Holds b i (xs ++ c ∷ ys) → word (b .words) c bin ≡ 8 * i → leaveM b c ≡ left b i xs ys
   unfolding leaveM
   leave-is h w =
@@ -162,6 +163,7 @@ module _ (b : Books) (i : ℕ) (xs : List ℕ) (c : ℕ) (ys : List ℕ) where
       (o .0, preceded-off x ys c (λ d m. f d (Memᴰ·append-right xs m))))
       (o .1 .1)
 
+  -- the chunk at c is put there: what the code does, the other bins, and the bin's list then
   pub put-is : Holds b i (xs ++ ys) → i < 32 → putM b i (lastOr 0 xs) c (headOr 0 ys) ≡ putAt b i xs c ys
   unfolding putM own
   put-is h few =

@@ -87,6 +87,7 @@ header-no-link d k cs s z f = λ c m. at c (f c m .0) (f c m .1) (decLt c d)
     at c e g (yes q) = let r = g q in omega arith
     at c e g (no ne) = omega arith
 
+-- a heap that passes, before the call
 pub way-begins : (ws : List ℕ) (h : Heap) → Passes ws h → OnWay (books ws (h .heads) (h .tails)) (binList ws h) (h .bins)
 way-begins ws h p =
     let t = p .table in
@@ -101,6 +102,7 @@ way-begins ws h p =
     }
 
 module _ (b : Books) (lists : ℕ → List ℕ) (n : ℕ) (w : OnWay b lists n) where
+  -- so the rules read these lists
   pub way-leads : (j : ℕ) → j < n → Leads (b .words) (lists j)
   way-leads j l = let h = w .holds j l in linked-leads (b .words) 0 (lists j) (h .links) (λ c m. h .nodes c m .some)
 

@@ -1,4 +1,5 @@
--- The readings follow links with no bound that shows: how the chain's reading goes on, and which list a bin's reading is. Assumes nothing.
+-- The number of steps that the two readings are given always suffices, so that it can be forgotten: how the chain's reading goes on
+-- from a chunk, and which list a bin's reading is. Assumes nothing.
 use mathlib.Core.Path.{_≡_, refl, sym, ap, _∙_}
 use mathlib.Core.Bool.{Bool, _&&_}
 use mathlib.Core.List.{List, [], _∷_}
@@ -113,7 +114,7 @@ abbrev pub Leads : List ℕ → List ℕ → Type 0
 Leads ws [] = Unit {0}
 Leads ws (c ∷ cs) = (0 < c) × (word ws c nextInBin ≡ headOr 0 cs) × Leads ws cs
 
--- a list along which the links lead is read, if the heap has at least as many bytes as the list has members
+-- a list along which the links lead is read, if there are at least as many steps as members
 pub members-steps : (k : ℕ) (ws cs : List ℕ) → length cs ≤ k → Leads ws cs → membersFrom k ws (headOr 0 cs) ≡ cs
 members-steps zero ws [] h l = refl
 members-steps zero ws (c ∷ cs) h l = absurd (omega arith)

@@ -8,7 +8,7 @@ use native.Mathlib.Omega.{arith}
 use lib.Dec.{eqb}
 use borrow.Author.Tests.{eq-eqb, ne-eqb, not-true, not-false}
 use Rattle.chain.specs.Chain.{endOf}
-use Rattle.chain.proofs.EndLaws.{endAt, hereAt, chain-here, chain-next, past-end}
+use Rattle.chain.proofs.EndLaws.{endAt, hereAt, chain-here, chain-next, end-above}
 use Rattle.lists.specs.Lists.{lastOr, any}
 use Rattle.record.specs.declared.heap.Heap.{Heap}
 use Rattle.record.specs.declared.kinds.Kind.the-variants.{Ordinary, Donor, Top}
@@ -39,7 +39,7 @@ module _ {ws : List ℕ} {bytes place : ℕ} where
     end-is = ee ∙ ap (endOf bytes c) en
 
     above : c + (endAt ws bytes c - c) ≡ endAt ws bytes c
-    above = let l = past-end ws bytes c (word ws c forward) (endAt ws bytes c) refl refl (o .inside) in omega arith
+    above = let l = end-above ws bytes c refl refl (o .inside) in omega arith
 
     module _ (q : c ≡ place) {w f : ℕ} (ew : w ≡ word ws c backward) (ef : f ≡ w % 8) where
       pub seeking-found : Found (record { before = at p; chunk = at c; end = e; flags = f }) ≡ soughtIn (isAt place) 0 (shape ws bytes)

@@ -35,6 +35,7 @@ Headed ws b [] n = Unit {0}
 Headed ws b (e ∷ es) n = Header ws b e (headOr n es) × Headed ws e es n
 
 module _ (ws : List ℕ) where
+  -- the headers of two parts of a list, and the other way
   pub headed-cut : (b : Entry) (xs ys : List Entry) (n : Entry) → Headed ws b (xs ++ ys) n
       → Headed ws b xs (headOr n ys) × Headed ws (lastOr b xs) ys n
   headed-cut b [] ys n h = (tt, h)
@@ -53,6 +54,7 @@ module _ (ws : List ℕ) where
   headed-below b (x ∷ []) n m q h = (record { back = h .0 .back; forth = h .0 .forth ∙ q; sized = h .0 .sized }, tt)
   headed-below b (x ∷ y ∷ ys) n m q h = (h .0, headed-below x (y ∷ ys) n m q (h .1))
 
+  -- what the check asks: backward links, the size words of free chunks, the last forward link
   pub headed-backed : (b : Entry) (es : List Entry) (n : Entry) → Headed ws b es n → Backed ws (b .place) es
   headed-backed b [] n h = tt
   headed-backed b (e ∷ es) n h = (h .0 .back, headed-backed e es n (h .1))
