@@ -1,6 +1,6 @@
 -- The rules' steps on a heap in the making, beside what the code makes of its books: a chunk leaves its bin, a chunk is linked in,
 -- a chunk is put into its bin. After each step the books are those of the draft. Assumes nothing.
-use mathlib.Core.Path.{_≡_, refl, ap}
+use mathlib.Core.Path.{_≡_, refl}
 use mathlib.Core.Logic.{_≢_}
 use mathlib.Core.Bool.{Bool, true, false, cond}
 use mathlib.Core.List.{List, [], _∷_, _++_, append-assoc}
@@ -9,13 +9,13 @@ use native.Mathlib.Decide.{decLt}
 use native.Mathlib.Nat.{add-zero}
 use native.Mathlib.Omega.{arith}
 use lib.Dec.{eqb, ltb}
-use lib.ListN.{length, getD, set, length-take}
+use lib.ListN.{length, getD, length-take}
 use Rattle.lists.specs.Lists.{Mem, headOr, lastOr, upTo, past}
 use Rattle.record.specs.declared.heap.Heap.{Heap}
 use Rattle.record.specs.declared.kinds.Kind.{Kind}
 use Rattle.record.specs.declared.kinds.Kind.the-variants.{Start, InUse, Ordinary, Donor, Top, End}
 use Rattle.record.specs.declared.table.Binned.the-variants.{Bin}
-use Rattle.record.specs.Heap.{tableOf, with, withEnds, withDonor, withTop}
+use Rattle.record.specs.Heap.{tableOf, with, withEnds}
 use Rattle.record.specs.Table.{smallBins, binOf}
 use Rattle.record.proofs.TableLaws.{bin-from}
 use Rattle.region.specs.Words.{Store, put, written, backward, forward, size, nextInBin, previousInBin, bin}
@@ -108,7 +108,7 @@ module _ (ws : List ℕ) (h : Heap) (d : Draft) (f : Follows ws h d) where
                 way = rw a (w .1);
                 from = λ j c lj k. f .from j c lj (way-stays (booksOf ws d) (d .lists) (h .bins) (f .way) i (e .place) l m j k);
                 table = f .table;
-                heap = ap (λ (x : Heap). withEnds x (set (d .heap .heads) i (headOr 0 (xs ++ ys))) (set (d .heap .tails) i (lastOr 0 (xs ++ ys)))) (f .heap);
+                heap = rw (f .heap);
                 housed = f .housed;
               };
           stays = λ j c lj k. way-stays (booksOf ws d) (d .lists) (h .bins) (f .way) i (e .place) l m j k;
@@ -194,9 +194,9 @@ module _ (ws : List ℕ) (h : Heap) (d : Draft) (f : Follows ws h d) where
         (after .homeless ≡ false) × (after .heap ≡ withEnds h (after .heap .heads) (after .heap .tails))
     unfolding putBetween
     kept i true =
-        (f .housed, ap (λ (x : Heap). withEnds x (set (d .heap .heads) i c) (set (d .heap .tails) i (lastOr c (d .lists i)))) (f .heap))
+        (f .housed, rw (f .heap))
     kept i false =
-        (f .housed, ap (λ (x : Heap). withEnds x (set (d .heap .heads) i (headOr 0 (d .lists i ++ c ∷ []))) (set (d .heap .tails) i (lastOr 0 (d .lists i ++ c ∷ [])))) (f .heap))
+        (f .housed, rw (f .heap))
 
     -- a bin takes it, and of the record only the bins' ends change
     put-keeps : let after = putInBin (entry c s u) d in
@@ -224,12 +224,12 @@ module _ (ws : List ℕ) (h : Heap) (d : Draft) (f : Follows ws h d) where
         record {
           is = cleared-is;
           housed = f .housed;
-          heap = ap (λ (x : Heap). withDonor x c) (f .heap);
+          heap = rw (f .heap);
         }
     settle-step Top =
         record {
           is = cleared-is;
           housed = f .housed;
-          heap = ap (λ (x : Heap). withTop x c) (f .heap);
+          heap = rw (f .heap);
         }
     settle-step End = put-settles

@@ -10,7 +10,7 @@ use lib.ListN.{length}
 use Rattle.lists.specs.Lists.{Mem, keep, total}
 use Rattle.lists.proofs.MembersLaws.{kept-same}
 use Rattle.record.specs.declared.heap.Heap.{Heap}
-use Rattle.record.specs.Heap.{withDonor, withTop, withUsed}
+use Rattle.record.specs.Heap.{withDonor, withTop}
 use Rattle.region.specs.Words.{written}
 use Rattle.region.proofs.WordsLaws.{length-written}
 use Rattle.rules.specs.Shape.{Entry, shape, members, binList}
@@ -194,7 +194,7 @@ used-replaced g h low olds news high same =
 uses-halfway : (ws : List ℕ) (h : Heap) (es : List Entry) (before after : ℕ) (d : Draft) → Halfway ws h es d → Halfway ws h es (nowUses before after d)
 uses-halfway ws h es before after d f =
     record {
-      heap = ap (λ (g : Heap). withUsed g (d .heap .used + after - before)) (f .heap);
+      heap = rw (f .heap);
       ends = f .ends;
       way = f .way;
       none = f .none;

@@ -7,14 +7,14 @@ use Prim.Native.Nat.{ℕ, _+_, _*_, _/_, _≤_, _<_}
 use native.Mathlib.Decide.{ℕ-discrete, decLt}
 use native.Mathlib.Omega.{arith}
 use lib.Dec.{ltb}
-use lib.ListN.{length, set, length-take}
+use lib.ListN.{length, length-take}
 use borrow.Author.Tests.{eq-eqb, ne-eqb}
 use Rattle.lists.specs.Lists.{Mem, headOr, lastOr}
 use Rattle.lists.proofs.MembersLaws.{member-with}
 use Rattle.record.specs.declared.heap.Heap.{Heap}
 use Rattle.record.specs.declared.kinds.Kind.the-variants.{Ordinary, Donor, Top}
 use Rattle.record.specs.declared.table.Binned.the-variants.{Bin}
-use Rattle.record.specs.Heap.{tableOf, with, withEnds}
+use Rattle.record.specs.Heap.{tableOf, with}
 use Rattle.record.specs.Table.{smallBins, binOf}
 use Rattle.record.proofs.TableLaws.{bin-from}
 use Rattle.region.specs.Words.{Store, written, bin}
@@ -26,7 +26,7 @@ use Rattle.rules.specs.Draft.{Draft, alsoWrites, withHeap, putBetween, putInto,
 use Rattle.rules.proofs.KindsLaws.{used-not-ordinary}
 use Rattle.bins.specs.Books.{books}
 use Rattle.bins.proofs.RunsLaws.{Node, NoLink}
-use Rattle.bins.proofs.BooksLaws.{Far, putStores, put-off}
+use Rattle.bins.proofs.BooksLaws.{Far, putStores, putAt, put-off}
 use Rattle.bins.proofs.WayLaws.{OnWay, relisted, relisted-same, relisted-other, far-no-link, header-no-link, way-keeps, way-puts, is-from}
 use Rattle.settling.proofs.DraftLaws.{booksOf}
 use Rattle.settling.proofs.LayoutLaws.{Beside, Laid, Layout, laid-once, laid-beside, laid-below}
@@ -115,8 +115,7 @@ module _ (ws : List ℕ) (h : Heap) (stay : List Entry) (d : Draft) (f : Halfway
           let b = laid .free free in
           record { eight = laid .eight; some = omega (arith, b .0); fits = omega (arith, b .1, b .2) }
 
-      put-way : OnWay (books (written (written ws (d .stores)) stores) (set (d .heap .heads) i (headOr 0 (xs ++ c .place ∷ ys))) (set (d .heap .tails) i (lastOr 0 (xs ++ c .place ∷ ys))))
-          lists (h .bins)
+      put-way : OnWay (putAt (booksOf ws d) i xs (c .place) ys) lists (h .bins)
       put-way = way-puts (booksOf ws d) (d .lists) (h .bins) (f .way) i (c .place) l node far xs ys s .1
 
       -- words that are no links of members and none of c's own
@@ -179,7 +178,7 @@ module _ (ws : List ℕ) (h : Heap) (stay : List Entry) (d : Draft) (f : Halfway
           record {
             halfway =
                 record {
-                  heap = ap (λ (g : Heap). withEnds g (set (d .heap .heads) i (headOr 0 (xs ++ c .place ∷ ys))) (set (d .heap .tails) i (lastOr 0 (xs ++ c .place ∷ ys)))) (f .heap);
+                  heap = rw (f .heap);
                   ends = bin-ends-set i (headOr 0 (xs ++ c .place ∷ ys)) (lastOr 0 (xs ++ c .place ∷ ys)) l (f .ends);
                   way = rw a put-way;
                   none = λ j b. relisted-other i (xs ++ c .place ∷ ys) (d .lists) j (λ q. omega arith) ∙ f .none j b;
@@ -273,7 +272,7 @@ module _ (ws : List ℕ) (h : Heap) (stay : List Entry) (d : Draft) (f : Halfway
           record {
             halfway =
                 record {
-                  heap = ap (λ (g : Heap). with g (d .heap .heads) (d .heap .tails) donor top (g .merge) (d .heap .used)) (f .heap);
+                  heap = rw (f .heap);
                   ends = f .ends;
                   way = rw a named-way;
                   none = f .none;
