@@ -43,6 +43,10 @@ relisted i cs lists j = cond (eqb j i) cs (lists j)
 abbrev pub unlisted : ℕ → ℕ → (ℕ → List ℕ) → ℕ → List ℕ
 unlisted i c lists = relisted i (upTo (eqb c) (lists i) ++ past (eqb c) (lists i)) lists
 
+-- d is in the list of bin j then
+abbrev pub InRelisted : ℕ → List ℕ → (ℕ → List ℕ) → ℕ → ℕ → Type 0
+InRelisted i cs lists j d = ((j ≡ i) × Mem d cs) ⊎ ((j ≢ i) × Mem d (lists j))
+
 module _ (i : ℕ) (cs : List ℕ) (lists : ℕ → List ℕ) where
   pub relisted-same : relisted i cs lists i ≡ cs
   relisted-same = rw (eq-eqb i i refl)
@@ -50,10 +54,10 @@ module _ (i : ℕ) (cs : List ℕ) (lists : ℕ → List ℕ) where
   pub relisted-other : (j : ℕ) → j ≢ i → relisted i cs lists j ≡ lists j
   relisted-other j ne = rw (ne-eqb j i ne)
 
-  pub member-relisted : (j : ℕ) {d : ℕ} → Mem d (relisted i cs lists j) → ((j ≡ i) × Mem d cs) ⊎ ((j ≢ i) × Mem d (lists j))
+  pub member-relisted : (j : ℕ) {d : ℕ} → Mem d (relisted i cs lists j) → InRelisted i cs lists j d
   member-relisted j {d} m = go (ℕ-discrete j i)
     where
-      go : Dec (j ≡ i) → ((j ≡ i) × Mem d cs) ⊎ ((j ≢ i) × Mem d (lists j))
+      go : Dec (j ≡ i) → InRelisted i cs lists j d
       go (yes q) = inl (q, rw (eq-eqb j i q) at m)
       go (no ne) = inr (ne, rw (ne-eqb j i ne) at m)
 
@@ -149,7 +153,7 @@ module _ (b : Books) (lists : ℕ → List ℕ) (n : ℕ) (w : OnWay b lists n) 
     stays : (j : ℕ) {d : ℕ} → Mem d (relisted i (xs ++ ys) lists j) → Mem d (lists j)
     stays j {d} k = go (member-relisted i (xs ++ ys) lists j k)
       where
-        go : ((j ≡ i) × Mem d (xs ++ ys)) ⊎ ((j ≢ i) × Mem d (lists j)) → Mem d (lists j)
+        go : InRelisted i (xs ++ ys) lists j d → Mem d (lists j)
         go (inl q) = rw (q .0, s) (member-with xs c ys (q .1))
         go (inr q) = q .1
 
@@ -201,7 +205,7 @@ module _ (b : Books) (lists : ℕ → List ℕ) (n : ℕ) (w : OnWay b lists n) 
         twice e (inl k) = distinct-parts xs (c ∷ ys) (before .once) .none d k (List·Memᴰ·head (sym e))
         twice e (inr k) = distinct-parts xs (c ∷ ys) (before .once) .right .0 (rw (← e) at k)
 
-        gone : c ≡ d → ((j ≡ i) × Mem d (xs ++ ys)) ⊎ ((j ≢ i) × Mem d (lists j)) → ⊥
+        gone : c ≡ d → InRelisted i (xs ++ ys) lists j d → ⊥
         gone e (inl q) = twice e (List·Memᴰ·append-cases xs (q .1))
         gone e (inr q) = w .apart j i lj l (q .0) d (q .1) (rw e at here)
 
@@ -211,15 +215,18 @@ module _ (b : Books) (lists : ℕ → List ℕ) (n : ℕ) (w : OnWay b lists n) 
     held : Holds b i (xs ++ ys)
     held = rw s at (w .holds i l)
 
-    -- a member is one that was, or it is the chunk at c
-    pub is-from : (j : ℕ) {d : ℕ} → Mem d (relisted i (xs ++ c ∷ ys) lists j) → Mem d (lists j) ⊎ ((j ≡ i) × (d ≡ c))
+    -- a member d of bin j is one that was, or it is the chunk at c
+    abbrev From : ℕ → ℕ → Type 0
+    From j d = Mem d (lists j) ⊎ ((j ≡ i) × (d ≡ c))
+
+    pub is-from : (j : ℕ) {d : ℕ} → Mem d (relisted i (xs ++ c ∷ ys) lists j) → From j d
     is-from j {d} k = go (member-relisted i (xs ++ c ∷ ys) lists j k)
       where
-        own : (j ≡ i) → (d ≡ c) ⊎ Mem d (xs ++ ys) → Mem d (lists j) ⊎ ((j ≡ i) × (d ≡ c))
+        own : (j ≡ i) → (d ≡ c) ⊎ Mem d (xs ++ ys) → From j d
         own q (inl e) = inr (q, e)
         own q (inr m) = inl (rw (q, s) m)
 
-        go : ((j ≡ i) × Mem d (xs ++ c ∷ ys)) ⊎ ((j ≢ i) × Mem d (lists j)) → Mem d (lists j) ⊎ ((j ≡ i) × (d ≡ c))
+        go : InRelisted i (xs ++ c ∷ ys) lists j d → From j d
         go (inl q) = own (q .0) (member-without xs c ys (q .1))
         go (inr q) = inl (q .1)
 
@@ -234,19 +241,19 @@ module _ (b : Books) (lists : ℕ → List ℕ) (n : ℕ) (w : OnWay b lists n) 
             rw (ne-eqb j i ne)
             (put-others b i xs c ys j (lists j) (w .holds j lj) ne held gc (λ d m. free j d lj m) (λ d m k. w .apart j i lj l ne d m (rw s k)))
 
-    put-apart : (i₁ j d : ℕ) → i₁ < n → j < n → i₁ ≢ j → Mem d (lists i₁) ⊎ ((i₁ ≡ i) × (d ≡ c)) → Mem d (lists j) ⊎ ((j ≡ i) × (d ≡ c)) → ⊥
+    put-apart : (i₁ j d : ℕ) → i₁ < n → j < n → i₁ ≢ j → From i₁ d → From j d → ⊥
     put-apart i₁ j d l₁ lj ne (inl m) (inl k) = w .apart i₁ j l₁ lj ne d m k
     put-apart i₁ j d l₁ lj ne (inl m) (inr q) = let f = free i₁ d l₁ m in omega arith
     put-apart i₁ j d l₁ lj ne (inr p) (inl k) = let f = free j d lj k in omega arith
     put-apart i₁ j d l₁ lj ne (inr p) (inr q) = omega arith
 
-    put-far : (i₁ j d e : ℕ) → i₁ < n → j < n → d ≢ e → Mem d (lists i₁) ⊎ ((i₁ ≡ i) × (d ≡ c)) → Mem e (lists j) ⊎ ((j ≡ i) × (e ≡ c)) → Far d e
+    put-far : (i₁ j d e : ℕ) → i₁ < n → j < n → d ≢ e → From i₁ d → From j e → Far d e
     put-far i₁ j d e l₁ lj ne (inl m) (inl k) = w .far i₁ j d e l₁ lj m k ne
     put-far i₁ j d e l₁ lj ne (inl m) (inr q) = let f = free i₁ d l₁ m in omega arith
     put-far i₁ j d e l₁ lj ne (inr p) (inl k) = let f = free j e lj k in omega arith
     put-far i₁ j d e l₁ lj ne (inr p) (inr q) = omega arith
 
-    put-binned : (j d : ℕ) → j < n → Mem d (lists j) ⊎ ((j ≡ i) × (d ≡ c)) → word (putAt b i xs c ys .words) d bin ≡ 8 * j
+    put-binned : (j d : ℕ) → j < n → From j d → word (putAt b i xs c ys .words) d bin ≡ 8 * j
     put-binned j d lj (inl m) =
         let g = w .holds j lj .nodes d m in
         let f = free j d lj m in

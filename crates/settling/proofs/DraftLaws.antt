@@ -3,7 +3,7 @@
 use mathlib.Core.Path.{_≡_, refl}
 use mathlib.Core.Logic.{_≢_}
 use mathlib.Core.Bool.{Bool, true, false, cond}
-use mathlib.Core.List.{List, [], _∷_, _++_, append-assoc}
+use mathlib.Core.List.{List, [], _∷_, _++_}
 use Prim.Native.Nat.{ℕ, _+_, _-_, _/_, _%_, _^_, _≤_, _<_}
 use native.Mathlib.Decide.{decLt}
 use native.Mathlib.Nat.{add-zero}
@@ -24,14 +24,14 @@ use Rattle.headers.specs.Headers.{aboveWords, freeWords}
 use Rattle.rules.specs.Shape.{Entry, entry, binList}
 use Rattle.rules.specs.Kinds.{unused, outside}
 use Rattle.rules.specs.Check.{Passes}
-use Rattle.rules.specs.Draft.{Draft, asRead, headers, meet, leave, leaveBin, putBetween, putInto, putInBin, noBinWords, relink, settle}
+use Rattle.rules.specs.Draft.{Draft, asRead, meet, leave, leaveBin, putBetween, putInto, putInBin, noBinWords, relink, settle}
 use Rattle.rules.specs.Join.{joinedAs}
 use Rattle.bins.specs.Books.{Books, books, leaveM, putM, putIntoM}
 use Rattle.bins.proofs.RunsLaws.{Node}
 use Rattle.bins.proofs.BooksLaws.{Far, putStores}
 use Rattle.bins.proofs.WayLaws.{OnWay, way-begins, way-keeps, way-leaves, way-left-far, way-stays, way-remains, way-puts-head, way-puts-tail}
 use Rattle.settling.specs.Settling.{putBinnedM, putInBinM, alsoWritten, settleM, donorAfter, topAfter}
-use Rattle.settling.proofs.LinkLaws.{linkStores}
+use Rattle.settling.proofs.LinkLaws.{linkStores, relink-written}
 
 -- the words and the ends of a draft
 abbrev pub booksOf : List ℕ → Draft → Books
@@ -123,7 +123,7 @@ module _ (ws : List ℕ) (h : Heap) (d : Draft) (f : Follows ws h d) where
   relink-follows low es high g =
       record {
         way =
-            rw (append-assoc (d .stores) (headers (lastOr outside low .place) es), written-append)
+            rw (relink-written ws low es high d)
             (way-keeps (booksOf ws d) (d .lists) (h .bins) (f .way) (linkStores low es high)
             (λ j x l m. header-stores-off x (linkStores low es high) (f .way .holds j l .nodes x m .eight) (g j x l m)));
         from = f .from;

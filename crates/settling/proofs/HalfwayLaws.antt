@@ -4,24 +4,24 @@
 use mathlib.Core.Path.{_≡_, refl, sym, ap, _∙_}
 use mathlib.Core.Logic.{_⊎_, inl, inr}
 use mathlib.Core.Bool.{true, false, false≢true}
-use mathlib.Core.List.{List, [], _∷_, _++_}
+use mathlib.Core.List.{List, [], _++_}
 use Prim.Native.Nat.{ℕ, _+_, _*_, _/_, _≤_, _<_}
 use native.Mathlib.Decide.{ℕ-discrete}
 use native.Mathlib.Omega.{arith}
 use lib.ListN.{length, set, length-set}
 use lib.Seq.{getD-set-other}
-use Rattle.lists.specs.Lists.{Mem, headOr, lastOr}
+use Rattle.lists.specs.Lists.{Mem, headOr}
 use Rattle.lists.proofs.SplitLaws.{outer-in}
 use Rattle.record.specs.declared.heap.Heap.{Heap}
 use Rattle.record.specs.declared.table.Binned.the-variants.{Bin}
 use Rattle.record.specs.Heap.{places, tableOf, with}
 use Rattle.record.specs.Table.{binOf}
-use Rattle.region.specs.Words.{Store, put, written, backward, nextInBin, previousInBin, bin}
-use Rattle.region.proofs.WordsLaws.{Off, off, length-written, written-append}
+use Rattle.region.specs.Words.{Store, written, nextInBin, previousInBin, bin}
+use Rattle.region.proofs.WordsLaws.{Off, off, length-written}
 use Rattle.rules.specs.Shape.{Entry, shape}
 use Rattle.rules.specs.Kinds.{ordinaryKind, ordinary, outside}
 use Rattle.rules.specs.Check.{Unused, Unbinned, BelongsTo, Passes}
-use Rattle.rules.specs.Draft.{Draft, asRead, headers, relink}
+use Rattle.rules.specs.Draft.{Draft, asRead, relink}
 use Rattle.rules.proofs.KindsLaws.{kind-ordinary, ordinary-free, used-not-ordinary}
 use Rattle.rules.proofs.SpotLaws.{flags-free, is-top, is-donor}
 use Rattle.bins.proofs.HeapBooks.{list-none}
@@ -29,7 +29,7 @@ use Rattle.bins.proofs.WayLaws.{OnWay, way-begins, way-keeps}
 use Rattle.settling.proofs.DraftLaws.{booksOf}
 use Rattle.settling.proofs.LayoutLaws.{Laid, Layout}
 use Rattle.settling.proofs.HeaderLaws.{Headed, headed-below}
-use Rattle.settling.proofs.LinkLaws.{linkStores, link-headed, link-off}
+use Rattle.settling.proofs.LinkLaws.{linkStores, relink-written, link-headed, link-off}
 
 -- the record of a draft, of which a call changes the bins' ends, the donor, the top and the used bytes
 abbrev pub now : Heap → Draft → Heap
@@ -52,15 +52,21 @@ bin-ends-set {bins} {heads} {tails} i v u l b =
       tailsEnd = λ j k. getD-set-other tails i j u 0 (λ q. omega arith) ∙ b .tailsEnd j k;
     }
 
+-- a chunk of es stands at c and belongs in bin i; and the chunk e is in the bin that takes its size
+abbrev pub Belonging : Heap → List Entry → ℕ → ℕ → Type 0
+Belonging h es i c = (e : Entry) × Mem e es × ((e .place ≡ c) × BelongsTo h i e)
+
+abbrev pub InItsBin : Heap → (ℕ → List ℕ) → Entry → Type 0
+InItsBin h lists e = (i : ℕ) × (binOf (tableOf h) (e .size) ≡ Bin i) × ((i < h .bins) × Mem (e .place) (lists i))
+
 -- of the chunks `stay` those that are ordinary are in their bins, with no others, and the other free ones are in none
 pub record Halfway (ws : List ℕ) (h : Heap) (stay : List Entry) (d : Draft) : Type 0 where
   pub heap : d .heap ≡ now h d
   pub ends : BinEnds (h .bins) (d .heap .heads) (d .heap .tails)
   pub way : OnWay (booksOf ws d) (d .lists) (h .bins)
   pub none : (i : ℕ) → h .bins ≤ i → d .lists i ≡ []
-  pub members : (i c : ℕ) → i < h .bins → Mem c (d .lists i) → (e : Entry) × Mem e stay × ((e .place ≡ c) × BelongsTo (now h d) i e)
-  pub listed : (e : Entry) → Mem e stay → ordinary (now h d) e ≡ true
-      → (i : ℕ) × (binOf (tableOf h) (e .size) ≡ Bin i) × ((i < h .bins) × Mem (e .place) (d .lists i))
+  pub members : (i c : ℕ) → i < h .bins → Mem c (d .lists i) → Belonging (now h d) stay i c
+  pub listed : (e : Entry) → Mem e stay → ordinary (now h d) e ≡ true → InItsBin h (d .lists) e
   pub reserved : (e : Entry) → Mem e stay → e .flags ≡ 0 → ordinary (now h d) e ≡ false → Unbinned (written ws (d .stores)) (e .place)
   pub housed : d .homeless ≡ false
 
@@ -120,8 +126,7 @@ halfway-others ws h stay rest d f every from =
       housed = f .housed;
     }
   where
-    listed : (e : Entry) → ordinary (now h d) e ≡ true → Mem e stay ⊎ (e .flags ≡ 1)
-        → (i : ℕ) × (binOf (tableOf h) (e .size) ≡ Bin i) × ((i < h .bins) × Mem (e .place) (d .lists i))
+    listed : (e : Entry) → ordinary (now h d) e ≡ true → Mem e stay ⊎ (e .flags ≡ 1) → InItsBin h (d .lists) e
     listed e o (inl m) = f .listed e m o
     listed e o (inr u) = absurd (used-not-ordinary (now h d) e u o)
 
@@ -154,22 +159,12 @@ writes-halfway ws h stay es d ss all f w laid passed =
       housed = f .housed;
     }
   where
-    clear : {i c : ℕ} → (e : Entry) × Mem e stay × ((e .place ≡ c) × BelongsTo (now h d) i e) → Passing ss c
+    clear : {i c : ℕ} → Belonging (now h d) stay i c → Passing ss c
     clear (e, m, (q, b)) = rw q at (passed e m (ordinary-free (now h d) e (b .0) (laid e m .flags)))
 
 -- the chunks news are linked in between low and high
 module _ (ws : List ℕ) (h : Heap) (low news high : List Entry) (d : Draft) (f : Halfway ws h (low ++ high) d)
     (y : Layout (h .bytes) (low ++ news ++ high)) (highs : high ≡ [] → ⊥) where
-  relink-written : written ws (relink low news high d .stores) ≡ written (written ws (d .stores)) (linkStores low news high)
-  unfolding relink
-  relink-written =
-      let ss : List Store = headers (lastOr outside low .place) news in
-      let up : List Store =
-      put (headOr outside high .place) backward (lastOr (lastOr outside low) news .place + headOr outside high .flags) ∷ [] in
-      written-append (d .stores ++ ss) up ws
-      ∙ ap (λ (w : List ℕ). written w up) (written-append (d .stores) ss ws)
-      ∙ sym (written-append ss up (written ws (d .stores)))
-
   passed : (x : Entry) → Mem x (low ++ high) → x .flags ≡ 0 → Passing (linkStores low news high) (x .place)
   passed x m z =
       let s = y .chunks x (outer-in low news high m) .free z .1 in (
@@ -181,14 +176,14 @@ module _ (ws : List ℕ) (h : Heap) (low news high : List Entry) (d : Draft) (f 
   pub relink-halfway : Halfway ws h (low ++ high) (relink low news high d)
   unfolding relink
   relink-halfway =
-      writes-halfway ws h (low ++ high) (low ++ news ++ high) d (linkStores low news high) _ f relink-written
+      writes-halfway ws h (low ++ high) (low ++ news ++ high) d (linkStores low news high) _ f (relink-written ws low news high d)
       (λ e m. y .chunks e (outer-in low news high m)) passed
 
   pub relink-headed : h .bytes ≤ 4 * length ws → (q : Entry) → Headed (written ws (d .stores)) outside low (headOr (headOr outside high) news)
       → Headed (written ws (d .stores)) q high outside → Headed (written ws (relink low news high d .stores)) outside (low ++ news ++ high) outside
   relink-headed long q lower upper =
       let k = length-written (d .stores) ws in
-      rw relink-written (link-headed (h .bytes) low news high y highs (written ws (d .stores)) (omega arith) q lower upper)
+      rw (relink-written ws low news high d) (link-headed (h .bytes) low news high y highs (written ws (d .stores)) (omega arith) q lower upper)
 
 -- the chain is open: low reaches up to the chunk `first`, high begins above the chunk `last`, and what lies between is out of bins
 pub record Opened (ws : List ℕ) (h : Heap) (low : List Entry) (first last : Entry) (high : List Entry) (d : Draft) : Type 0 where

@@ -23,7 +23,7 @@ use Rattle.bins.proofs.WayLaws.{relisted, relisted-other, far-no-link, header-n
 use Rattle.settling.proofs.DraftLaws.{booksOf}
 use Rattle.settling.proofs.LayoutLaws.{Beside, Layout, laid-once, laid-beside, laid-below}
 use Rattle.settling.proofs.HeaderLaws.{Headed, Spares, headed-keeps}
-use Rattle.settling.proofs.HalfwayLaws.{now, bin-ends-set, Halfway, unbinned-keeps}
+use Rattle.settling.proofs.HalfwayLaws.{now, bin-ends-set, Belonging, Halfway, unbinned-keeps}
 
 -- the members of the bins, among all chunks of a chain
 module _ (ws : List ℕ) (h : Heap) (stay : List Entry) (d : Draft) (f : Halfway ws h stay d)
@@ -133,7 +133,7 @@ module _ (ws : List ℕ) (h : Heap) (stay : List Entry) (d : Draft) (f : Halfway
           (λ c a. (member-below own c inside a x (sub x j) .0, member-far x (sub x j) (i .free z .1) (not-listed x j u) own c inside a))) in
           unbinned-keeps (meet before after) (written ws (d .stores)) (x .place) (passed 3 (omega arith), passed 4 (omega arith), passed 5 (omega arith)) (f .reserved x j z u)
 
-      member-rest : (i c : ℕ) → i < h .bins → Mem c (lists i) → (x : Entry) × Mem x rest × ((x .place ≡ c) × BelongsTo (now h d) i x)
+      member-rest : (i c : ℕ) → i < h .bins → Mem c (lists i) → Belonging (now h d) rest i c
       member-rest i c l k =
           let g = way-left-far (booksOf ws d) (d .lists) (h .bins) (f .way) own (e .place) inside there i c l k in
           let r = f .members i c l (way-stays (booksOf ws d) (d .lists) (h .bins) (f .way) own (e .place) inside there i k) in

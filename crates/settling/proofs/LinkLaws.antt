@@ -2,7 +2,7 @@
 -- and leave all other words of the chunks below and above as they were. Assumes nothing.
 use mathlib.Core.Path.{_≡_, refl, sym, subst, _∙_}
 use mathlib.Core.Logic.{_≢_, inl, inr}
-use mathlib.Core.List.{List, [], _∷_, _++_, List·Memᴰ·head, List·Memᴰ·tail, Memᴰ·append-left, Memᴰ·append-right}
+use mathlib.Core.List.{List, [], _∷_, _++_, append-assoc, List·Memᴰ·head, List·Memᴰ·tail, Memᴰ·append-left, Memᴰ·append-right}
 use Prim.Native.Nat.{ℕ, _+_, _*_, _/_, _≤_}
 use native.Mathlib.Decide.{ℕ-discrete}
 use native.Mathlib.Omega.{arith}
@@ -14,7 +14,7 @@ use Rattle.region.specs.Words.{Store, put, written, forward, backward, size}
 use Rattle.region.proofs.WordsLaws.{Off, length-written, written-append, word-same, word-other, off-both}
 use Rattle.rules.specs.Shape.{Entry}
 use Rattle.rules.specs.Kinds.{blockEnd, outside}
-use Rattle.rules.specs.Draft.{headers}
+use Rattle.rules.specs.Draft.{Draft, headers, relink}
 use Rattle.rules.proofs.TiledLaws.{Tiled, tiled-up, tiled-in}
 use Rattle.settling.proofs.LayoutLaws.{Beside, Laid, Layout, Cuts, laid-beside, cuts, outer-beside}
 use Rattle.settling.proofs.HeaderLaws.{Headed, headed-joined, Spares, headed-keeps, beside-misses, words-spared, headers-spare, headers-written}
@@ -24,6 +24,13 @@ abbrev pub linkStores : List Entry → List Entry → List Entry → List Store
 linkStores low news high =
     headers (lastOr outside low .place) news
     ++ put (headOr outside high .place) backward (lastOr (lastOr outside low) news .place + headOr outside high .flags) ∷ []
+
+-- so the rules' relinking writes these
+pub relink-written : (ws : List ℕ) (low news high : List Entry) (d : Draft)
+    → written ws (relink low news high d .stores) ≡ written (written ws (d .stores)) (linkStores low news high)
+unfolding relink
+relink-written ws low news high d =
+    rw (append-assoc (d .stores) (headers (lastOr outside low .place) news), written-append (d .stores) (linkStores low news high) ws)
 
 -- the backward link of the chunk e is to no word of a chunk beside it
 link-spares : (bytes : ℕ) (d e : Entry) (v : ℕ) → Laid bytes d → Laid bytes e → Beside d e → Spares (put (e .place) backward v ∷ []) d

@@ -21,7 +21,7 @@ use Rattle.region.specs.Words.{Store, written, bin}
 use Rattle.region.proofs.WordsLaws.{Off, got, length-written, written-append}
 use Rattle.rules.specs.Shape.{Entry}
 use Rattle.rules.specs.Kinds.{ordinaryKind, kindAt, kindOf, ordinary, outside}
-use Rattle.rules.specs.Check.{Unbinned, BelongsTo, Passes}
+use Rattle.rules.specs.Check.{Unbinned, Passes}
 use Rattle.rules.specs.Draft.{Draft, alsoWrites, withHeap, putBetween, putInto, putInBin, noBinWords, settle}
 use Rattle.rules.proofs.KindsLaws.{used-not-ordinary}
 use Rattle.bins.specs.Books.{books}
@@ -31,7 +31,7 @@ use Rattle.bins.proofs.WayLaws.{OnWay, relisted, relisted-same, relisted-other,
 use Rattle.settling.proofs.DraftLaws.{booksOf}
 use Rattle.settling.proofs.LayoutLaws.{Beside, Laid, Layout, laid-once, laid-beside, laid-below}
 use Rattle.settling.proofs.HeaderLaws.{Headed, Spares, headed-keeps}
-use Rattle.settling.proofs.HalfwayLaws.{now, bin-ends-set, Halfway, halfway-others, Passing, unbinned-keeps}
+use Rattle.settling.proofs.HalfwayLaws.{now, bin-ends-set, Belonging, InItsBin, Halfway, halfway-others, Passing, unbinned-keeps}
 use Rattle.settling.proofs.LeaveLaws.{not-listed, member-below, member-far}
 
 -- what a step makes of a draft whose chain is `all`: the donor, the top and the used bytes that it leaves are named
@@ -55,6 +55,10 @@ settles-named s p q =
       used = s .used;
     }
 
+-- the chunk x stays, or it is c, or it is in use
+abbrev Accounted : List Entry → Entry → Entry → Type 0
+Accounted stay c x = Mem x stay ⊎ ((x ≡ c) ⊎ (x .flags ≡ 1))
+
 module _ (ws : List ℕ) (h : Heap) (stay : List Entry) (d : Draft) (f : Halfway ws h stay d)
     (all : List Entry) (y : Layout (h .bytes) all) (sub : (e : Entry) → Mem e stay → Mem e all) where
   -- where all other chunks are in use, none waits
@@ -71,7 +75,7 @@ module _ (ws : List ℕ) (h : Heap) (stay : List Entry) (d : Draft) (f : Halfway
 
   -- the free chunk c is in no bin; every other chunk stays or is in use
   module _ (c : Entry) (there : Mem c all) (free : c .flags ≡ 0) (new : (i : ℕ) → i < h .bins → Mem (c .place) (d .lists i) → ⊥)
-      (others : (x : Entry) → Mem x all → Mem x stay ⊎ ((x ≡ c) ⊎ (x .flags ≡ 1))) where
+      (others : (x : Entry) → Mem x all → Accounted stay c x) where
     laid : Laid (h .bytes) c
     laid = y .chunks c there
 
@@ -146,15 +150,14 @@ module _ (ws : List ℕ) (h : Heap) (stay : List Entry) (d : Draft) (f : Halfway
           (own-apart x (sub x m) z ne k b) in
           (off 3 (omega arith), off 4 (omega arith), off 5 (omega arith))
 
-      put-members : (j x : ℕ) → j < h .bins → Mem x (lists j) → (e : Entry) × Mem e all × ((e .place ≡ x) × BelongsTo (now h d) j e)
+      put-members : (j x : ℕ) → j < h .bins → Mem x (lists j) → Belonging (now h d) all j x
       put-members j x b m = go (is-from (booksOf ws d) (d .lists) (h .bins) (f .way) i (c .place) l node far xs ys s j m)
         where
-          go : Mem x (d .lists j) ⊎ ((j ≡ i) × (x ≡ c .place)) → (e : Entry) × Mem e all × ((e .place ≡ x) × BelongsTo (now h d) j e)
+          go : Mem x (d .lists j) ⊎ ((j ≡ i) × (x ≡ c .place)) → Belonging (now h d) all j x
           go (inl k) = let r = f .members j x b k in (r .0, sub (r .0) (r .1), r .2)
           go (inr q) = (c, there, (sym (q .1), (kind, t ∙ ap Bin (sym (q .0)))))
 
-      put-listed : (x : Entry) → Mem x all → ordinary (now h d) x ≡ true → Mem x stay ⊎ ((x ≡ c) ⊎ (x .flags ≡ 1))
-          → (j : ℕ) × (binOf (tableOf h) (x .size) ≡ Bin j) × ((j < h .bins) × Mem (x .place) (lists j))
+      put-listed : (x : Entry) → Mem x all → ordinary (now h d) x ≡ true → Accounted stay c x → InItsBin h lists x
       put-listed x m o (inl k) =
           let r = f .listed x k o in (r .0, r .1, (r .2 .0, go (r .0) (r .2 .1) (ℕ-discrete (r .0) i)))
         where
@@ -165,7 +168,7 @@ module _ (ws : List ℕ) (h : Heap) (stay : List Entry) (d : Draft) (f : Halfway
           rw q (i, t, (l, rw (relisted-same i (xs ++ c .place ∷ ys) (d .lists)) (Memᴰ·append-right xs (List·Memᴰ·head refl))))
       put-listed x m o (inr (inr q)) = absurd (used-not-ordinary (now h d) x q o)
 
-      put-reserved : (x : Entry) → x .flags ≡ 0 → ordinary (now h d) x ≡ false → Mem x stay ⊎ ((x ≡ c) ⊎ (x .flags ≡ 1))
+      put-reserved : (x : Entry) → x .flags ≡ 0 → ordinary (now h d) x ≡ false → Accounted stay c x
           → Unbinned (written (written ws (d .stores)) stores) (x .place)
       put-reserved x z o (inl k) = unbinned-keeps stores (written ws (d .stores)) (x .place) (put-passes x k z o) (f .reserved x k z o)
       put-reserved x z o (inr (inl q)) = absurd (false≢true (sym o ∙ ap (ordinary (now h d)) q ∙ kind))
@@ -247,7 +250,7 @@ module _ (ws : List ℕ) (h : Heap) (stay : List Entry) (d : Draft) (f : Halfway
           }
 
       named-unbinned : (x : Entry) → x .flags ≡ 0 → ordinaryKind (kindAt (h .bytes) donor top x) ≡ false
-          → Mem x stay ⊎ ((x ≡ c) ⊎ (x .flags ≡ 1)) → Unbinned cleared (x .place)
+          → Accounted stay c x → Unbinned cleared (x .place)
       named-unbinned x z o (inl k) = go (ℕ-discrete (x .place) (c .place))
         where
           go : Dec (x .place ≡ c .place) → Unbinned cleared (x .place)
@@ -259,8 +262,7 @@ module _ (ws : List ℕ) (h : Heap) (stay : List Entry) (d : Draft) (f : Halfway
       named-unbinned x z o (inr (inl q)) = rw q own-unbinned
       named-unbinned x z o (inr (inr q)) = absurd (omega arith)
 
-      named-listed : (x : Entry) → Mem x all → ordinaryKind (kindAt (h .bytes) donor top x) ≡ true → Mem x stay ⊎ ((x ≡ c) ⊎ (x .flags ≡ 1))
-          → (i : ℕ) × (binOf (tableOf h) (x .size) ≡ Bin i) × ((i < h .bins) × Mem (x .place) (d .lists i))
+      named-listed : (x : Entry) → Mem x all → ordinaryKind (kindAt (h .bytes) donor top x) ≡ true → Accounted stay c x → InItsBin h (d .lists) x
       named-listed x m o (inl k) = f .listed x k (sym (same-ordinary x k) ∙ o)
       named-listed x m o (inr (inl q)) =
           absurd (false≢true (sym own ∙ ap (λ (e : Entry). ordinaryKind (kindAt (h .bytes) donor top e)) (sym q) ∙ o))

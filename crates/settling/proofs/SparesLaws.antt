@@ -29,7 +29,7 @@ use Rattle.rules.specs.Check.{Passes}
 use Rattle.rules.specs.Draft.{Draft, asRead, alsoWrites, nowUses, followedBy, precededBy, meet, relist, leave, leaves, leaveBin, putBetween, putInto, isPut, putInBin, sizeStores, headers, relink, settle}
 use Rattle.bins.proofs.BooksLaws.{putStores}
 use Rattle.bins.proofs.HeapBooks.{member-entry, list-none}
-use Rattle.bins.proofs.WayLaws.{member-relisted}
+use Rattle.bins.proofs.WayLaws.{InRelisted, member-relisted}
 use Rattle.settling.proofs.LayoutLaws.{Beside, Layout, laid-once, laid-beside}
 
 -- the word at index i is one of the heap, and of no block of the chain `all`
@@ -113,7 +113,7 @@ module _ (P : ℕ → Type 0) where
         members = λ j c m. go j c (member-relisted i cs (d .lists) j m);
       }
     where
-      go : (j c : ℕ) → ((j ≡ i) × Mem c cs) ⊎ ((j ≢ i) × Mem c (d .lists j)) → LinkWords c
+      go : (j c : ℕ) → InRelisted i cs (d .lists) j c → LinkWords c
       go j c (inl k) = l c (k .1)
       go j c (inr k) = s .members j c (k .1)
 
