@@ -43,17 +43,10 @@ pub record Settles (ws : List ℕ) (h : Heap) (all : List Entry) (donor top : �
   pub topIs : after .heap .top .0 ≡ top
   pub used : after .heap .used ≡ d .heap .used
 
+-- the same donor and top by other names
 pub settles-named : {ws : List ℕ} {h : Heap} {all : List Entry} {donor top donor′ top′ : ℕ} {d after : Draft}
     → Settles ws h all donor top d after → donor ≡ donor′ → top ≡ top′ → Settles ws h all donor′ top′ d after
-settles-named s p q =
-    record {
-      halfway = s .halfway;
-      headed = s .headed;
-      chain = s .chain;
-      donorIs = s .donorIs ∙ p;
-      topIs = s .topIs ∙ q;
-      used = s .used;
-    }
+settles-named s p q = rw (← p, ← q) s
 
 -- the chunk x stays, or it is c, or it is in use
 abbrev Accounted : List Entry → Entry → Entry → Type 0
