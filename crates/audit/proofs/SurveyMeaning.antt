@@ -7,7 +7,7 @@ use Prim.Native.Nat.{ℕ, _+_, _-_, _%_, _≤_, _<_}
 use native.Mathlib.Omega.{arith}
 use lib.ListN.{length}
 use Rattle.lists.specs.Lists.{Mem, headOr, lastOr, keep}
-use Rattle.lists.proofs.ListsLaws.{Decides, number-is, at-most, less, meaning, both}
+use Rattle.lists.proofs.ListsLaws.{Decides, number-is, at-most, less, meaning, both, each-cons}
 use Rattle.lists.proofs.TotalLaws.{total-ones, some-of-total, total-of-some, total-kept}
 use Rattle.record.specs.declared.heap.Heap.{Heap}
 use Rattle.record.specs.declared.kinds.Kind.{Kind}
@@ -16,7 +16,7 @@ use Rattle.region.specs.Words.{word, forward, backward, size, nextInBin, previo
 use Rattle.rules.specs.Shape.{Entry, flagsAt, shape}
 use Rattle.rules.specs.Kinds.{kindOf, ordinary, isFree, live, ordinaryKind, freeKind, liveKind, outside}
 use Rattle.rules.specs.Check.{Chained, Ended, Backed, Sound, Unbinned, Reserved, TopIs, DonorIs, usedBytes, freeBytes}
-use Rattle.rules.proofs.ChainLaws.{each-cons, same-place, Chain, shape-chain}
+use Rattle.rules.proofs.ChainLaws.{same-place, Chain, shape-chain}
 use Rattle.rules.proofs.KindsLaws.{Being, being, kind-start, kind-end, kind-top, kind-donor}
 use Rattle.audit.specs.declared.survey.Tally.{Tally}
 use Rattle.audit.specs.Chunks.{backedBy, sizedAt, startIs, endIs, reservedAt, donorAt, topAt, soundAs, soundAt}

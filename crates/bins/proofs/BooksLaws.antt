@@ -12,10 +12,10 @@ use Rattle.lists.specs.Lists.{Mem, headOr, lastOr, Distinct}
 use Rattle.region.specs.Words.{word, store, Store, put, written, nextInBin, previousInBin, bin}
 use Rattle.region.proofs.WordsLaws.{Off, off, word-same, word-other, length-store, length-written, written-append, off-both}
 use Rattle.rules.specs.Check.{Linked}
-use Rattle.rules.specs.Draft.{followedBy, precededBy, meet}
+use Rattle.rules.specs.Draft.{followedBy, precededBy, meet, noBinWords}
 use Rattle.bins.specs.Books.{Books, books, side, linkM, leaveM, putM}
 use Rattle.lists.proofs.MembersLaws.{head-append, last-append, last-member, member-with, member-without, distinct-without, distinct-with, distinct-parts}
-use Rattle.bins.proofs.RunsLaws.{Node, Nodes, Run, whole-run, run-whole, run-cut, run-joined, Clear, run-keeps, run-followed, run-preceded, clear-followed, clear-preceded, NoLink, meet-off, followed-off, preceded-off, links-apart}
+use Rattle.bins.proofs.RunsLaws.{Node, Nodes, Run, whole-run, run-whole, run-cut, run-joined, Clear, run-keeps, linked-keeps, run-followed, run-preceded, clear-followed, clear-preceded, NoLink, meet-off, followed-off, preceded-off, links-apart}
 
 -- bin i of the books is the list cs
 pub record Holds (b : Books) (i : ℕ) (cs : List ℕ) : Type 0 where
@@ -72,7 +72,7 @@ others-hold b i j v u ss ds h ne f =
     record {
       head = getD-set-other (b .heads) i j v 0 ne ∙ h .head;
       tail = getD-set-other (b .tails) i j u 0 ne ∙ h .tail;
-      links = run-whole _ 0 ds (run-keeps ss (b .words) 0 0 ds f (whole-run (b .words) 0 ds (h .links)));
+      links = linked-keeps ss (b .words) ds f (h .links);
       nodes = rw length-written (h .nodes);
       once = h .once;
     }
@@ -82,6 +82,7 @@ module _ (b : Books) (i : ℕ) (xs : List ℕ) (c : ℕ) (ys : List ℕ) where
   around : Holds b i (xs ++ c ∷ ys) → Run (b .words) 0 xs c × Run (b .words) (lastOr 0 xs) (c ∷ ys) 0
   around h = run-cut (b .words) 0 0 xs (c ∷ ys) (whole-run (b .words) 0 (xs ++ c ∷ ys) (h .links))
 
+  -- the chunk at c leaves: what the code does, the bin's list then, and the other bins
   pub leave-is : Holds b i (xs ++ c ∷ ys) → word (b .words) c bin ≡ 8 * i → leaveM b c ≡ left b i xs ys
   unfolding leaveM
   leave-is h w =
@@ -153,15 +154,16 @@ module _ (b : Books) (i : ℕ) (xs : List ℕ) (c : ℕ) (ys : List ℕ) where
         written-append (followedBy xs c) (put c previousInBin (lastOr 0 xs) ∷ []) ws,
       )
 
-  pub put-off : (x : ℕ) → NoLink x xs → NoLink x ys
-      → (x ≢ c / 4 + nextInBin) × (x ≢ c / 4 + previousInBin) × (x ≢ c / 4 + bin) → Off x (putStores i xs c ys)
-  put-off x f g h =
+  -- words that putting leaves alone: all but links of members and the bin words of the chunk itself
+  pub put-off : (x : ℕ) → NoLink x (xs ++ ys) → Off x (noBinWords c) → Off x (putStores i xs c ys)
+  put-off x f o =
       off-both x (meet xs (c ∷ []) ++ meet (c ∷ []) ys) (put c bin (8 * i) ∷ [])
       (off-both x (meet xs (c ∷ [])) (meet (c ∷ []) ys)
-      (off-both x (followedBy xs c) (put c previousInBin (lastOr 0 xs) ∷ []) (followed-off x xs c f) (h .1, tt))
-      (h .0, preceded-off x ys c g))
-      (h .2, tt)
+      (off-both x (followedBy xs c) (put c previousInBin (lastOr 0 xs) ∷ []) (followed-off x xs c (λ d m. f d (Memᴰ·append-left ys m))) (o .1 .0, tt))
+      (o .0, preceded-off x ys c (λ d m. f d (Memᴰ·append-right xs m))))
+      (o .1 .1)
 
+  -- the chunk at c is put there: what the code does, the other bins, and the bin's list then
   pub put-is : Holds b i (xs ++ ys) → i < 32 → putM b i (lastOr 0 xs) c (headOr 0 ys) ≡ putAt b i xs c ys
   unfolding putM own
   put-is h few =
@@ -185,9 +187,8 @@ module _ (b : Books) (i : ℕ) (xs : List ℕ) (c : ℕ) (ys : List ℕ) where
       (λ d m.
       let gd = k .nodes d m in
       let f = far d m in
-      let p = links-apart n d xs gd (λ x e. h .nodes x (Memᴰ·append-left ys e)) (λ e. out d m (Memᴰ·append-left ys e)) in
-      let q = links-apart n d ys gd (λ y e. h .nodes y (Memᴰ·append-right xs e)) (λ e. out d m (Memᴰ·append-right xs e)) in
-      (put-off _ (p .0) (q .0) (omega arith), put-off _ (p .1) (q .1) (omega arith)))
+      let p = links-apart n d (xs ++ ys) gd (h .nodes) (out d m) in
+      (put-off _ (p .0) (omega arith), put-off _ (p .1) (omega arith)))
 
   module _ (h : Holds b i (xs ++ ys)) (gc : Node (length (b .words)) c) (far : (d : ℕ) → Mem d (xs ++ ys) → Far c d) where
     out : Mem c (xs ++ ys) → ⊥

@@ -1,19 +1,39 @@
--- The two searches turn by turn, as the code's loops go, and the parts of a pair that an equation gives whole. Assumes nothing.
+-- Leaving and putting call by call, over plain variables, and the two searches turn by turn, as the code's loops go. Assumes nothing.
 use mathlib.Core.Path.{_≡_, refl, ap}
 use mathlib.Core.List.{List}
-use Prim.Native.Nat.{ℕ, zero, suc, _+_, _-_, _≤_, _<_}
+use Prim.Native.Nat.{ℕ, zero, suc, _+_, _*_, _-_, _/_, _%_, _≤_, _<_}
 use native.Mathlib.Omega.{arith}
 use native.Mathlib.Numerals.{add-one, sub-one}
 use lib.ListN.{getD}
 use borrow.Author.Tests.{eq-eqb, ne-eqb, le-leb, lt-leb}
-use Rattle.region.specs.Words.{word, size, nextInBin}
-use Rattle.bins.specs.Books.{Side, side, firstFitM, someEnd}
+use Rattle.region.specs.Words.{word, store, size, nextInBin, previousInBin, bin}
+use Rattle.bins.specs.Books.{books, Side, side, linkM, leaveM, putM, firstFitM, someEnd}
 
-pub words-of : {ws ends : List ℕ} {s : Side} → side ws ends ≡ s → ws ≡ s .words
+words-of : {ws ends : List ℕ} {s : Side} → side ws ends ≡ s → ws ≡ s .words
 words-of e = ap (λ (s : Side). s .words) e
 
-pub ends-of : {ws ends : List ℕ} {s : Side} → side ws ends ≡ s → ends ≡ s .ends
+ends-of : {ws ends : List ℕ} {s : Side} → side ws ends ≡ s → ends ≡ s .ends
 ends-of e = ap (λ (s : Side). s .ends) e
+
+module _ (ws heads tails : List ℕ) {ws₁ heads₁ : List ℕ} where
+  -- the chunk's three bin words are read, and two links close the gap
+  pub leave-steps : (c : ℕ) {next previous i : ℕ} {ws₂ tails₁ : List ℕ}
+      → next ≡ word ws c nextInBin → previous ≡ word ws c previousInBin → i ≡ word ws c bin
+      → side ws₁ heads₁ ≡ linkM (side ws heads) (i / 8) previous nextInBin next
+      → side ws₂ tails₁ ≡ linkM (side ws₁ tails) (i / 8) next previousInBin previous
+      → books ws₂ heads₁ tails₁ ≡ leaveM (books ws heads tails) c
+  unfolding leaveM
+  leave-steps c en ep ei front back = rw (words-of back, ends-of back, words-of front, ends-of front, ei, ep, en)
+
+  -- a link from below, the chunk's own links, a link from above, the bin word
+  pub put-steps : (i before c after : ℕ) {ws₂ ws₃ ws₄ ws₅ tails₁ : List ℕ} {number : ℕ}
+      → side ws₁ heads₁ ≡ linkM (side ws heads) i before nextInBin c
+      → ws₂ ≡ store ws₁ c previousInBin before → ws₃ ≡ store ws₂ c nextInBin after
+      → side ws₄ tails₁ ≡ linkM (side ws₃ tails) i after previousInBin c
+      → number ≡ i % 32 * 8 → ws₅ ≡ store ws₄ c bin number
+      → books ws₅ heads₁ tails₁ ≡ putM (books ws heads tails) i before c after
+  unfolding putM
+  put-steps i before c after front e₂ e₃ back en e₅ = rw (e₅, en, words-of back, ends-of back, e₃, e₂, words-of front, ends-of front)
 
 module _ (ws : List ℕ) (need c : ℕ) where
   pub fit-spent : (left : ℕ) → left ≤ 0 → firstFitM left ws need c ≡ 0

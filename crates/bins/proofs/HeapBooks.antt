@@ -3,13 +3,12 @@
 use mathlib.Core.Path.{_≡_, refl, sym, ap, _∙_}
 use mathlib.Core.Logic.{_≢_, _⊎_, inl, inr}
 use mathlib.Core.Bool.{true}
-use mathlib.Core.List.{List, [], _∷_, map, List·Memᴰ·head, List·Memᴰ·tail, Memᴰ·map, Memᴰ·cast}
+use mathlib.Core.List.{List, [], _∷_, List·Memᴰ·head, List·Memᴰ·tail}
 use Prim.Native.Nat.{ℕ, _+_, _*_, _≤_, _<_}
 use native.Mathlib.Decide.{decLt}
 use native.Mathlib.Omega.{arith}
-use lib.ListN.{length, getD, length-map}
+use lib.ListN.{length, getD}
 use Rattle.lists.specs.Lists.{Mem, headOr}
-use Rattle.lists.proofs.CountLaws.{distinct-fits}
 use Rattle.record.specs.declared.heap.Heap.{Heap}
 use Rattle.record.specs.declared.table.Binned.the-variants.{Bin}
 use Rattle.record.specs.Heap.{tableOf}
@@ -18,6 +17,7 @@ use Rattle.region.specs.Words.{word, size, bin}
 use Rattle.rules.specs.Shape.{Entry, shape, members, binList}
 use Rattle.rules.specs.Kinds.{ordinary, blockEnd}
 use Rattle.rules.specs.Check.{Linked, Passes}
+use Rattle.rules.proofs.ChainLaws.{places-fit}
 use Rattle.rules.proofs.ShapeLaws.{Leads, read-none, read-head}
 use Rattle.rules.proofs.SpotLaws.{IsOrdinary, bounds, inside, apart, far, few-chunks, is-ordinary}
 use Rattle.bins.specs.Books.{books}
@@ -107,12 +107,10 @@ module _ (ws : List ℕ) (h : Heap) (p : Passes ws h) where
     where
       go : Dec (i < h .bins) → length (binList ws h i) ≤ 8192
       go (yes l) =
-          let place : Entry → ℕ = λ e. e .place in
-          let fits = distinct-fits (binList ws h i) (map place es) (p .bins i l .once)
-          (λ c m. let k = member-entry i c l m in Memᴰ·cast (sym (k .1 .place)) (Memᴰ·map place (k .1 .member))) in
+          let fits = places-fit (binList ws h i) es (p .bins i l .once) (λ c m. let k = member-entry i c l m in (k .0, k .1 .member, k .1 .place)) in
           let b = bounds ws h p in
           let few = few-chunks ws h p in
-          omega (arith, length-map es (λ (e : Entry). e .place))
+          omega arith
       go (no n) = let e = ap length (list-none i (omega arith)) in omega arith
 
   pub ordinary-listed : (e : Entry) → Mem e es → ordinary h e ≡ true

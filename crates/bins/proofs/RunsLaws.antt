@@ -22,6 +22,7 @@ pub record Node (words : ℕ) (c : ℕ) : Type 0 where
 abbrev pub Nodes : ℕ → List ℕ → Type 0
 Nodes words cs = (c : ℕ) → Mem c cs → Node words c
 
+-- the members cs of a run, which stand behind a chunk at p and before one at n
 abbrev pub Run : List ℕ → ℕ → List ℕ → ℕ → Type 0
 Run ws p [] n = Unit {0}
 Run ws p (c ∷ cs) n =
@@ -58,9 +59,16 @@ run-keeps ss ws p n (c ∷ cs) f h =
     let o = f c (List·Memᴰ·head refl) in
     (off ss ws c previousInBin (o .1) ∙ h .0, off ss ws c nextInBin (o .0) ∙ h .1, run-keeps ss ws c n cs (λ d m. f d (List·Memᴰ·tail m)) (h .2))
 
--- the word at index x is no link of a member
+-- a whole list
+pub linked-keeps : (ss : List Store) (ws cs : List ℕ) → ((d : ℕ) → Mem d cs → Clear d ss) → Linked ws 0 cs → Linked (written ws ss) 0 cs
+linked-keeps ss ws cs f h = run-whole (written ws ss) 0 cs (run-keeps ss ws 0 0 cs f (whole-run ws 0 cs h))
+
+-- the word at index x is no link of the chunk at c, and of none of a list
+abbrev pub NoLinkOf : ℕ → ℕ → Type 0
+NoLinkOf x c = (x ≢ c / 4 + nextInBin) × (x ≢ c / 4 + previousInBin)
+
 abbrev pub NoLink : ℕ → List ℕ → Type 0
-NoLink x cs = (c : ℕ) → Mem c cs → (x ≢ c / 4 + nextInBin) × (x ≢ c / 4 + previousInBin)
+NoLink x cs = (c : ℕ) → Mem c cs → NoLinkOf x c
 
 pub followed-off : (x : ℕ) (xs : List ℕ) (v : ℕ) → NoLink x xs → Off x (followedBy xs v)
 followed-off x [] v f = tt
@@ -114,9 +122,7 @@ module _ (words : ℕ) where
     λ c m. at c (g c m) (λ e. out (Memᴰ·cast e m)) .1,
   )
     where
-      at : (c : ℕ) → Node words c → d ≢ c
-          → ((d / 4 + nextInBin ≢ c / 4 + nextInBin) × (d / 4 + nextInBin ≢ c / 4 + previousInBin))
-          × ((d / 4 + previousInBin ≢ c / 4 + nextInBin) × (d / 4 + previousInBin ≢ c / 4 + previousInBin))
+      at : (c : ℕ) → Node words c → d ≢ c → NoLinkOf (d / 4 + nextInBin) c × NoLinkOf (d / 4 + previousInBin) c
       at c gc ne = omega arith
 
   module _ (d : ℕ) (gd : Node words d) where

@@ -21,7 +21,7 @@ use Rattle.rules.specs.Check.{Passes}
 use Rattle.rules.specs.Draft.{meet}
 use Rattle.rules.proofs.ShapeLaws.{Leads}
 use Rattle.bins.specs.Books.{Books, books, leaveM, putM}
-use Rattle.bins.proofs.RunsLaws.{Node, NoLink, meet-off, run-keeps, run-whole, whole-run}
+use Rattle.bins.proofs.RunsLaws.{Node, NoLinkOf, NoLink, meet-off, linked-keeps}
 use Rattle.bins.proofs.BooksLaws.{Holds, Far, left, putAt, putStores, leave-is, leave-holds, leave-others, put-off, put-is, put-holds, put-others, put-head-is, put-tail-is}
 use Rattle.bins.proofs.HeapBooks.{heap-holds, members-far, lists-apart, linked-leads}
 
@@ -39,6 +39,14 @@ pub record OnWay (b : Books) (lists : ℕ → List ℕ) (n : ℕ) : Type 0 where
 abbrev pub relisted : ℕ → List ℕ → (ℕ → List ℕ) → ℕ → List ℕ
 relisted i cs lists j = cond (eqb j i) cs (lists j)
 
+-- the lists without the chunk at c, which was in bin i
+abbrev pub unlisted : ℕ → ℕ → (ℕ → List ℕ) → ℕ → List ℕ
+unlisted i c lists = relisted i (upTo (eqb c) (lists i) ++ past (eqb c) (lists i)) lists
+
+-- d is in the list of bin j then
+abbrev pub InRelisted : ℕ → List ℕ → (ℕ → List ℕ) → ℕ → ℕ → Type 0
+InRelisted i cs lists j d = ((j ≡ i) × Mem d cs) ⊎ ((j ≢ i) × Mem d (lists j))
+
 module _ (i : ℕ) (cs : List ℕ) (lists : ℕ → List ℕ) where
   pub relisted-same : relisted i cs lists i ≡ cs
   relisted-same = rw (eq-eqb i i refl)
@@ -46,44 +54,44 @@ module _ (i : ℕ) (cs : List ℕ) (lists : ℕ → List ℕ) where
   pub relisted-other : (j : ℕ) → j ≢ i → relisted i cs lists j ≡ lists j
   relisted-other j ne = rw (ne-eqb j i ne)
 
-  pub member-relisted : (j : ℕ) {d : ℕ} → Mem d (relisted i cs lists j) → ((j ≡ i) × Mem d cs) ⊎ ((j ≢ i) × Mem d (lists j))
+  pub member-relisted : (j : ℕ) {d : ℕ} → Mem d (relisted i cs lists j) → InRelisted i cs lists j d
   member-relisted j {d} m = go (ℕ-discrete j i)
     where
-      go : Dec (j ≡ i) → ((j ≡ i) × Mem d cs) ⊎ ((j ≢ i) × Mem d (lists j))
+      go : Dec (j ≡ i) → InRelisted i cs lists j d
       go (yes q) = inl (q, rw (eq-eqb j i q) at m)
       go (no ne) = inr (ne, rw (ne-eqb j i ne) at m)
 
--- words that a step leaves alone: none but the links of members, and the links and the bin word of the chunk that is put
+-- words that leaving leaves alone: all but links of members
 pub leave-off : (c : ℕ) (cs : List ℕ) (x : ℕ) → NoLink x cs → Off x (meet (upTo (eqb c) cs) (past (eqb c) cs))
 leave-off c cs x f =
     meet-off x (upTo (eqb c) cs) (past (eqb c) cs) (λ d m. f d (before-from (eqb c) cs m)) (λ d m. f d (after-from (eqb c) cs m))
-
-module _ (b : Books) (i c d k : ℕ) where
-  pub put-word : (xs ys : List ℕ) → NoLink (d / 4 + k) (xs ++ ys)
-      → (d / 4 + k ≢ c / 4 + nextInBin) × (d / 4 + k ≢ c / 4 + previousInBin) × (d / 4 + k ≢ c / 4 + bin)
-      → word (putAt b i xs c ys .words) d k ≡ word (b .words) d k
-  put-word xs ys f h =
-      off (putStores i xs c ys) (b .words) d k
-      (put-off b i xs c ys (d / 4 + k) (λ x m. f x (Memᴰ·append-left ys m)) (λ y m. f y (Memᴰ·append-right xs m)) h)
 
 -- words of a chunk that are no links of members, if members are the chunk itself or far from it
 pub no-link : (d k : ℕ) (cs : List ℕ) → k < 6 → k ≢ nextInBin → k ≢ previousInBin → d % 8 ≡ 0
     → ((c : ℕ) → Mem c cs → (c % 8 ≡ 0) × (d ≢ c → Far d c)) → NoLink (d / 4 + k) cs
 no-link d k cs s n3 n4 z f = λ c m. at c (f c m .0) (f c m .1) (ℕ-discrete d c)
   where
-    at : (c : ℕ) → c % 8 ≡ 0 → (d ≢ c → Far d c) → Dec (d ≡ c) → (d / 4 + k ≢ c / 4 + nextInBin) × (d / 4 + k ≢ c / 4 + previousInBin)
+    at : (c : ℕ) → c % 8 ≡ 0 → (d ≢ c → Far d c) → Dec (d ≡ c) → NoLinkOf (d / 4 + k) c
     at c e g (yes q) = omega arith
     at c e g (no ne) = let r = g ne in omega arith
+
+-- of a chunk far from all members
+pub far-no-link : (d k : ℕ) (cs : List ℕ) → k < 6 → d % 8 ≡ 0 → ((c : ℕ) → Mem c cs → (c % 8 ≡ 0) × Far d c) → NoLink (d / 4 + k) cs
+far-no-link d k cs s z f = λ c m. at c (f c m .0) (f c m .1)
+  where
+    at : (c : ℕ) → c % 8 ≡ 0 → Far d c → NoLinkOf (d / 4 + k) c
+    at c e g = omega arith
 
 -- of the first three words of a header, if members below it end below it
 pub header-no-link : (d k : ℕ) (cs : List ℕ) → k < 3 → d % 8 ≡ 0
     → ((c : ℕ) → Mem c cs → (c % 8 ≡ 0) × (c < d → c + 24 ≤ d)) → NoLink (d / 4 + k) cs
 header-no-link d k cs s z f = λ c m. at c (f c m .0) (f c m .1) (decLt c d)
   where
-    at : (c : ℕ) → c % 8 ≡ 0 → (c < d → c + 24 ≤ d) → Dec (c < d) → (d / 4 + k ≢ c / 4 + nextInBin) × (d / 4 + k ≢ c / 4 + previousInBin)
+    at : (c : ℕ) → c % 8 ≡ 0 → (c < d → c + 24 ≤ d) → Dec (c < d) → NoLinkOf (d / 4 + k) c
     at c e g (yes q) = let r = g q in omega arith
     at c e g (no ne) = omega arith
 
+-- a heap that passes, before the call
 pub way-begins : (ws : List ℕ) (h : Heap) → Passes ws h → OnWay (books ws (h .heads) (h .tails)) (binList ws h) (h .bins)
 way-begins ws h p =
     let t = p .table in
@@ -98,6 +106,7 @@ way-begins ws h p =
     }
 
 module _ (b : Books) (lists : ℕ → List ℕ) (n : ℕ) (w : OnWay b lists n) where
+  -- so the rules read these lists
   pub way-leads : (j : ℕ) → j < n → Leads (b .words) (lists j)
   way-leads j l = let h = w .holds j l in linked-leads (b .words) 0 (lists j) (h .links) (λ c m. h .nodes c m .some)
 
@@ -121,9 +130,7 @@ module _ (b : Books) (lists : ℕ → List ℕ) (n : ℕ) (w : OnWay b lists n) 
           record {
             head = h .head;
             tail = h .tail;
-            links =
-                run-whole _ 0 (lists j)
-                (run-keeps ss (b .words) 0 0 (lists j) (λ d m. let o = f j d l m in (o .0, o .1)) (whole-run (b .words) 0 (lists j) (h .links)));
+            links = linked-keeps ss (b .words) (lists j) (λ d m. let o = f j d l m in (o .0, o .1)) (h .links);
             nodes = rw length-written (h .nodes);
             once = h .once;
           }
@@ -146,7 +153,7 @@ module _ (b : Books) (lists : ℕ → List ℕ) (n : ℕ) (w : OnWay b lists n) 
     stays : (j : ℕ) {d : ℕ} → Mem d (relisted i (xs ++ ys) lists j) → Mem d (lists j)
     stays j {d} k = go (member-relisted i (xs ++ ys) lists j k)
       where
-        go : ((j ≡ i) × Mem d (xs ++ ys)) ⊎ ((j ≢ i) × Mem d (lists j)) → Mem d (lists j)
+        go : InRelisted i (xs ++ ys) lists j d → Mem d (lists j)
         go (inl q) = rw (q .0, s) (member-with xs c ys (q .1))
         go (inr q) = q .1
 
@@ -198,7 +205,7 @@ module _ (b : Books) (lists : ℕ → List ℕ) (n : ℕ) (w : OnWay b lists n) 
         twice e (inl k) = distinct-parts xs (c ∷ ys) (before .once) .none d k (List·Memᴰ·head (sym e))
         twice e (inr k) = distinct-parts xs (c ∷ ys) (before .once) .right .0 (rw (← e) at k)
 
-        gone : c ≡ d → ((j ≡ i) × Mem d (xs ++ ys)) ⊎ ((j ≢ i) × Mem d (lists j)) → ⊥
+        gone : c ≡ d → InRelisted i (xs ++ ys) lists j d → ⊥
         gone e (inl q) = twice e (List·Memᴰ·append-cases xs (q .1))
         gone e (inr q) = w .apart j i lj l (q .0) d (q .1) (rw e at here)
 
@@ -208,15 +215,18 @@ module _ (b : Books) (lists : ℕ → List ℕ) (n : ℕ) (w : OnWay b lists n) 
     held : Holds b i (xs ++ ys)
     held = rw s at (w .holds i l)
 
-    -- a member is one that was, or it is the chunk at c
-    pub is-from : (j : ℕ) {d : ℕ} → Mem d (relisted i (xs ++ c ∷ ys) lists j) → Mem d (lists j) ⊎ ((j ≡ i) × (d ≡ c))
+    -- a member d of bin j is one that was, or it is the chunk at c
+    abbrev From : ℕ → ℕ → Type 0
+    From j d = Mem d (lists j) ⊎ ((j ≡ i) × (d ≡ c))
+
+    pub is-from : (j : ℕ) {d : ℕ} → Mem d (relisted i (xs ++ c ∷ ys) lists j) → From j d
     is-from j {d} k = go (member-relisted i (xs ++ c ∷ ys) lists j k)
       where
-        own : (j ≡ i) → (d ≡ c) ⊎ Mem d (xs ++ ys) → Mem d (lists j) ⊎ ((j ≡ i) × (d ≡ c))
+        own : (j ≡ i) → (d ≡ c) ⊎ Mem d (xs ++ ys) → From j d
         own q (inl e) = inr (q, e)
         own q (inr m) = inl (rw (q, s) m)
 
-        go : ((j ≡ i) × Mem d (xs ++ c ∷ ys)) ⊎ ((j ≢ i) × Mem d (lists j)) → Mem d (lists j) ⊎ ((j ≡ i) × (d ≡ c))
+        go : InRelisted i (xs ++ c ∷ ys) lists j d → From j d
         go (inl q) = own (q .0) (member-without xs c ys (q .1))
         go (inr q) = inl (q .1)
 
@@ -231,23 +241,24 @@ module _ (b : Books) (lists : ℕ → List ℕ) (n : ℕ) (w : OnWay b lists n) 
             rw (ne-eqb j i ne)
             (put-others b i xs c ys j (lists j) (w .holds j lj) ne held gc (λ d m. free j d lj m) (λ d m k. w .apart j i lj l ne d m (rw s k)))
 
-    put-apart : (i₁ j d : ℕ) → i₁ < n → j < n → i₁ ≢ j → Mem d (lists i₁) ⊎ ((i₁ ≡ i) × (d ≡ c)) → Mem d (lists j) ⊎ ((j ≡ i) × (d ≡ c)) → ⊥
+    put-apart : (i₁ j d : ℕ) → i₁ < n → j < n → i₁ ≢ j → From i₁ d → From j d → ⊥
     put-apart i₁ j d l₁ lj ne (inl m) (inl k) = w .apart i₁ j l₁ lj ne d m k
     put-apart i₁ j d l₁ lj ne (inl m) (inr q) = let f = free i₁ d l₁ m in omega arith
     put-apart i₁ j d l₁ lj ne (inr p) (inl k) = let f = free j d lj k in omega arith
     put-apart i₁ j d l₁ lj ne (inr p) (inr q) = omega arith
 
-    put-far : (i₁ j d e : ℕ) → i₁ < n → j < n → d ≢ e → Mem d (lists i₁) ⊎ ((i₁ ≡ i) × (d ≡ c)) → Mem e (lists j) ⊎ ((j ≡ i) × (e ≡ c)) → Far d e
+    put-far : (i₁ j d e : ℕ) → i₁ < n → j < n → d ≢ e → From i₁ d → From j e → Far d e
     put-far i₁ j d e l₁ lj ne (inl m) (inl k) = w .far i₁ j d e l₁ lj m k ne
     put-far i₁ j d e l₁ lj ne (inl m) (inr q) = let f = free i₁ d l₁ m in omega arith
     put-far i₁ j d e l₁ lj ne (inr p) (inl k) = let f = free j e lj k in omega arith
     put-far i₁ j d e l₁ lj ne (inr p) (inr q) = omega arith
 
-    put-binned : (j d : ℕ) → j < n → Mem d (lists j) ⊎ ((j ≡ i) × (d ≡ c)) → word (putAt b i xs c ys .words) d bin ≡ 8 * j
+    put-binned : (j d : ℕ) → j < n → From j d → word (putAt b i xs c ys .words) d bin ≡ 8 * j
     put-binned j d lj (inl m) =
         let g = w .holds j lj .nodes d m in
         let f = free j d lj m in
-        put-word b i c d bin xs ys (rw s at (way-no-link i j d bin l lj m (omega arith) (omega arith) (omega arith))) (omega arith)
+        off (putStores i xs c ys) (b .words) d bin
+        (put-off b i xs c ys (d / 4 + bin) (rw s at (way-no-link i j d bin l lj m (omega arith) (omega arith) (omega arith))) (omega arith))
         ∙ w .binned j d lj m
     put-binned j d lj (inr q) =
         let ss : List Store = meet xs (c ∷ []) ++ meet (c ∷ []) ys in
@@ -272,16 +283,16 @@ module _ (b : Books) (lists : ℕ → List ℕ) (n : ℕ) (w : OnWay b lists n) 
   module _ (i c : ℕ) (l : i < n) (m : Mem c (lists i)) where
     pub way-leaves : let xs = upTo (eqb c) (lists i) in
         let ys = past (eqb c) (lists i) in
-        (leaveM b c ≡ left b i xs ys) × OnWay (left b i xs ys) (relisted i (xs ++ ys) lists) n
+        (leaveM b c ≡ left b i xs ys) × OnWay (left b i xs ys) (unlisted i c lists) n
     way-leaves = way-leaves-between i c l (upTo (eqb c) (lists i)) (past (eqb c) (lists i)) (split-at-member m)
 
-    pub way-left-far : (j d : ℕ) → j < n → Mem d (relisted i (upTo (eqb c) (lists i) ++ past (eqb c) (lists i)) lists j) → Far c d
+    pub way-left-far : (j d : ℕ) → j < n → Mem d (unlisted i c lists j) → Far c d
     way-left-far = left-far i c l (upTo (eqb c) (lists i)) (past (eqb c) (lists i)) (split-at-member m)
 
-    pub way-stays : (j : ℕ) {d : ℕ} → Mem d (relisted i (upTo (eqb c) (lists i) ++ past (eqb c) (lists i)) lists j) → Mem d (lists j)
+    pub way-stays : (j : ℕ) {d : ℕ} → Mem d (unlisted i c lists j) → Mem d (lists j)
     way-stays = stays i c l (upTo (eqb c) (lists i)) (past (eqb c) (lists i)) (split-at-member m)
 
-    pub way-remains : (j : ℕ) {d : ℕ} → d ≢ c → Mem d (lists j) → Mem d (relisted i (upTo (eqb c) (lists i) ++ past (eqb c) (lists i)) lists j)
+    pub way-remains : (j : ℕ) {d : ℕ} → d ≢ c → Mem d (lists j) → Mem d (unlisted i c lists j)
     way-remains = remains i c l (upTo (eqb c) (lists i)) (past (eqb c) (lists i)) (split-at-member m)
 
   -- at its head, at its tail

@@ -51,9 +51,9 @@ module _ (ws : List ℕ) (bytes : ℕ) where
       go (yes u) = sym (end-up c u)
       go (no k) = absurd (n (end-stop c k))
 
--- a chunk ends above its place
-pub past-end : (ws : List ℕ) (bytes c n e : ℕ) → n ≡ word ws c forward → e ≡ endOf bytes c n → c ≤ bytes → c ≤ e
-past-end ws bytes c n e en ee h = rw (ee, en) (go (ℕ-discrete (endAt ws bytes c) bytes))
+-- a chunk does not end below its place
+pub end-above : (ws : List ℕ) (bytes c : ℕ) {n e : ℕ} → n ≡ word ws c forward → e ≡ endOf bytes c n → c ≤ bytes → c ≤ e
+end-above ws bytes c en ee h = rw (ee, en) (go (ℕ-discrete (endAt ws bytes c) bytes))
   where
     go : Dec (endAt ws bytes c ≡ bytes) → c ≤ endAt ws bytes c
     go (yes q) = omega arith

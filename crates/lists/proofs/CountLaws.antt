@@ -1,25 +1,20 @@
 -- Counting: a list in which no member stands twice is no longer than a list that has all its members,
--- and if it is as long, it has all of the other's. Assumes nothing.
-use mathlib.Core.Path.{_≡_, refl, sym, ap, _∙_}
+-- and if it is as long, it has all of the other's. And lists gathered one after the other. Assumes nothing.
+use mathlib.Core.Path.{_≡_, refl, ap}
 use mathlib.Core.Logic.{_⊎_, inl, inr}
-use mathlib.Core.Bool.{Bool, true, false, false≢true}
 use mathlib.Core.List.{List, [], _∷_, _++_, List·Memᴰ·head, List·Memᴰ·tail, List·Memᴰ·not-nil, List·Memᴰ·append-cases, Memᴰ·append-left, Memᴰ·append-right}
 use Prim.Native.Nat.{ℕ, zero, suc, _+_, _≤_, _<_}
 use native.Mathlib.Decide.{ℕ-discrete}
 use native.Mathlib.Omega.{arith}
 use lib.Dec.{eqb}
 use lib.ListN.{length, length-append}
-use Rattle.lists.specs.Lists.{Mem, any, total, upTo, past, numbersFrom, gathered, Distinct}
-use Rattle.lists.proofs.ListsLaws.{is-member}
-use Rattle.lists.proofs.MembersLaws.{member-without}
+use Rattle.lists.specs.Lists.{Mem, total, upTo, past, numbersFrom, gathered, Distinct}
+use Rattle.lists.proofs.ListsLaws.{decided, is-member}
+use Rattle.lists.proofs.MembersLaws.{member-without, distinct-joined}
 use Rattle.lists.proofs.SplitLaws.{split-at-member}
 
 pub member? : (c : ℕ) (xs : List ℕ) → Dec (Mem c xs)
-member? c xs = by (any (eqb c) xs) refl
-  where
-    by : (t : Bool) → any (eqb c) xs ≡ t → Dec (Mem c xs)
-    by true e = yes (is-member c xs .0 e)
-    by false e = no (λ m. false≢true (sym e ∙ is-member c xs .1 m))
+member? c xs = decided (is-member c xs)
 
 pub distinct-fits : (xs ys : List ℕ) → Distinct xs → ((x : ℕ) → Mem x xs → Mem x ys) → length xs ≤ length ys
 distinct-fits [] ys u h = omega arith
@@ -81,16 +76,9 @@ module _ (lists : ℕ → List ℕ) where
       → Distinct (gathered lists (numbersFrom b n))
   gathered-once zero b u a = tt
   gathered-once (suc n) b u a =
-      join (lists b) (u b (omega arith) (omega arith))
-      (gathered-once n (suc b) (λ i lo hi. u i (omega arith) (omega arith)) (λ i j lo l hi. a i j (omega arith) l (omega arith)))
-      (λ c m k. let r = gathered-from n (suc b) k in a b (r .0) (omega arith) (omega (arith, r .1 .0)) (omega (arith, r .1 .1)) c m (r .2))
-    where
-      join : (xs : List ℕ) → Distinct xs → Distinct (gathered lists (numbersFrom (suc b) n))
-          → ((c : ℕ) → Mem c xs → Mem c (gathered lists (numbersFrom (suc b) n)) → ⊥) → Distinct (xs ++ gathered lists (numbersFrom (suc b) n))
-      join [] ux uy ap = uy
-      join (x ∷ xs) ux uy ap =
-          (λ m. go (List·Memᴰ·append-cases xs m), join xs (ux .1) uy (λ c k. ap c (List·Memᴰ·tail k)))
-        where
-          go : Mem x xs ⊎ Mem x (gathered lists (numbersFrom (suc b) n)) → ⊥
-          go (inl k) = ux .0 k
-          go (inr k) = ap x (List·Memᴰ·head refl) k
+      distinct-joined (lists b) (gathered lists (numbersFrom (suc b) n))
+      (record {
+        left = u b (omega arith) (omega arith);
+        right = gathered-once n (suc b) (λ i lo hi. u i (omega arith) (omega arith)) (λ i j lo l hi. a i j (omega arith) l (omega arith));
+        none = λ c m k. let r = gathered-from n (suc b) k in a b (r .0) (omega arith) (omega (arith, r .1 .0)) (omega (arith, r .1 .1)) c m (r .2);
+      })

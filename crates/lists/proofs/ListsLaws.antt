@@ -29,14 +29,6 @@ module _ {P Q : Type 0} where
   pub meaning : {t : Bool} → Decides t P → (P → Q) → (Q → P) → Decides t Q
   meaning d f g = (λ h. f (d .0 h), λ q. d .1 (g q))
 
-  pub both : {s t : Bool} → Decides s P → Decides t Q → Decides (s && t) (P × Q)
-  both {s} {t} = go s t
-    where
-      go : (s t : Bool) → Decides s P → Decides t Q → Decides (s && t) (P × Q)
-      go true true d e = (λ h. (d .0 refl, e .0 refl), λ h. refl)
-      go true false d e = (λ h. absurd (false≢true h), λ h. e .1 (h .1))
-      go false t d e = (λ h. absurd (false≢true h), λ h. d .1 (h .0))
-
   -- the second test need decide its fact only where the first holds
   pub both-if : {s t : Bool} → Decides s P → (P → Decides t Q) → Decides (s && t) (P × Q)
   both-if {s} {t} = go s t
@@ -44,6 +36,9 @@ module _ {P Q : Type 0} where
       go : (s t : Bool) → Decides s P → (P → Decides t Q) → Decides (s && t) (P × Q)
       go true t d e = let p = d .0 refl in (λ h. (p, e p .0 h), λ h. e p .1 (h .1))
       go false t d e = (λ h. absurd (false≢true h), λ h. d .1 (h .0))
+
+  pub both : {s t : Bool} → Decides s P → Decides t Q → Decides (s && t) (P × Q)
+  both d e = both-if d (λ _. e)
 
   pub or-else : {s t : Bool} → Decides s P → Decides t Q → Decides (s || t) (P ⊎ Q)
   or-else {s} {t} = go s t
@@ -74,16 +69,26 @@ not-so {t} {P} = go t
     go true d n = absurd (n (d .0 refl))
     go false d n = refl
 
+-- a fact with a test can be decided
+pub decided : {t : Bool} {P : Type 0} → Decides t P → Dec P
+decided {t} {P} = go t
+  where
+    go : (t : Bool) → Decides t P → Dec P
+    go true d = yes (d .0 refl)
+    go false d = no (λ p. false≢true (d .1 p))
+
+-- what holds of the first and of all others holds of each
+pub each-cons : {A : Type 0} {P : A → Type 0} {x : A} {xs : List A} → P x → ((y : A) → Mem y xs → P y)
+    → (y : A) → Mem y (x ∷ xs) → P y
+each-cons here rest y (List·Memᴰ·head e) = rw e here
+each-cons here rest y (List·Memᴰ·tail m) = rest y m
+
 module _ {A : Type 0} {P : A → Type 0} {p : A → Bool} where
   -- a test holds of every member
   pub for-each : ((x : A) → Decides (p x) (P x)) → (xs : List A) → Decides (every p xs) ((x : A) → Mem x xs → P x)
   for-each d [] = (λ h x m. absurd (List·Memᴰ·not-nil m), λ f. refl)
   for-each d (x ∷ xs) =
-      meaning (both (d x) (for-each d xs)) (λ h. apart (h .0) (h .1)) (λ f. (f x (List·Memᴰ·head refl), λ y m. f y (List·Memᴰ·tail m)))
-    where
-      apart : P x → ((y : A) → Mem y xs → P y) → (y : A) → Mem y (x ∷ xs) → P y
-      apart here rest y (List·Memᴰ·head e) = rw e here
-      apart here rest y (List·Memᴰ·tail m) = rest y m
+      meaning (both (d x) (for-each d xs)) (λ h. each-cons (h .0) (h .1)) (λ f. (f x (List·Memᴰ·head refl), λ y m. f y (List·Memᴰ·tail m)))
 
   -- a test holds of some member
   pub for-some : ((x : A) → Decides (p x) (P x)) → (xs : List A) → Decides (any p xs) ((x : A) × Mem x xs × P x)

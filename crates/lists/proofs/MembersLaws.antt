@@ -2,7 +2,7 @@
 use mathlib.Core.Path.{_≡_, refl, sym, ap, _∙_}
 use mathlib.Core.Bool.{Bool, true, false, cond}
 use mathlib.Core.Logic.{_⊎_, inl, inr}
-use mathlib.Core.List.{List, [], _∷_, _++_, List·Memᴰ·head, List·Memᴰ·tail, List·Memᴰ·not-nil, Memᴰ·append-left, Memᴰ·append-right, Memᴰ·cast}
+use mathlib.Core.List.{List, [], _∷_, _++_, List·Memᴰ·head, List·Memᴰ·tail, List·Memᴰ·not-nil, List·Memᴰ·append-cases, Memᴰ·append-left, Memᴰ·append-right, Memᴰ·cast}
 use Prim.Native.Nat.{ℕ, suc, _≤_}
 use native.Mathlib.Omega.{arith}
 use lib.ListN.{length}
@@ -51,7 +51,7 @@ distinct-with (x ∷ xs) c ys out u =
     neither (inl e) = out (List·Memᴰ·head (sym e))
     neither (inr m) = u .0 m
 
--- the two parts of a list in which no member stands twice have none in common
+-- the two parts of a list in which no member stands twice have none in common, and the other way
 pub record Apart (xs ys : List ℕ) : Type 0 where
   pub left : Distinct xs
   pub right : Distinct ys
@@ -70,6 +70,17 @@ distinct-parts (x ∷ xs) ys u =
     common : (d : ℕ) → ((e : ℕ) → Mem e xs → Mem e ys → ⊥) → Mem d (x ∷ xs) → Mem d ys → ⊥
     common d f (List·Memᴰ·head e) k = u .0 (Memᴰ·append-right xs (Memᴰ·cast (sym e) k))
     common d f (List·Memᴰ·tail m) k = f d m k
+
+pub distinct-joined : (xs ys : List ℕ) → Apart xs ys → Distinct (xs ++ ys)
+distinct-joined [] ys a = a .right
+distinct-joined (x ∷ xs) ys a = (
+  λ m. twice (List·Memᴰ·append-cases xs m),
+  distinct-joined xs ys (record { left = a .left .1; right = a .right; none = λ d m k. a .none d (List·Memᴰ·tail m) k }),
+)
+  where
+    twice : Mem x xs ⊎ Mem x ys → ⊥
+    twice (inl k) = a .left .0 k
+    twice (inr k) = a .none x (List·Memᴰ·head refl) k
 
 -- those for which a test holds
 module _ {A : Type 0} (p : A → Bool) where

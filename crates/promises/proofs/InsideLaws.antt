@@ -16,7 +16,7 @@ use Rattle.record.specs.declared.answers.Refusal.the-variants.{NotThere}
 use Rattle.record.specs.Heap.{empty, withMerge}
 use Rattle.region.specs.Words.{Store, word}
 use Rattle.region.proofs.PrefixLaws.{Below, below-both}
-use Rattle.region.proofs.WordsLaws.{length-written}
+use Rattle.region.proofs.WordsLaws.{fall-so, length-written}
 use Rattle.rules.specs.Shape.{Entry, heapBytes}
 use Rattle.rules.specs.Kinds.{blockOf, blockEnd, blockWords, overhead}
 use Rattle.rules.specs.Check.{Passes, passes}
@@ -47,8 +47,7 @@ use Rattle.promises.proofs.GrantedLaws.{fillFrom}
 
 -- what is written into a block is below its end
 within-below : (m : ℕ) (e : Entry) (ss : List Store) → blockEnd e / 4 ≤ m → Within e ss → Below m ss
-within-below m e [] l w = tt
-within-below m e (s ∷ ss) l w = (omega (arith, w .1), within-below m e ss l (w .2))
+within-below m e ss l w = fall-so _ (λ i. i < m) (λ i b. omega (arith, b .1)) ss w
 
 -- what the draft writes is below the heap's end
 abbrev Inner : Heap → Draft → Type 0

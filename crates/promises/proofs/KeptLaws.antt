@@ -205,7 +205,7 @@ module _ (ws : List ℕ) (h : Heap) (p : Passes ws h) where
 stores-pass : (ss : List Store) (s : State) → Passing s → OnLiveBlocks s ss → Passing (afterStores ss s)
 stores-pass [] s p o = p
 stores-pass (x ∷ ss) s p ((e, m, l, (lo, hi)), o) =
-    let f = fills (s .words) (s .heap) p e m l (x ∷ []) (lo, hi, tt) in
+    let f = fills (s .words) (s .heap) p e m l (x ∷ []) ((lo, hi), tt) in
     stores-pass ss (afterStores (x ∷ []) s) (f .2) (still ss o (f .0))
   where
     still : (ys : List Store) → OnLiveBlocks s ys

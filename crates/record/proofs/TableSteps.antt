@@ -1,5 +1,6 @@
 -- How the tests and counts of a table go on by one size, as the walks of the code need it. Assumes nothing.
 use Prim.Native.Nat.{ℕ, suc, _+_, _*_, _≤_, _<_, _-_, _/_, _%_}
+use native.Mathlib.Decide.{ℕ-discrete}
 use native.Mathlib.Omega.{arith}
 use mathlib.Core.Path.{_≡_, refl, sym}
 use mathlib.Core.Bool.{Bool, true, false}
@@ -70,6 +71,15 @@ small-eights s m h = go (ltb (s / 8 - 3) m) refl
 
 pub small-low : (s m : ℕ) → s / 8 < 3 → ltb s (24 + 8 * m) ≡ true
 small-low s m h = lt-ltb s (24 + 8 * m) (omega arith)
+
+-- all sizes from bin i on are above s, and so is the one below it
+pub above-one-more : (t : List ℕ) (i s : ℕ) → ((j : ℕ) → i ≤ j → j < length t → s < getD t j 0) → s < getD t (i - 1) 0
+    → (j : ℕ) → i - 1 ≤ j → j < length t → s < getD t j 0
+above-one-more t i s above here j lo hi = go (ℕ-discrete j (i - 1))
+  where
+    go : Dec (j ≡ i - 1) → s < getD t j 0
+    go (yes e) = rw e here
+    go (no n) = above j (omega arith) hi
 
 -- which part of the test for a bin decides
 module _ (t : List ℕ) (i s : ℕ) where

@@ -5,15 +5,14 @@ use Prim.Native.Nat.{ℕ, _+_, _/_, _<_}
 use lib.ListN.{take, drop, take-append-drop}
 use lib.Seq.{take-set-lt, drop-set-lt}
 use Rattle.region.specs.Words.{store, Store, written}
+use Rattle.region.proofs.WordsLaws.{Fall, fall-both}
 
 -- every store is to a word below m
 abbrev pub Below : ℕ → List Store → Type 0
-Below m [] = Unit {0}
-Below m (s ∷ ss) = (s .chunk / 4 + s .number < m) × Below m ss
+Below m ss = Fall (λ w. w < m) ss
 
 pub below-both : (m : ℕ) (ss ts : List Store) → Below m ss → Below m ts → Below m (ss ++ ts)
-below-both m [] ts a b = b
-below-both m (s ∷ ss) ts a b = (a .0, below-both m ss ts (a .1) b)
+below-both m ss ts f g = fall-both (λ w. w < m) ss ts f g
 
 module _ (m : ℕ) (ws : List ℕ) (c k v : ℕ) (h : c / 4 + k < m) where
   pub take-store : take m (store ws c k v) ≡ store (take m ws) c k v

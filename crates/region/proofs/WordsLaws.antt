@@ -29,14 +29,25 @@ pub written-append : (ss ts : List Store) (ws : List ℕ) → written ws (ss ++ 
 written-append [] ts ws = refl
 written-append (s ∷ ss) ts ws = written-append ss ts _
 
+-- every store is to a word whose index has the property
+abbrev pub Fall : (ℕ → Type 0) → List Store → Type 0
+Fall P [] = Unit {0}
+Fall P (s ∷ ss) = P (s .chunk / 4 + s .number) × Fall P ss
+
+pub fall-both : (P : ℕ → Type 0) (ss ts : List Store) → Fall P ss → Fall P ts → Fall P (ss ++ ts)
+fall-both P [] ts f g = g
+fall-both P (s ∷ ss) ts f g = (f .0, fall-both P ss ts (f .1) g)
+
+pub fall-so : (P Q : ℕ → Type 0) → ((i : ℕ) → P i → Q i) → (ss : List Store) → Fall P ss → Fall Q ss
+fall-so P Q so [] f = tt
+fall-so P Q so (s ∷ ss) f = (so _ (f .0), fall-so P Q so ss (f .1))
+
 -- none of the stores is to the word at index i
 abbrev pub Off : ℕ → List Store → Type 0
-Off i [] = Unit {0}
-Off i (s ∷ ss) = (i ≢ s .chunk / 4 + s .number) × Off i ss
+Off i ss = Fall (λ w. i ≢ w) ss
 
-pub off-both : (x : ℕ) (ss ts : List Store) → Off x ss → Off x ts → Off x (ss ++ ts)
-off-both x [] ts h k = k
-off-both x (s ∷ ss) ts h k = (h .0, off-both x ss ts (h .1) k)
+pub off-both : (i : ℕ) (ss ts : List Store) → Off i ss → Off i ts → Off i (ss ++ ts)
+off-both i ss ts f g = fall-both (λ w. i ≢ w) ss ts f g
 
 pub off : (ss : List Store) (ws : List ℕ) (d j : ℕ) → Off (d / 4 + j) ss → word (written ws ss) d j ≡ word ws d j
 off [] ws d j h = refl

@@ -14,13 +14,14 @@ use borrow.Author.Tests.{lt-ltb, le-ltb}
 use Rattle.rules.specs.Outcome.{changeOf}
 use Rattle.replies.specs.Replies.{changeM}
 
-either-small : (t : Bool) (x y n : ℕ) → x < n → y < n → mag (cond t (negsuc x) (pos y)) < n
-either-small true x y n p q = p
-either-small false x y n p q = q
+-- the magnitude of a difference, whichever of the two is greater
+either-small : (t : Bool) {x y n : ℕ} → x < n → y < n → mag (cond t (negsuc x) (pos y)) < n
+either-small true p q = p
+either-small false p q = q
 
 difference-fits : (a b : ℕ) → a ≤ 65536 → b ≤ 65536 → SFits w32 (pos a -ℤ pos b)
 difference-fits a zero p q = record { sfits = omega arith }
-difference-fits a (suc b) p q = record { sfits = either-small (ltb a (suc b)) _ _ _ (omega arith) (omega arith) }
+difference-fits a (suc b) p q = record { sfits = either-small (ltb a (suc b)) (omega arith) (omega arith) }
 
 module _ (a b : ℕ) (p : a ≤ 65536) (q : b ≤ 65536) where
   pub machine-fits : SFits w32 (toZ w32 a -ℤ toZ w32 b)

@@ -1,21 +1,18 @@
 -- What holds of the chain of any region, before anything is tested: places go up, so that each has one chunk. Assumes nothing.
 use mathlib.Core.Path.{_≡_, refl, sym, ap, _∙_}
 use mathlib.Core.Bool.{Bool, true, false, cond}
-use mathlib.Core.List.{List, [], _∷_, List·Memᴰ·head, List·Memᴰ·tail, List·Memᴰ·not-nil}
+use mathlib.Core.List.{List, [], _∷_, map, List·Memᴰ·head, List·Memᴰ·tail, List·Memᴰ·not-nil, Memᴰ·map, Memᴰ·cast}
 use Prim.Native.Nat.{ℕ, suc, _≤_, _<_}
 use native.Mathlib.Omega.{arith}
+use lib.ListN.{length, length-map}
 use Rattle.lists.specs.Lists.{Mem, headOr, lastOr, keep, Distinct}
+use Rattle.lists.proofs.CountLaws.{distinct-fits}
+use Rattle.lists.proofs.ListsLaws.{each-cons}
 use Rattle.region.specs.Words.{word, forward}
 use Rattle.rules.specs.Shape.{Entry, flagsAt, shape}
 use Rattle.rules.specs.Kinds.{outside}
 use Rattle.rules.specs.Ask.{placesOf}
 use Rattle.rules.proofs.ShapeLaws.{Up, lastEntry, upEntry, shape-is, chain-by}
-
--- what holds of the first and of all others holds of each
-pub each-cons : {A : Type 0} {P : A → Type 0} {x : A} {xs : List A} → P x → ((y : A) → Mem y xs → P y)
-    → (y : A) → Mem y (x ∷ xs) → P y
-each-cons here rest y (List·Memᴰ·head e) = rw e here
-each-cons here rest y (List·Memᴰ·tail m) = rest y m
 
 -- places go up, the first of them from c on
 abbrev pub Rising : ℕ → List Entry → Type 0
@@ -60,6 +57,13 @@ module _ (p : Entry → Bool) where
           → Distinct (placesOf (cond t (e ∷ keep p es) (keep p es)))
       go true d n = (n, d)
       go false d n = d
+
+-- places of chunks that all differ are no more than the chunks
+pub places-fit : (cs : List ℕ) (es : List Entry) → Distinct cs → ((c : ℕ) → Mem c cs → (e : Entry) × Mem e es × (e .place ≡ c)) → length cs ≤ length es
+places-fit cs es once f =
+    let place : Entry → ℕ = λ e. e .place in
+    let l = distinct-fits cs (map place es) once (λ c m. let r = f c m in Memᴰ·cast (sym (r .2)) (Memᴰ·map place (r .1))) in
+    omega (arith, length-map es (λ (e : Entry). e .place))
 
 -- what is known of the chain from c on before anything is tested
 pub record Chain (ws : List ℕ) (bytes c : ℕ) (es : List Entry) : Type 0 where

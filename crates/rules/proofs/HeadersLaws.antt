@@ -6,7 +6,6 @@ use mathlib.Core.List.{List, [], _∷_, List·Memᴰ·head, List·Memᴰ·tail}
 use Prim.Native.Nat.{ℕ, zero, suc, _<_}
 use native.Mathlib.Decide.{ℕ-discrete, decLt}
 use native.Mathlib.Omega.{arith}
-use borrow.Author.Tests.{ne-eqb}
 use lib.ListN.{getD}
 use Rattle.lists.specs.Lists.{Mem}
 use Rattle.record.specs.declared.heap.Heap.{Heap}
@@ -15,18 +14,13 @@ use Rattle.rules.specs.Shape.{Entry, shape, membersFrom, members, binLis
 use Rattle.rules.specs.Kinds.{unused}
 use Rattle.rules.specs.Check.{Fits, Backed, Sound, Reserved, Linked, Listed, Passes, PassesAs}
 use Rattle.rules.specs.Draft.{Draft, asRead}
-use Rattle.rules.proofs.ShapeLaws.{Up, lastEntry, upEntry, chainFrom, shape-goes, shape-stops, shape-is, chain-by, read-none}
+use Rattle.rules.proofs.ShapeLaws.{Up, lastEntry, upEntry, chainFrom, shape-goes, shape-stops, shape-is, chain-by, read-none, read-on}
 use Rattle.rules.proofs.SpotLaws.{ends, is-ordinary}
 
 -- the header of the chunk e is the same in two regions
 pub record SameHeader (ws ws′ : List ℕ) (e : Entry) : Type 0 where
   pub links : (word ws (e .place) forward ≡ word ws′ (e .place) forward) × (word ws (e .place) backward ≡ word ws′ (e .place) backward)
   pub words : e .flags ≡ unused → (k : ℕ) → k < 6 → word ws (e .place) k ≡ word ws′ (e .place) k
-
--- a bin's reading goes on at every place but 0
-more-members : (k : ℕ) (ws : List ℕ) (c : ℕ) → (c ≡ 0 → ⊥)
-    → membersFrom (suc k) ws c ≡ c ∷ membersFrom k ws (word ws c nextInBin)
-more-members k ws c n = rw (ne-eqb c 0 n, membersFrom)
 
 -- a bin's reading is the same in two regions where the forward bin links of its members are
 members-same : (ws ws′ : List ℕ) (k c : ℕ)
@@ -37,10 +31,10 @@ members-same ws ws′ (suc k) c f =
     elim (ℕ-discrete c 0) [
       | yes z ↦ rw z refl
       | no n ↦
-          let g = more-members k ws c n in
+          let g = read-on ws k c n in
           let links : (d : ℕ) → Mem d (c ∷ membersFrom k ws (word ws c nextInBin)) → word ws d nextInBin ≡ word ws′ d nextInBin =
           λ d m. f d (rw g m) in
-          more-members k ws′ c n
+          read-on ws′ k c n
           ∙ ap (λ (ds : List ℕ). c ∷ ds)
           (ap (membersFrom k ws′) (sym (links c (List·Memᴰ·head refl)))
           ∙ members-same ws ws′ k (word ws c nextInBin) (λ d m. links d (List·Memᴰ·tail m)))

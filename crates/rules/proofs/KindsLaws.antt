@@ -1,9 +1,10 @@
 -- Which facts about a chunk make it of which kind, and what its kind says of it. Assumes nothing.
 use mathlib.Core.Path.{_≡_, refl, subst}
-use mathlib.Core.Bool.{true, false, false≢true}
+use mathlib.Core.Bool.{true, false, cond, false≢true}
 use Prim.Native.Nat.{ℕ, _+_, _%_, _≤_, _<_}
 use native.Mathlib.Decide.{ℕ-discrete}
 use native.Mathlib.Omega.{arith}
+use lib.Dec.{eqb}
 use borrow.Author.Tests.{eq-eqb, ne-eqb}
 use Rattle.record.specs.declared.heap.Heap.{Heap}
 use Rattle.record.specs.declared.kinds.Kind.{Kind}
@@ -28,38 +29,20 @@ module _ (bytes donor top : ℕ) (e : Entry) where
           rw (ne-eqb (e .place) 0 some, ne-eqb (e .place + 8) bytes below, eq-eqb (e .flags % 2) 1 p)
 
       module _ (free : e .flags % 2 ≡ 1 → ⊥) where
-        pub kind-top : e .place ≡ top → Top ≡ kindAt bytes donor top e
+        -- a free chunk goes by the record
+        free-kind : kindAt bytes donor top e ≡ cond (eqb (e .place) top) Top (cond (eqb (e .place) donor) Donor Ordinary)
         unfolding kindAt inUse
-        kind-top p =
-            rw (
-              ne-eqb (e .place) 0 some,
-              ne-eqb (e .place + 8) bytes below,
-              ne-eqb (e .flags % 2) 1 free,
-              eq-eqb (e .place) top p,
-            )
+        free-kind = rw (ne-eqb (e .place) 0 some, ne-eqb (e .place + 8) bytes below, ne-eqb (e .flags % 2) 1 free)
+
+        pub kind-top : e .place ≡ top → Top ≡ kindAt bytes donor top e
+        kind-top p = rw (free-kind, eq-eqb (e .place) top p)
 
         module _ (other : e .place ≡ top → ⊥) where
           pub kind-donor : e .place ≡ donor → Donor ≡ kindAt bytes donor top e
-          unfolding kindAt inUse
-          kind-donor p =
-              rw (
-                ne-eqb (e .place) 0 some,
-                ne-eqb (e .place + 8) bytes below,
-                ne-eqb (e .flags % 2) 1 free,
-                ne-eqb (e .place) top other,
-                eq-eqb (e .place) donor p,
-              )
+          kind-donor p = rw (free-kind, ne-eqb (e .place) top other, eq-eqb (e .place) donor p)
 
           pub kind-ordinary : (e .place ≡ donor → ⊥) → Ordinary ≡ kindAt bytes donor top e
-          unfolding kindAt inUse
-          kind-ordinary p =
-              rw (
-                ne-eqb (e .place) 0 some,
-                ne-eqb (e .place + 8) bytes below,
-                ne-eqb (e .flags % 2) 1 free,
-                ne-eqb (e .place) top other,
-                ne-eqb (e .place) donor p,
-              )
+          kind-ordinary p = rw (free-kind, ne-eqb (e .place) top other, ne-eqb (e .place) donor p)
 
 -- what a kind says of the place and the flag of its chunk
 module _ (bytes donor top : ℕ) (e : Entry) where
@@ -111,13 +94,16 @@ free-kinds P o d t Start f = absurd (false≢true f)
 free-kinds P o d t InUse f = absurd (false≢true f)
 free-kinds P o d t End f = absurd (false≢true f)
 
--- by the record's donor and top: a chunk of a kind, an ordinary chunk is free, and a free one has no live block
+-- by the record's donor and top: a chunk of a kind, an ordinary chunk is free and not in use, and a free one has no live block
 module _ (h : Heap) (e : Entry) where
   pub being-as : (k : Kind) → kindOf h e ≡ k → Being (h .bytes) (h .donor .0) (h .top .0) e k
   being-as k q = subst (Being (h .bytes) (h .donor .0) (h .top .0) e) q (being (h .bytes) (h .donor .0) (h .top .0) e)
 
   pub ordinary-free : ordinary h e ≡ true → e .flags ≤ 1 → e .flags ≡ 0
   ordinary-free o l = omega (arith, being-as Ordinary (ordinary-kind (kindOf h e) o) .2)
+
+  pub used-not-ordinary : e .flags ≡ 1 → ordinary h e ≡ true → ⊥
+  used-not-ordinary u o = let z = ordinary-free o (omega arith) in omega arith
 
   pub free-not-live : e .flags ≡ 0 → live h e ≡ false
   free-not-live f = go (kindOf h e) (being (h .bytes) (h .donor .0) (h .top .0) e)

@@ -1,6 +1,7 @@
--- The readings follow links with no bound that shows: how the chain's reading goes on, and which list a bin's reading is. Assumes nothing.
+-- The number of steps that the two readings are given always suffices, so that it can be forgotten: how the chain's reading goes on
+-- from a chunk, and which list a bin's reading is. Assumes nothing.
 use mathlib.Core.Path.{_≡_, refl, sym, ap, _∙_}
-use mathlib.Core.Bool.{Bool, true, false, _&&_, false≢true}
+use mathlib.Core.Bool.{Bool, _&&_}
 use mathlib.Core.List.{List, [], _∷_}
 use Prim.Native.Nat.{ℕ, zero, suc, _+_, _-_, _≤_, _<_}
 use native.Mathlib.Decide.{ℕ-discrete}
@@ -10,7 +11,7 @@ use lib.Dec.{ltb}
 use lib.ListN.{length}
 use borrow.Author.Tests.{ne-eqb}
 use Rattle.lists.specs.Lists.{headOr}
-use Rattle.lists.proofs.ListsLaws.{Decides, less, both, not-so}
+use Rattle.lists.proofs.ListsLaws.{Decides, less, both, not-so, decided}
 use Rattle.region.specs.Words.{word, forward, nextInBin}
 use Rattle.rules.specs.Shape.{Entry, entry, flagsAt, shapeFrom, shape, membersFrom}
 
@@ -26,11 +27,7 @@ module _ (ws : List ℕ) (bytes : ℕ) where
   up-iff c = both (less c (word ws c forward)) (less (word ws c forward) bytes)
 
   pub up? : (c : ℕ) → Dec (Up c)
-  up? c = by (up c) refl
-    where
-      by : (t : Bool) → up c ≡ t → Dec (Up c)
-      by true e = yes (up-iff c .0 e)
-      by false e = no (λ u. false≢true (sym e ∙ up-iff c .1 u))
+  up? c = decided (up-iff c)
 
   abbrev pub lastEntry : ℕ → Entry
   lastEntry c = entry c (bytes - c) (flagsAt ws c)
@@ -50,15 +47,12 @@ module _ (ws : List ℕ) (bytes : ℕ) where
   shape-steps zero k c hj hk = sym (stops k c (λ u. omega arith))
   shape-steps (suc j) zero c hj hk = stops (suc j) c (λ u. omega arith)
   shape-steps (suc j) (suc k) c hj hk =
-      by (up c) refl (λ u. shape-steps j k (word ws c forward) (omega (arith, u .0)) (omega (arith, u .0)))
+      go (up? c) (λ u. shape-steps j k (word ws c forward) (omega (arith, u .0)) (omega (arith, u .0)))
     where
-      by : (t : Bool) → up c ≡ t
-          → (Up c → shapeFrom j ws bytes (word ws c forward) ≡ shapeFrom k ws bytes (word ws c forward))
+      go : Dec (Up c) → (Up c → shapeFrom j ws bytes (word ws c forward) ≡ shapeFrom k ws bytes (word ws c forward))
           → shapeFrom (suc j) ws bytes c ≡ shapeFrom (suc k) ws bytes c
-      by true e f =
-          let u = up-iff c .0 e in
-          goes j c u ∙ ap (λ (es : List Entry). upEntry c ∷ es) (f u) ∙ sym (goes k c u)
-      by false e f = rw (e, shapeFrom)
+      go (yes u) f = goes j c u ∙ ap (λ (es : List Entry). upEntry c ∷ es) (f u) ∙ sym (goes k c u)
+      go (no n) f = stops (suc j) c n ∙ sym (stops (suc k) c n)
 
   -- the reading of the chain from c on, as long as links go up, and where they don't
   pub chainFrom : ℕ → List Entry
@@ -82,13 +76,11 @@ module _ (ws : List ℕ) (bytes : ℕ) where
       (more : (c : ℕ) (es : List Entry) → Up c → P (word ws c forward) es → P c (upEntry c ∷ es)) where
     along : (k c : ℕ) → bytes ≤ c + k → P c (shapeFrom k ws bytes c)
     along zero c h = last c (λ u. omega arith)
-    along (suc k) c h = by (up c) refl (λ u. along k (word ws c forward) (omega (arith, u .0)))
+    along (suc k) c h = go (up? c) (λ u. along k (word ws c forward) (omega (arith, u .0)))
       where
-        by : (t : Bool) → up c ≡ t → (Up c → P (word ws c forward) (shapeFrom k ws bytes (word ws c forward)))
-            → P c (shapeFrom (suc k) ws bytes c)
-        by true e f = let u = up-iff c .0 e in rw (goes k c u) (more c _ u (f u))
-        by false e f =
-            let n : Up c → ⊥ = λ u. false≢true (sym e ∙ up-iff c .1 u) in rw (stops (suc k) c n) (last c n)
+        go : Dec (Up c) → (Up c → P (word ws c forward) (shapeFrom k ws bytes (word ws c forward))) → P c (shapeFrom (suc k) ws bytes c)
+        go (yes u) f = rw (goes k c u) (more c _ u (f u))
+        go (no n) f = rw (stops (suc k) c n) (last c n)
 
     pub chain-by : (c : ℕ) → P c (chainFrom c)
     unfolding chainFrom
@@ -104,25 +96,29 @@ module _ (ws : List ℕ) where
   read-spent zero c e = refl
   read-spent (suc k) c e = absurd (omega arith)
 
+  -- it goes on at every place but 0
+  pub read-on : (k c : ℕ) → (c ≡ 0 → ⊥) → membersFrom (suc k) ws c ≡ c ∷ membersFrom k ws (word ws c nextInBin)
+  read-on k c n = rw (ne-eqb c 0 n, membersFrom)
+
   pub read-more : (k c : ℕ) → (c ≡ 0 → ⊥) → 0 < k → membersFrom k ws c ≡ c ∷ membersFrom (k - 1) ws (word ws c nextInBin)
   read-more zero c n h = absurd (omega arith)
-  read-more (suc k) c n h = rw (ne-eqb c 0 n, membersFrom, sub-one (suc k))
+  read-more (suc k) c n h = rw (sub-one (suc k)) (read-on k c n)
 
   -- with at least one step it begins where it is read from
   pub read-head : (k c : ℕ) → 0 < k → c ≡ headOr 0 (membersFrom k ws c)
   read-head zero c l = absurd (omega arith)
-  read-head (suc k) c l = elim (ℕ-discrete c 0) [ yes z ↦ rw z refl | no n ↦ rw (ne-eqb c 0 n, membersFrom) ]
+  read-head (suc k) c l = elim (ℕ-discrete c 0) [ yes z ↦ rw z refl | no n ↦ rw (read-on k c n) ]
 
 -- forward bin links lead along the list, from each member to the next, and from the last to 0
 abbrev pub Leads : List ℕ → List ℕ → Type 0
 Leads ws [] = Unit {0}
 Leads ws (c ∷ cs) = (0 < c) × (word ws c nextInBin ≡ headOr 0 cs) × Leads ws cs
 
--- a list along which the links lead is read, if the heap has at least as many bytes as the list has members
+-- a list along which the links lead is read, if there are at least as many steps as members
 pub members-steps : (k : ℕ) (ws cs : List ℕ) → length cs ≤ k → Leads ws cs → membersFrom k ws (headOr 0 cs) ≡ cs
 members-steps zero ws [] h l = refl
 members-steps zero ws (c ∷ cs) h l = absurd (omega arith)
 members-steps (suc k) ws [] h l = refl
 members-steps (suc k) ws (c ∷ cs) h l =
-    rw (ne-eqb c 0 (omega (arith, l .0)), membersFrom, l .1)
+    rw (read-on ws k c (omega (arith, l .0)), l .1)
     (ap (λ (ds : List ℕ). c ∷ ds) (members-steps k ws cs (omega arith) (l .2)))

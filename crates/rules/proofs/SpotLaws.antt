@@ -1,6 +1,6 @@
 -- Where the chunks of a heap that passes lie: one behind the other from 0 to the end of the heap bytes, so that each knows its neighbours
 -- and two have no byte in common; start, end, top and donor among them; and the chain taken apart at one of its chunks. Assumes nothing.
-use mathlib.Core.Path.{_≡_, refl, sym, ap, _∙_}
+use mathlib.Core.Path.{_≡_, sym, ap, _∙_}
 use mathlib.Core.Logic.{_⊎_, inl, inr}
 use mathlib.Core.Bool.{Bool, true, false≢true}
 use mathlib.Core.List.{List, [], _∷_, _++_, append-assoc, List·Memᴰ·not-nil}
@@ -18,10 +18,9 @@ use Rattle.rules.specs.Shape.{Entry, flagsAt, shape}
 use Rattle.rules.specs.Kinds.{ordinaryKind, freeKind, kindOf, ordinary, isFree, live, blockEnd, isAt, outside}
 use Rattle.rules.specs.Check.{Backed, Unbinned, Passes}
 use Rattle.rules.specs.Draft.{Spot, spot}
-use Rattle.rules.proofs.ShapeLaws.{Up, lastEntry, upEntry, shape-is, chain-by}
-use Rattle.rules.proofs.ChainLaws.{each-cons, same-place, shape-chain}
+use Rattle.rules.proofs.ChainLaws.{same-place, shape-chain}
 use Rattle.rules.proofs.KindsLaws.{Being, being, kind-top, kind-donor, ordinary-kind, live-kind, free-kinds, being-as}
-use Rattle.rules.proofs.TiledLaws.{Tiled, tiled-cut, tiled-up, tiled-in, tiled-apart, tiled-eights, tiled-empty, tiled-one, tiled-few, tiled-some}
+use Rattle.rules.proofs.TiledLaws.{Tiled, Forwards, chain-tiled, tiled-cut, tiled-up, tiled-in, tiled-apart, tiled-eights, tiled-empty, tiled-one, tiled-few, tiled-some}
 
 -- a list taken apart at the first member for which a test holds
 module _ (q : Entry → Bool) where
@@ -37,28 +36,6 @@ backed-next : (ws : List ℕ) (q : ℕ) (low : List Entry) (e d : Entry) (high :
     → word ws (d .place) backward ≡ e .place + d .flags
 backed-next ws q [] e d high b = b .1 .0
 backed-next ws q (x ∷ low) e d high b = backed-next ws (x .place) low e d high (b .1)
-
--- links forward of chunks that are not the last
-abbrev Forwards : List ℕ → ℕ → List Entry → Type 0
-Forwards ws bytes es = (e : Entry) → Mem e es → blockEnd e < bytes → word ws (e .place) forward ≡ blockEnd e
-
-abbrev Lies : List ℕ → ℕ → ℕ → List Entry → Type 0
-Lies ws bytes c es = c < bytes → Tiled c es bytes × Forwards ws bytes es
-
-chain-tiled : (ws : List ℕ) (bytes : ℕ) → 0 < bytes → Tiled 0 (shape ws bytes) bytes × Forwards ws bytes (shape ws bytes)
-chain-tiled ws bytes = rw (shape-is ws bytes) (chain-by ws bytes (Lies ws bytes) last more 0)
-  where
-    last : (c : ℕ) → (Up ws bytes c → ⊥) → Lies ws bytes c (lastEntry ws bytes c ∷ [])
-    last c n l = (
-      (refl, omega arith, omega arith),
-      each-cons (λ k. absurd (omega arith)) (λ e m. absurd (List·Memᴰ·not-nil m)),
-    )
-
-    more : (c : ℕ) (es : List Entry) → Up ws bytes c → Lies ws bytes (word ws c forward) es → Lies ws bytes c (upEntry ws bytes c ∷ es)
-    more c es u r l =
-        let s = r (u .1) in
-        let k : c + (word ws c forward - c) ≡ word ws c forward = omega (arith, u .0) in
-        ((refl, omega (arith, u .0), rw k (s .0)), each-cons (λ _. sym k) (s .1))
 
 -- what is known of the heap bytes
 pub record Bounds (ws : List ℕ) (h : Heap) : Type 0 where

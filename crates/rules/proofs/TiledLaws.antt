@@ -1,16 +1,19 @@
--- Chunks that lie one behind the other from a place to another, with no word read: where each lies, that two have no byte in common,
--- how many there can be, and how such lists are cut and joined. Assumes nothing.
+-- Chunks that lie one behind the other from a place to another: where each lies, that two have no byte in common, how many there can be,
+-- and how such lists are cut and joined, all with no word read; and that the chain of any region is such a list. Assumes nothing.
 use mathlib.Core.Path.{_≡_, refl, sym, ap, _∙_}
 use mathlib.Core.Logic.{_⊎_, inl, inr}
 use mathlib.Core.Bool.{Bool, true, false, cond}
-use mathlib.Core.List.{List, [], _∷_, _++_, List·Memᴰ·head, List·Memᴰ·tail}
-use Prim.Native.Nat.{ℕ, suc, _+_, _*_, _%_, _≤_, _<_}
+use mathlib.Core.List.{List, [], _∷_, _++_, List·Memᴰ·head, List·Memᴰ·tail, List·Memᴰ·not-nil}
+use Prim.Native.Nat.{ℕ, suc, _+_, _*_, _-_, _%_, _≤_, _<_}
 use native.Mathlib.Omega.{arith}
 use lib.ListN.{length}
 use Rattle.lists.specs.Lists.{Mem, headOr, keep, total}
-use Rattle.rules.specs.Shape.{Entry}
+use Rattle.lists.proofs.ListsLaws.{each-cons}
+use Rattle.region.specs.Words.{word, forward}
+use Rattle.rules.specs.Shape.{Entry, shape}
 use Rattle.rules.specs.Kinds.{blockEnd, outside}
 use Rattle.rules.proofs.ChainLaws.{Rising, rising-from}
+use Rattle.rules.proofs.ShapeLaws.{Up, lastEntry, upEntry, shape-is, chain-by}
 
 -- the chunks lie one behind the other from a to b
 abbrev pub Tiled : ℕ → List Entry → ℕ → Type 0
@@ -85,7 +88,7 @@ pub tiled-none : (a b : ℕ) (ds : List Entry) → Tiled a ds b → b ≤ a → 
 tiled-none a b [] t l = refl
 tiled-none a b (d ∷ ds) t l = let u = tiled-up (blockEnd d) b ds (t .2) in absurd (omega (arith, t .0, t .1))
 
--- tiles put together, and each place has one
+-- put together they lie so too, and their places go up
 pub tiled-joined : (a b c : ℕ) (xs ys : List Entry) → Tiled a xs b → Tiled b ys c → Tiled a (xs ++ ys) c
 tiled-joined a b c [] ys t u = rw t u
 tiled-joined a b c (x ∷ xs) ys t u = (t .0, t .1, tiled-joined (blockEnd x) b c xs ys (t .2) u)
@@ -93,3 +96,26 @@ tiled-joined a b c (x ∷ xs) ys t u = (t .0, t .1, tiled-joined (blockEnd x) b 
 pub tiled-rising : (a b : ℕ) (es : List Entry) → Tiled a es b → Rising a es
 tiled-rising a b [] t = tt
 tiled-rising a b (e ∷ es) t = (omega (arith, t .0), rising-from (suc (e .place)) (blockEnd e) es (omega (arith, t .1)) (tiled-rising (blockEnd e) b es (t .2)))
+
+-- forward links, but for the last chunk's, are to where the chunk ends
+abbrev pub Forwards : List ℕ → ℕ → List Entry → Type 0
+Forwards ws bytes es = (e : Entry) → Mem e es → blockEnd e < bytes → word ws (e .place) forward ≡ blockEnd e
+
+-- the chain from c on lies so, if it begins inside
+abbrev Lies : List ℕ → ℕ → ℕ → List Entry → Type 0
+Lies ws bytes c es = c < bytes → Tiled c es bytes × Forwards ws bytes es
+
+pub chain-tiled : (ws : List ℕ) (bytes : ℕ) → 0 < bytes → Tiled 0 (shape ws bytes) bytes × Forwards ws bytes (shape ws bytes)
+chain-tiled ws bytes = rw (shape-is ws bytes) (chain-by ws bytes (Lies ws bytes) last more 0)
+  where
+    last : (c : ℕ) → (Up ws bytes c → ⊥) → Lies ws bytes c (lastEntry ws bytes c ∷ [])
+    last c n l = (
+      (refl, omega arith, omega arith),
+      each-cons (λ k. absurd (omega arith)) (λ e m. absurd (List·Memᴰ·not-nil m)),
+    )
+
+    more : (c : ℕ) (es : List Entry) → Up ws bytes c → Lies ws bytes (word ws c forward) es → Lies ws bytes c (upEntry ws bytes c ∷ es)
+    more c es u r l =
+        let s = r (u .1) in
+        let k : c + (word ws c forward - c) ≡ word ws c forward = omega (arith, u .0) in
+        ((refl, omega (arith, u .0), rw k (s .0)), each-cons (λ _. sym k) (s .1))

@@ -8,7 +8,7 @@ use native.Mathlib.Omega.{arith}
 use lib.Dec.{eqb}
 use borrow.Author.Tests.{eq-eqb, ne-eqb, not-true, not-false}
 use Rattle.chain.specs.Chain.{endOf}
-use Rattle.chain.proofs.EndLaws.{endAt, hereAt, chain-here, chain-next}
+use Rattle.chain.proofs.EndLaws.{endAt, hereAt, chain-here, chain-next, end-above}
 use Rattle.lists.specs.Lists.{lastOr, any}
 use Rattle.record.specs.declared.heap.Heap.{Heap}
 use Rattle.record.specs.declared.kinds.Kind.the-variants.{Ordinary, Donor, Top}
@@ -24,28 +24,24 @@ use Rattle.seek.specs.declared.Sought.{Sought}
 use Rattle.seek.specs.declared.Sought.the-variants.{Found, Nowhere}
 use Rattle.seek.specs.Seek.{placed, soughtIn, liveAt, hasBlock}
 
-module _ (ws : List ℕ) (bytes : ℕ) where
-  -- where the walk stands, above a chunk at p: what is sought is as far off as from the start
-  pub record Seeking (place p c : ℕ) : Type 0 where
-    pub inside : c ≤ bytes
-    pub same : soughtIn (isAt place) p (chainFrom ws bytes c) ≡ soughtIn (isAt place) 0 (chainFrom ws bytes 0)
+-- where the walk stands, at c above a chunk at p: from there it finds what it finds from the start
+pub record Seeking (ws : List ℕ) (bytes place p c : ℕ) : Type 0 where
+  pub inside : c ≤ bytes
+  pub same : soughtIn (isAt place) p (chainFrom ws bytes c) ≡ soughtIn (isAt place) 0 (chainFrom ws bytes 0)
 
-  pub seeking-begins : (place : ℕ) → Seeking place 0 0
-  seeking-begins place = record { inside = omega arith; same = refl }
+module _ {ws : List ℕ} {bytes place : ℕ} where
+  pub seeking-begins : Seeking ws bytes place 0 0
+  seeking-begins = record { inside = omega arith; same = refl }
 
   -- what the code holds at the chunk at c: its forward link n and its end e
-  module _ (place p c n e : ℕ) (o : Seeking place p c) (en : n ≡ word ws c forward) (ee : e ≡ endOf bytes c n) where
+  module _ {p c n e : ℕ} (o : Seeking ws bytes place p c) (en : n ≡ word ws c forward) (ee : e ≡ endOf bytes c n) where
     end-is : e ≡ endAt ws bytes c
     end-is = ee ∙ ap (endOf bytes c) en
 
     above : c + (endAt ws bytes c - c) ≡ endAt ws bytes c
-    above = go (ℕ-discrete (endAt ws bytes c) bytes)
-      where
-        go : Dec (endAt ws bytes c ≡ bytes) → c + (endAt ws bytes c - c) ≡ endAt ws bytes c
-        go (yes q) = omega (arith, o .inside)
-        go (no m) = omega (arith, chain-next ws bytes c m .0)
+    above = let l = end-above ws bytes c refl refl (o .inside) in omega arith
 
-    module _ (q : c ≡ place) (w f : ℕ) (ew : w ≡ word ws c backward) (ef : f ≡ w % 8) where
+    module _ (q : c ≡ place) {w f : ℕ} (ew : w ≡ word ws c backward) (ef : f ≡ w % 8) where
       pub seeking-found : Found (record { before = at p; chunk = at c; end = e; flags = f }) ≡ soughtIn (isAt place) 0 (shape ws bytes)
       unfolding soughtIn
       seeking-found = rw (shape-is ws bytes) (go (ℕ-discrete (endAt ws bytes c) bytes) ∙ o .same)
@@ -64,7 +60,7 @@ module _ (ws : List ℕ) (bytes : ℕ) where
           let here = chain-here ws bytes c (sym end-is ∙ r) in
           rw (shape-is ws bytes) (sym (rw (here, ne-eqb c place q)) ∙ o .same)
 
-      pub seeking-goes : (e ≡ bytes → ⊥) → (c < e) × (e < bytes) × Seeking place c e
+      pub seeking-goes : (e ≡ bytes → ⊥) → (c < e) × (e < bytes) × Seeking ws bytes place c e
       unfolding soughtIn
       seeking-goes m =
           let h = chain-next ws bytes c (λ r. m (end-is ∙ r)) in
@@ -166,22 +162,22 @@ module _ (bytes b : ℕ) where
       go (no n) f = rw (holds-other e (λ q. n (omega arith))) (f (rw (ne-eqb (e .place) (b - 8) n) at h))
 
 -- what the code holds when it has sought the chunk k of the block at b
-module _ (ws : List ℕ) (bytes b k : ℕ) (s : Sought) (ek : k ≡ b - 8) (es : s ≡ soughtIn (isAt k) 0 (shape ws bytes)) where
+module _ (ws : List ℕ) (bytes b : ℕ) {k : ℕ} {s : Sought} (ek : k ≡ b - 8) (es : s ≡ soughtIn (isAt k) 0 (shape ws bytes)) where
   told : s ≡ soughtIn (isAt (b - 8)) 0 (shape ws bytes)
   told = es ∙ ap (λ (c : ℕ). soughtIn (isAt c) 0 (shape ws bytes)) ek
 
   pub block-nowhere : s ≡ Nowhere → Nowhere ≡ soughtIn (hasBlock bytes b) 0 (shape ws bytes)
   block-nowhere e = sym (no-chunk bytes b 0 (shape ws bytes) (sym told ∙ e))
 
-  module _ (x : Place) (e : s ≡ Found x) (t : Bool) (et : t ≡ liveAt bytes (x .chunk .0) (x .flags)) where
+  module _ {x : Place} (e : s ≡ Found x) {t : Bool} (et : t ≡ liveAt bytes (x .chunk .0) (x .flags)) where
     of-chunk : soughtIn (hasBlock bytes b) 0 (shape ws bytes) ≡ cond t (Found x) Nowhere
     of-chunk = rw et (found-chunk bytes b 0 0 (shape ws bytes) (shape-chain ws bytes .rising) x (sym told ∙ e))
 
     pub block-dead : not t ≡ true → Nowhere ≡ soughtIn (hasBlock bytes b) 0 (shape ws bytes)
-    block-dead h = rw of-chunk (rw (not-true t h) refl)
+    block-dead h = rw (of-chunk, not-true t h)
 
     pub block-found : not t ≡ false → Found x ≡ soughtIn (hasBlock bytes b) 0 (shape ws bytes)
-    block-found h = rw of-chunk (rw (not-false t h) refl)
+    block-found h = rw (of-chunk, not-false t h)
 
 -- what is sought is the spot of the rules, and it is found if any chunk meets the test
 module _ (q : Entry → Bool) where

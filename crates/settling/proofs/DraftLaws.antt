@@ -1,21 +1,21 @@
 -- The rules' steps on a heap in the making, beside what the code makes of its books: a chunk leaves its bin, a chunk is linked in,
 -- a chunk is put into its bin. After each step the books are those of the draft. Assumes nothing.
-use mathlib.Core.Path.{_≡_, refl, ap}
+use mathlib.Core.Path.{_≡_, refl}
 use mathlib.Core.Logic.{_≢_}
 use mathlib.Core.Bool.{Bool, true, false, cond}
-use mathlib.Core.List.{List, [], _∷_, _++_, append-assoc}
+use mathlib.Core.List.{List, [], _∷_, _++_}
 use Prim.Native.Nat.{ℕ, _+_, _-_, _/_, _%_, _^_, _≤_, _<_}
 use native.Mathlib.Decide.{decLt}
 use native.Mathlib.Nat.{add-zero}
 use native.Mathlib.Omega.{arith}
 use lib.Dec.{eqb, ltb}
-use lib.ListN.{length, getD, set, length-take}
+use lib.ListN.{length, getD, length-take}
 use Rattle.lists.specs.Lists.{Mem, headOr, lastOr, upTo, past}
 use Rattle.record.specs.declared.heap.Heap.{Heap}
 use Rattle.record.specs.declared.kinds.Kind.{Kind}
 use Rattle.record.specs.declared.kinds.Kind.the-variants.{Start, InUse, Ordinary, Donor, Top, End}
 use Rattle.record.specs.declared.table.Binned.the-variants.{Bin}
-use Rattle.record.specs.Heap.{tableOf, with, withEnds, withDonor, withTop}
+use Rattle.record.specs.Heap.{tableOf, with, withEnds}
 use Rattle.record.specs.Table.{smallBins, binOf}
 use Rattle.record.proofs.TableLaws.{bin-from}
 use Rattle.region.specs.Words.{Store, put, written, backward, forward, size, nextInBin, previousInBin, bin}
@@ -24,20 +24,20 @@ use Rattle.headers.specs.Headers.{aboveWords, freeWords}
 use Rattle.rules.specs.Shape.{Entry, entry, binList}
 use Rattle.rules.specs.Kinds.{unused, outside}
 use Rattle.rules.specs.Check.{Passes}
-use Rattle.rules.specs.Draft.{Draft, asRead, headers, meet, leave, leaveBin, putBetween, putInto, putInBin, noBinWords, relink, settle}
+use Rattle.rules.specs.Draft.{Draft, asRead, meet, leave, leaveBin, putBetween, putInto, putInBin, noBinWords, relink, settle}
 use Rattle.rules.specs.Join.{joinedAs}
 use Rattle.bins.specs.Books.{Books, books, leaveM, putM, putIntoM}
 use Rattle.bins.proofs.RunsLaws.{Node}
 use Rattle.bins.proofs.BooksLaws.{Far, putStores}
 use Rattle.bins.proofs.WayLaws.{OnWay, way-begins, way-keeps, way-leaves, way-left-far, way-stays, way-remains, way-puts-head, way-puts-tail}
 use Rattle.settling.specs.Settling.{putBinnedM, putInBinM, alsoWritten, settleM, donorAfter, topAfter}
-use Rattle.settling.proofs.HeaderLaws.{linkStores}
+use Rattle.settling.proofs.LinkLaws.{linkStores, relink-written}
 
 -- the words and the ends of a draft
 abbrev pub booksOf : List ℕ → Draft → Books
 booksOf ws d = books (written ws (d .stores)) (d .heap .heads) (d .heap .tails)
 
--- the header at y is not below that of the chunk at x, or well above it
+-- a header at y is not above the chunk at x, or stands clear above that one's header
 abbrev pub Clears : ℕ → ℕ → Type 0
 Clears x y = (y % 8 ≡ 0) × (x < y → x + 24 ≤ y)
 
@@ -65,7 +65,7 @@ pub record Follows (ws : List ℕ) (h : Heap) (d : Draft) : Type 0 where
   pub way : OnWay (booksOf ws d) (d .lists) (h .bins)
   pub from : (j c : ℕ) → j < h .bins → Mem c (d .lists j) → Mem c (binList ws h j)
   pub table : tableOf (d .heap) ≡ tableOf h
-  pub heap : d .heap ≡ with h (d .heap .heads) (d .heap .tails) (h .donor .0) (h .top .0) (h .merge) (h .used)
+  pub heap : d .heap ≡ withEnds h (d .heap .heads) (d .heap .tails)
   pub housed : d .homeless ≡ false
 
 pub begins : (ws : List ℕ) (h : Heap) → Passes ws h → Follows ws h (asRead ws h)
@@ -108,7 +108,7 @@ module _ (ws : List ℕ) (h : Heap) (d : Draft) (f : Follows ws h d) where
                 way = rw a (w .1);
                 from = λ j c lj k. f .from j c lj (way-stays (booksOf ws d) (d .lists) (h .bins) (f .way) i (e .place) l m j k);
                 table = f .table;
-                heap = ap (λ (x : Heap). withEnds x (set (d .heap .heads) i (headOr 0 (xs ++ ys))) (set (d .heap .tails) i (lastOr 0 (xs ++ ys)))) (f .heap);
+                heap = rw (f .heap);
                 housed = f .housed;
               };
           stays = λ j c lj k. way-stays (booksOf ws d) (d .lists) (h .bins) (f .way) i (e .place) l m j k;
@@ -123,7 +123,7 @@ module _ (ws : List ℕ) (h : Heap) (d : Draft) (f : Follows ws h d) where
   relink-follows low es high g =
       record {
         way =
-            rw (append-assoc (d .stores) (headers (lastOr outside low .place) es), written-append)
+            rw (relink-written ws low es high d)
             (way-keeps (booksOf ws d) (d .lists) (h .bins) (f .way) (linkStores low es high)
             (λ j x l m. header-stores-off x (linkStores low es high) (f .way .holds j l .nodes x m .eight) (g j x l m)));
         from = f .from;
@@ -191,16 +191,16 @@ module _ (ws : List ℕ) (h : Heap) (d : Draft) (f : Follows ws h d) where
         rw (f .table, b .1, f .table) (put-into (b .0) l (ltb (b .0) (smallBins (tableOf h))))
 
     kept : (i : ℕ) (t : Bool) → let after = cond t (putBetween i [] c (d .lists i) d) (putBetween i (d .lists i) c [] d) in
-        (after .homeless ≡ false) × (after .heap ≡ with h (after .heap .heads) (after .heap .tails) (h .donor .0) (h .top .0) (h .merge) (h .used))
+        (after .homeless ≡ false) × (after .heap ≡ withEnds h (after .heap .heads) (after .heap .tails))
     unfolding putBetween
     kept i true =
-        (f .housed, ap (λ (x : Heap). withEnds x (set (d .heap .heads) i c) (set (d .heap .tails) i (lastOr c (d .lists i)))) (f .heap))
+        (f .housed, rw (f .heap))
     kept i false =
-        (f .housed, ap (λ (x : Heap). withEnds x (set (d .heap .heads) i (headOr 0 (d .lists i ++ c ∷ []))) (set (d .heap .tails) i (lastOr 0 (d .lists i ++ c ∷ [])))) (f .heap))
+        (f .housed, rw (f .heap))
 
     -- a bin takes it, and of the record only the bins' ends change
     put-keeps : let after = putInBin (entry c s u) d in
-        (after .homeless ≡ false) × (after .heap ≡ with h (after .heap .heads) (after .heap .tails) (h .donor .0) (h .top .0) (h .merge) (h .used))
+        (after .homeless ≡ false) × (after .heap ≡ withEnds h (after .heap .heads) (after .heap .tails))
     unfolding putInBin putInto
     put-keeps =
         let b = bin-from (tableOf h) (p .table .valid) s large in
@@ -224,12 +224,12 @@ module _ (ws : List ℕ) (h : Heap) (d : Draft) (f : Follows ws h d) where
         record {
           is = cleared-is;
           housed = f .housed;
-          heap = ap (λ (x : Heap). withDonor x c) (f .heap);
+          heap = rw (f .heap);
         }
     settle-step Top =
         record {
           is = cleared-is;
           housed = f .housed;
-          heap = ap (λ (x : Heap). withTop x c) (f .heap);
+          heap = rw (f .heap);
         }
     settle-step End = put-settles

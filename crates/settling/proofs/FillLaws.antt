@@ -1,15 +1,15 @@
 -- Writing inside a live block leaves a heap that passes, and it is read as before. Assumes nothing.
 use mathlib.Core.Path.{_≡_, sym, ap}
-use mathlib.Core.Logic.{_⊎_, inl, inr}
+use mathlib.Core.Logic.{_≢_, _⊎_, inl, inr}
 use mathlib.Core.Bool.{true}
-use mathlib.Core.List.{List, [], _∷_, map}
+use mathlib.Core.List.{List, map}
 use Prim.Native.Nat.{ℕ, zero, suc, _+_, _*_, _/_, _≤_, _<_}
 use native.Mathlib.Decide.{ℕ-discrete}
 use native.Mathlib.Omega.{arith}
 use Rattle.lists.specs.Lists.{Mem, numbersFrom}
 use Rattle.record.specs.declared.heap.Heap.{Heap}
 use Rattle.region.specs.Words.{word, Store, put, written, forward, backward}
-use Rattle.region.proofs.WordsLaws.{Off, off, length-written}
+use Rattle.region.proofs.WordsLaws.{Fall, fall-so, Off, off, length-written}
 use Rattle.rules.specs.Shape.{Entry, shape, binList}
 use Rattle.rules.specs.Kinds.{live, unused, blockOf, blockEnd, blockWords}
 use Rattle.rules.specs.Check.{Fits, Passes}
@@ -18,8 +18,7 @@ use Rattle.rules.proofs.HeadersLaws.{SameHeader, headers-shape, headers-list, h
 
 -- stores that fall into words a block has
 abbrev pub Within : Entry → List Store → Type 0
-Within e [] = Unit {0}
-Within e (s ∷ ss) = (blockOf e / 4 ≤ s .chunk / 4 + s .number) × (s .chunk / 4 + s .number < blockEnd e / 4) × Within e ss
+Within e ss = Fall (λ i. (blockOf e / 4 ≤ i) × (i < blockEnd e / 4)) ss
 
 -- words of a block written one after the other from its start
 pub filled-within : (e : Entry) (value : ℕ → ℕ) (n : ℕ) → n ≤ blockWords e → Within e (map (λ k. put (blockOf e) k (value k)) (numbersFrom 0 n))
@@ -27,16 +26,14 @@ filled-within e value n l = go n 0 (omega arith)
   where
     go : (n i : ℕ) → i + n ≤ blockWords e → Within e (map (λ k. put (blockOf e) k (value k)) (numbersFrom i n))
     go zero i r = tt
-    go (suc n) i r = (omega arith, omega arith, go n (suc i) (omega arith))
+    go (suc n) i r = ((omega arith, omega arith), go n (suc i) (omega arith))
 
 -- the stores are to no word below the block and to none above it
 pub below-block : (e : Entry) (ss : List Store) → Within e ss → (i : ℕ) → i < blockOf e / 4 → Off i ss
-below-block e [] w i l = tt
-below-block e (s ∷ ss) w i l = (λ q. omega (arith, w .0), below-block e ss (w .2) i l)
+below-block e ss w i l = fall-so _ (λ k. i ≢ k) (λ k b q. omega (arith, b .0)) ss w
 
 pub above-block : (e : Entry) (ss : List Store) → Within e ss → (i : ℕ) → blockEnd e / 4 ≤ i → Off i ss
-above-block e [] w i l = tt
-above-block e (s ∷ ss) w i l = (λ q. omega (arith, w .1), above-block e ss (w .2) i l)
+above-block e ss w i l = fall-so _ (λ k. i ≢ k) (λ k b q. omega (arith, b .1)) ss w
 
 module _ (ws : List ℕ) (h : Heap) (p : Passes ws h) (e : Entry) (m : Mem e (shape ws (h .bytes))) (l : live h e ≡ true)
     (ss : List Store) (w : Within e ss) where

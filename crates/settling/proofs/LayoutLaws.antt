@@ -43,12 +43,14 @@ pub laid-between : (bytes : ℕ) (e : Entry) → e .place % 8 ≡ 0 → e .flags
 laid-between bytes e eight flags above large below =
     record { eight = eight; some = omega arith; ends = omega arith; flags = flags; room = λ _ _. large; free = λ _. (above, large, below) }
 
+-- the chunks of a whole chain lie so
 pub record Layout (bytes : ℕ) (es : List Entry) : Type 0 where
   pub tiled : Tiled 0 es bytes
   pub chunks : (e : Entry) → Mem e es → Laid bytes e
   pub ended : Ended es
   pub reaches : lastOr outside es .place + 8 ≡ bytes
 
+-- and those of a heap that passes do
 pub layout-read : (ws : List ℕ) (h : Heap) → Passes ws h → Layout (h .bytes) (shape ws (h .bytes))
 layout-read ws h p =
     record {

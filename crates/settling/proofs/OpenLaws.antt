@@ -18,7 +18,8 @@ use Rattle.rules.proofs.SpotLaws.{Between}
 use Rattle.rules.proofs.TiledLaws.{tiled-empty}
 use Rattle.settling.proofs.LayoutLaws.{Beside, Layout, Cuts, layout-read, cuts, outer-beside, beside-elsewhere, every-other}
 use Rattle.settling.proofs.HeaderLaws.{Header, Headed, headed-cut, headed-read}
-use Rattle.settling.proofs.HalfwayLaws.{now, Halfway, halfway-begins, halfway-fewer, leave-headed, leave-halfway, leave-keeps, Opened}
+use Rattle.settling.proofs.HalfwayLaws.{now, Halfway, halfway-begins, halfway-fewer, Opened}
+use Rattle.settling.proofs.LeaveLaws.{leave-headed, leave-halfway, leave-keeps}
 
 -- the chunk x leaves the chain: the chain is open there, if x was in no bin, and if it leaves its bin
 module _ (ws : List ℕ) (h : Heap) (low : List Entry) (x : Entry) (high : List Entry) (first last : Entry) (d : Draft)

@@ -2,22 +2,22 @@
 -- and is read as the draft's chain and lists. Assumes nothing.
 use mathlib.Core.Path.{_≡_, sym, ap, _∙_}
 use mathlib.Core.Bool.{Bool, true, false, cond}
-use mathlib.Core.List.{List, [], _∷_, _++_, map, Memᴰ·map, Memᴰ·cast, Memᴰ·append-left, Memᴰ·append-right}
+use mathlib.Core.List.{List, [], _∷_, _++_, Memᴰ·append-left, Memᴰ·append-right}
 use Prim.Native.Nat.{ℕ, _+_, _-_, _≤_, _<_}
 use native.Mathlib.Decide.{decLt}
 use native.Mathlib.Omega.{arith}
-use lib.ListN.{length, length-map}
+use lib.ListN.{length}
 use Rattle.lists.specs.Lists.{Mem, keep, total}
-use Rattle.lists.proofs.CountLaws.{distinct-fits}
 use Rattle.lists.proofs.MembersLaws.{kept-same}
 use Rattle.record.specs.declared.heap.Heap.{Heap}
-use Rattle.record.specs.Heap.{withDonor, withTop, withUsed}
+use Rattle.record.specs.Heap.{withDonor, withTop}
 use Rattle.region.specs.Words.{written}
 use Rattle.region.proofs.WordsLaws.{length-written}
 use Rattle.rules.specs.Shape.{Entry, shape, members, binList}
 use Rattle.rules.specs.Kinds.{ordinaryKind, liveKind, kindOf, live, blockEnd, outside}
 use Rattle.rules.specs.Check.{Fits, Tabled, TopIs, DonorIs, Listed, usedBytes, Passes, PassesAs}
 use Rattle.rules.specs.Draft.{Draft, nowUses}
+use Rattle.rules.proofs.ChainLaws.{places-fit}
 use Rattle.rules.proofs.KindsLaws.{kind-top, kind-donor}
 use Rattle.rules.proofs.ShapeLaws.{members-steps, read-none}
 use Rattle.rules.proofs.SpotLaws.{bounds}
@@ -62,11 +62,9 @@ module _ (ws : List ℕ) (h : Heap) (p : Passes ws h) (es : List Entry) (d : Dra
   -- a list has no more members than the chain has chunks
   list-short : (i : ℕ) → i < h .bins → length (d .lists i) ≤ h .bytes
   list-short i l =
-      let place : Entry → ℕ = λ e. e .place in
-      let s = distinct-fits (d .lists i) (map place es) (f .way .holds i l .once)
-      (λ c m. let r = f .members i c l m in Memᴰ·cast (sym (r .2 .0)) (Memᴰ·map place (r .1))) in
+      let s = places-fit (d .lists i) es (f .way .holds i l .once) (λ c m. let r = f .members i c l m in (r .0, r .1, r .2 .0)) in
       let few = laid-few (h .bytes) es y in
-      omega (arith, length-map es (λ (e : Entry). e .place))
+      omega arith
 
   list-read : (i : ℕ) → binList words (now h d) i ≡ d .lists i
   unfolding members
@@ -76,7 +74,7 @@ module _ (ws : List ℕ) (h : Heap) (p : Passes ws h) (es : List Entry) (d : Dra
       go (yes l) =
           rw (f .way .holds i l .head)
           (members-steps (h .bytes) words (d .lists i) (list-short i l) (way-leads (booksOf ws d) (d .lists) (h .bins) (f .way) i l))
-      go (no n) = rw (f .headsEnd i (omega arith), f .none i (omega arith)) (read-none words (h .bytes))
+      go (no n) = rw (f .ends .headsEnd i (omega arith), f .none i (omega arith)) (read-none words (h .bytes))
 
   top-stands : (e : Entry) × Mem e es × TopIs words (now h d) e
   top-stands =
@@ -108,13 +106,13 @@ module _ (ws : List ℕ) (h : Heap) (p : Passes ws h) (es : List Entry) (d : Dra
       let t = p .table in
       record {
         sizePlaces = t .sizePlaces;
-        headPlaces = f .headPlaces;
-        tailPlaces = f .tailPlaces;
+        headPlaces = f .ends .headPlaces;
+        tailPlaces = f .ends .tailPlaces;
         bins = t .bins;
         valid = t .valid;
         sizesEnd = t .sizesEnd;
-        headsEnd = f .headsEnd;
-        tailsEnd = f .tailsEnd;
+        headsEnd = f .ends .headsEnd;
+        tailsEnd = f .ends .tailsEnd;
       }
 
   listed-still : (i : ℕ) → i < h .bins → Listed words (now h d) es i (binList words (now h d) i)
@@ -196,11 +194,8 @@ used-replaced g h low olds news high same =
 uses-halfway : (ws : List ℕ) (h : Heap) (es : List Entry) (before after : ℕ) (d : Draft) → Halfway ws h es d → Halfway ws h es (nowUses before after d)
 uses-halfway ws h es before after d f =
     record {
-      heap = ap (λ (g : Heap). withUsed g (d .heap .used + after - before)) (f .heap);
-      headPlaces = f .headPlaces;
-      tailPlaces = f .tailPlaces;
-      headsEnd = f .headsEnd;
-      tailsEnd = f .tailsEnd;
+      heap = rw (f .heap);
+      ends = f .ends;
       way = f .way;
       none = f .none;
       members = f .members;

@@ -2,37 +2,37 @@
 use mathlib.Core.Path.{_≡_, refl, sym, ap, _∙_}
 use mathlib.Core.Logic.{_≢_, _⊎_, inl, inr}
 use mathlib.Core.Bool.{Bool, true, false, cond, false≢true}
-use mathlib.Core.List.{List, [], _∷_, _++_, append-nil, List·Memᴰ·head, Memᴰ·append-left, Memᴰ·append-right}
+use mathlib.Core.List.{List, [], _∷_, _++_, append-nil, List·Memᴰ·head, Memᴰ·append-right}
 use Prim.Native.Nat.{ℕ, _+_, _*_, _/_, _≤_, _<_}
 use native.Mathlib.Decide.{ℕ-discrete, decLt}
 use native.Mathlib.Omega.{arith}
 use lib.Dec.{ltb}
-use lib.ListN.{length, set, length-set, length-take}
-use lib.Seq.{getD-set-other}
+use lib.ListN.{length, length-take}
 use borrow.Author.Tests.{eq-eqb, ne-eqb}
 use Rattle.lists.specs.Lists.{Mem, headOr, lastOr}
 use Rattle.lists.proofs.MembersLaws.{member-with}
 use Rattle.record.specs.declared.heap.Heap.{Heap}
 use Rattle.record.specs.declared.kinds.Kind.the-variants.{Ordinary, Donor, Top}
 use Rattle.record.specs.declared.table.Binned.the-variants.{Bin}
-use Rattle.record.specs.Heap.{tableOf, with, withEnds}
+use Rattle.record.specs.Heap.{tableOf, with}
 use Rattle.record.specs.Table.{smallBins, binOf}
 use Rattle.record.proofs.TableLaws.{bin-from}
-use Rattle.region.specs.Words.{Store, written, nextInBin, previousInBin, bin}
+use Rattle.region.specs.Words.{Store, written, bin}
 use Rattle.region.proofs.WordsLaws.{Off, got, length-written, written-append}
 use Rattle.rules.specs.Shape.{Entry}
 use Rattle.rules.specs.Kinds.{ordinaryKind, kindAt, kindOf, ordinary, outside}
-use Rattle.rules.specs.Check.{Unbinned, BelongsTo, Passes}
+use Rattle.rules.specs.Check.{Unbinned, Passes}
 use Rattle.rules.specs.Draft.{Draft, alsoWrites, withHeap, putBetween, putInto, putInBin, noBinWords, settle}
-use Rattle.rules.proofs.KindsLaws.{ordinary-free}
+use Rattle.rules.proofs.KindsLaws.{used-not-ordinary}
 use Rattle.bins.specs.Books.{books}
 use Rattle.bins.proofs.RunsLaws.{Node, NoLink}
-use Rattle.bins.proofs.BooksLaws.{Far, putStores, put-off}
-use Rattle.bins.proofs.WayLaws.{OnWay, relisted, relisted-same, relisted-other, header-no-link, way-keeps, way-puts, is-from}
+use Rattle.bins.proofs.BooksLaws.{Far, putStores, putAt, put-off}
+use Rattle.bins.proofs.WayLaws.{OnWay, relisted, relisted-same, relisted-other, far-no-link, header-no-link, way-keeps, way-puts, is-from}
 use Rattle.settling.proofs.DraftLaws.{booksOf}
 use Rattle.settling.proofs.LayoutLaws.{Beside, Laid, Layout, laid-once, laid-beside, laid-below}
 use Rattle.settling.proofs.HeaderLaws.{Headed, Spares, headed-keeps}
-use Rattle.settling.proofs.HalfwayLaws.{now, Halfway, Passing, far-no-link, unbinned-keeps, not-listed, member-below, member-far}
+use Rattle.settling.proofs.HalfwayLaws.{now, bin-ends-set, Belonging, InItsBin, Halfway, halfway-others, Passing, unbinned-keeps}
+use Rattle.settling.proofs.LeaveLaws.{not-listed, member-below, member-far}
 
 -- what a step makes of a draft whose chain is `all`: the donor, the top and the used bytes that it leaves are named
 pub record Settles (ws : List ℕ) (h : Heap) (all : List Entry) (donor top : ℕ) (d after : Draft) : Type 0 where
@@ -43,60 +43,32 @@ pub record Settles (ws : List ℕ) (h : Heap) (all : List Entry) (donor top : �
   pub topIs : after .heap .top .0 ≡ top
   pub used : after .heap .used ≡ d .heap .used
 
+-- the same donor and top by other names
 pub settles-named : {ws : List ℕ} {h : Heap} {all : List Entry} {donor top donor′ top′ : ℕ} {d after : Draft}
     → Settles ws h all donor top d after → donor ≡ donor′ → top ≡ top′ → Settles ws h all donor′ top′ d after
-settles-named s p q =
-    record {
-      halfway = s .halfway;
-      headed = s .headed;
-      chain = s .chain;
-      donorIs = s .donorIs ∙ p;
-      topIs = s .topIs ∙ q;
-      used = s .used;
-    }
+settles-named s p q = rw (← p, ← q) s
+
+-- the chunk x stays, or it is c, or it is in use
+abbrev Accounted : List Entry → Entry → Entry → Type 0
+Accounted stay c x = Mem x stay ⊎ ((x ≡ c) ⊎ (x .flags ≡ 1))
 
 module _ (ws : List ℕ) (h : Heap) (stay : List Entry) (d : Draft) (f : Halfway ws h stay d)
     (all : List Entry) (y : Layout (h .bytes) all) (sub : (e : Entry) → Mem e stay → Mem e all) where
-  used-out : (x : Entry) → Mem x all → x .flags ≡ 1 → (g : Heap) → ordinary g x ≡ true → ⊥
-  used-out x m q g o = let z = ordinary-free g x o (y .chunks x m .flags) in omega arith
-
   -- where all other chunks are in use, none waits
   pub settles-all : ((x : Entry) → Mem x all → Mem x stay ⊎ (x .flags ≡ 1)) → Settles ws h all (d .heap .donor .0) (d .heap .top .0) d d
   settles-all others =
       record {
-        halfway =
-            record {
-              heap = f .heap;
-              headPlaces = f .headPlaces;
-              tailPlaces = f .tailPlaces;
-              headsEnd = f .headsEnd;
-              tailsEnd = f .tailsEnd;
-              way = f .way;
-              none = f .none;
-              members = λ i c l m. let r = f .members i c l m in (r .0, sub (r .0) (r .1), r .2);
-              listed = λ x m o. listed x m o (others x m);
-              reserved = λ x m z o. reserved x z o (others x m);
-              housed = f .housed;
-            };
+        halfway = halfway-others ws h stay all d f (λ x m o. sub x m) others;
         headed = λ k. k;
         chain = refl;
         donorIs = refl;
         topIs = refl;
         used = refl;
       }
-    where
-      listed : (x : Entry) → Mem x all → ordinary (now h d) x ≡ true → Mem x stay ⊎ (x .flags ≡ 1)
-          → (i : ℕ) × (binOf (tableOf h) (x .size) ≡ Bin i) × ((i < h .bins) × Mem (x .place) (d .lists i))
-      listed x m o (inl k) = f .listed x k o
-      listed x m o (inr q) = absurd (used-out x m q (now h d) o)
-
-      reserved : (x : Entry) → x .flags ≡ 0 → ordinary (now h d) x ≡ false → Mem x stay ⊎ (x .flags ≡ 1) → Unbinned (written ws (d .stores)) (x .place)
-      reserved x z o (inl k) = f .reserved x k z o
-      reserved x z o (inr q) = absurd (omega arith)
 
   -- the free chunk c is in no bin; every other chunk stays or is in use
   module _ (c : Entry) (there : Mem c all) (free : c .flags ≡ 0) (new : (i : ℕ) → i < h .bins → Mem (c .place) (d .lists i) → ⊥)
-      (others : (x : Entry) → Mem x all → Mem x stay ⊎ ((x ≡ c) ⊎ (x .flags ≡ 1))) where
+      (others : (x : Entry) → Mem x all → Accounted stay c x) where
     laid : Laid (h .bytes) c
     laid = y .chunks c there
 
@@ -108,20 +80,20 @@ module _ (ws : List ℕ) (h : Heap) (stay : List Entry) (d : Draft) (f : Halfway
 
     -- what is written into c's links and bin word is no word of a header
     own-off : (x : Entry) → Mem x all → (k : ℕ) → k < 3
-        → (x .place / 4 + k ≢ c .place / 4 + nextInBin) × (x .place / 4 + k ≢ c .place / 4 + previousInBin) × (x .place / 4 + k ≢ c .place / 4 + bin)
+        → Off (x .place / 4 + k) (noBinWords (c .place))
     own-off x m k s = go (decLt (c .place) (x .place)) (laid-below (h .bytes) all y c x there m free)
       where
         go : Dec (c .place < x .place) → (c .place < x .place → c .place + 24 ≤ x .place)
-            → (x .place / 4 + k ≢ c .place / 4 + nextInBin) × (x .place / 4 + k ≢ c .place / 4 + previousInBin) × (x .place / 4 + k ≢ c .place / 4 + bin)
+            → Off (x .place / 4 + k) (noBinWords (c .place))
         go (yes l) b = let r = b l in let p = y .chunks x m .eight in let q = laid .eight in omega arith
         go (no n) b = let p = y .chunks x m .eight in let q = laid .eight in omega arith
 
     -- nor of the links and bin word of a free chunk elsewhere
     own-apart : (x : Entry) → Mem x all → x .flags ≡ 0 → x .place ≢ c .place → (k : ℕ) → k < 6
-        → (x .place / 4 + k ≢ c .place / 4 + nextInBin) × (x .place / 4 + k ≢ c .place / 4 + previousInBin) × (x .place / 4 + k ≢ c .place / 4 + bin)
+        → Off (x .place / 4 + k) (noBinWords (c .place))
     own-apart x m z ne k s = go (laid-beside (h .bytes) all y x c m there ne)
       where
-        go : Beside x c → (x .place / 4 + k ≢ c .place / 4 + nextInBin) × (x .place / 4 + k ≢ c .place / 4 + previousInBin) × (x .place / 4 + k ≢ c .place / 4 + bin)
+        go : Beside x c → Off (x .place / 4 + k) (noBinWords (c .place))
         go (inl b) = let p = y .chunks x m .eight in let q = laid .eight in let r = y .chunks x m .free z .1 in omega arith
         go (inr b) = let p = y .chunks x m .eight in let q = laid .eight in let r = large in omega arith
 
@@ -140,17 +112,12 @@ module _ (ws : List ℕ) (h : Heap) (stay : List Entry) (d : Draft) (f : Halfway
           let b = laid .free free in
           record { eight = laid .eight; some = omega (arith, b .0); fits = omega (arith, b .1, b .2) }
 
-      put-way : OnWay (books (written (written ws (d .stores)) stores) (set (d .heap .heads) i (headOr 0 (xs ++ c .place ∷ ys))) (set (d .heap .tails) i (lastOr 0 (xs ++ c .place ∷ ys))))
-          lists (h .bins)
+      put-way : OnWay (putAt (booksOf ws d) i xs (c .place) ys) lists (h .bins)
       put-way = way-puts (booksOf ws d) (d .lists) (h .bins) (f .way) i (c .place) l node far xs ys s .1
 
       -- words that are no links of members and none of c's own
-      word-off : (x k : ℕ) → NoLink (x / 4 + k) (d .lists i)
-          → (x / 4 + k ≢ c .place / 4 + nextInBin) × (x / 4 + k ≢ c .place / 4 + previousInBin) × (x / 4 + k ≢ c .place / 4 + bin)
-          → Off (x / 4 + k) stores
-      word-off x k n o =
-          let m : NoLink (x / 4 + k) (xs ++ ys) = rw s at n in
-          put-off (booksOf ws d) i xs (c .place) ys (x / 4 + k) (λ z j. m z (Memᴰ·append-left ys j)) (λ z j. m z (Memᴰ·append-right xs j)) o
+      word-off : (x k : ℕ) → NoLink (x / 4 + k) (d .lists i) → Off (x / 4 + k) (noBinWords (c .place)) → Off (x / 4 + k) stores
+      word-off x k n o = put-off (booksOf ws d) i xs (c .place) ys (x / 4 + k) (rw s at n) o
 
       put-spares : (x : Entry) → Mem x all → Spares stores x
       put-spares x m =
@@ -176,15 +143,14 @@ module _ (ws : List ℕ) (h : Heap) (stay : List Entry) (d : Draft) (f : Halfway
           (own-apart x (sub x m) z ne k b) in
           (off 3 (omega arith), off 4 (omega arith), off 5 (omega arith))
 
-      put-members : (j x : ℕ) → j < h .bins → Mem x (lists j) → (e : Entry) × Mem e all × ((e .place ≡ x) × BelongsTo (now h d) j e)
+      put-members : (j x : ℕ) → j < h .bins → Mem x (lists j) → Belonging (now h d) all j x
       put-members j x b m = go (is-from (booksOf ws d) (d .lists) (h .bins) (f .way) i (c .place) l node far xs ys s j m)
         where
-          go : Mem x (d .lists j) ⊎ ((j ≡ i) × (x ≡ c .place)) → (e : Entry) × Mem e all × ((e .place ≡ x) × BelongsTo (now h d) j e)
+          go : Mem x (d .lists j) ⊎ ((j ≡ i) × (x ≡ c .place)) → Belonging (now h d) all j x
           go (inl k) = let r = f .members j x b k in (r .0, sub (r .0) (r .1), r .2)
           go (inr q) = (c, there, (sym (q .1), (kind, t ∙ ap Bin (sym (q .0)))))
 
-      put-listed : (x : Entry) → Mem x all → ordinary (now h d) x ≡ true → Mem x stay ⊎ ((x ≡ c) ⊎ (x .flags ≡ 1))
-          → (j : ℕ) × (binOf (tableOf h) (x .size) ≡ Bin j) × ((j < h .bins) × Mem (x .place) (lists j))
+      put-listed : (x : Entry) → Mem x all → ordinary (now h d) x ≡ true → Accounted stay c x → InItsBin h lists x
       put-listed x m o (inl k) =
           let r = f .listed x k o in (r .0, r .1, (r .2 .0, go (r .0) (r .2 .1) (ℕ-discrete (r .0) i)))
         where
@@ -193,9 +159,9 @@ module _ (ws : List ℕ) (h : Heap) (stay : List Entry) (d : Draft) (f : Halfway
           go j k (no n) = rw (ne-eqb j i n) k
       put-listed x m o (inr (inl q)) =
           rw q (i, t, (l, rw (relisted-same i (xs ++ c .place ∷ ys) (d .lists)) (Memᴰ·append-right xs (List·Memᴰ·head refl))))
-      put-listed x m o (inr (inr q)) = absurd (used-out x m q (now h d) o)
+      put-listed x m o (inr (inr q)) = absurd (used-not-ordinary (now h d) x q o)
 
-      put-reserved : (x : Entry) → x .flags ≡ 0 → ordinary (now h d) x ≡ false → Mem x stay ⊎ ((x ≡ c) ⊎ (x .flags ≡ 1))
+      put-reserved : (x : Entry) → x .flags ≡ 0 → ordinary (now h d) x ≡ false → Accounted stay c x
           → Unbinned (written (written ws (d .stores)) stores) (x .place)
       put-reserved x z o (inl k) = unbinned-keeps stores (written ws (d .stores)) (x .place) (put-passes x k z o) (f .reserved x k z o)
       put-reserved x z o (inr (inl q)) = absurd (false≢true (sym o ∙ ap (ordinary (now h d)) q ∙ kind))
@@ -205,17 +171,13 @@ module _ (ws : List ℕ) (h : Heap) (stay : List Entry) (d : Draft) (f : Halfway
       unfolding putBetween
       put-settles =
           let a = written-append (d .stores) stores ws in
-          let away : (j : ℕ) → h .bins ≤ j → j ≢ i = λ j b q. omega arith in
           record {
             halfway =
                 record {
-                  heap = ap (λ (g : Heap). withEnds g (set (d .heap .heads) i (headOr 0 (xs ++ c .place ∷ ys))) (set (d .heap .tails) i (lastOr 0 (xs ++ c .place ∷ ys)))) (f .heap);
-                  headPlaces = rw length-set (f .headPlaces);
-                  tailPlaces = rw length-set (f .tailPlaces);
-                  headsEnd = λ j b. getD-set-other (d .heap .heads) i j _ 0 (away j b) ∙ f .headsEnd j b;
-                  tailsEnd = λ j b. getD-set-other (d .heap .tails) i j _ 0 (away j b) ∙ f .tailsEnd j b;
+                  heap = rw (f .heap);
+                  ends = bin-ends-set i (headOr 0 (xs ++ c .place ∷ ys)) (lastOr 0 (xs ++ c .place ∷ ys)) l (f .ends);
                   way = rw a put-way;
-                  none = λ j b. relisted-other i (xs ++ c .place ∷ ys) (d .lists) j (away j b) ∙ f .none j b;
+                  none = λ j b. relisted-other i (xs ++ c .place ∷ ys) (d .lists) j (λ q. omega arith) ∙ f .none j b;
                   members = put-members;
                   listed = λ x m o. put-listed x m o (others x m);
                   reserved = λ x m z o. rw a (put-reserved x z o (others x m));
@@ -257,8 +219,7 @@ module _ (ws : List ℕ) (h : Heap) (stay : List Entry) (d : Draft) (f : Halfway
 
       named-spares : (x : Entry) → Mem x all → Spares (noBinWords (c .place)) x
       named-spares x m =
-          let off : (k : ℕ) → k < 3 → Off (x .place / 4 + k) (noBinWords (c .place)) = λ k b. let o = own-off x m k b in (o .0, (o .1, (o .2, tt))) in
-          (off 0 (omega arith), off 1 (omega arith), λ _. off 2 (omega arith))
+          (own-off x m 0 (omega arith), own-off x m 1 (omega arith), λ _. own-off x m 2 (omega arith))
 
       named-way : OnWay (books cleared (d .heap .heads) (d .heap .tails)) (d .lists) (h .bins)
       named-way =
@@ -282,25 +243,23 @@ module _ (ws : List ℕ) (h : Heap) (stay : List Entry) (d : Draft) (f : Halfway
           }
 
       named-unbinned : (x : Entry) → x .flags ≡ 0 → ordinaryKind (kindAt (h .bytes) donor top x) ≡ false
-          → Mem x stay ⊎ ((x ≡ c) ⊎ (x .flags ≡ 1)) → Unbinned cleared (x .place)
+          → Accounted stay c x → Unbinned cleared (x .place)
       named-unbinned x z o (inl k) = go (ℕ-discrete (x .place) (c .place))
         where
           go : Dec (x .place ≡ c .place) → Unbinned cleared (x .place)
           go (yes q) = rw q own-unbinned
           go (no n) =
-              let off : (k′ : ℕ) → k′ < 6 → Off (x .place / 4 + k′) (noBinWords (c .place)) =
-              λ k′ b. let a = own-apart x (sub x k) z n k′ b in (a .0, (a .1, (a .2, tt))) in
+              let off : (j : ℕ) → j < 6 → Off (x .place / 4 + j) (noBinWords (c .place)) = own-apart x (sub x k) z n in
               unbinned-keeps (noBinWords (c .place)) (written ws (d .stores)) (x .place)
               (off 3 (omega arith), off 4 (omega arith), off 5 (omega arith)) (f .reserved x k z (sym (same-ordinary x k) ∙ o))
       named-unbinned x z o (inr (inl q)) = rw q own-unbinned
       named-unbinned x z o (inr (inr q)) = absurd (omega arith)
 
-      named-listed : (x : Entry) → Mem x all → ordinaryKind (kindAt (h .bytes) donor top x) ≡ true → Mem x stay ⊎ ((x ≡ c) ⊎ (x .flags ≡ 1))
-          → (i : ℕ) × (binOf (tableOf h) (x .size) ≡ Bin i) × ((i < h .bins) × Mem (x .place) (d .lists i))
+      named-listed : (x : Entry) → Mem x all → ordinaryKind (kindAt (h .bytes) donor top x) ≡ true → Accounted stay c x → InItsBin h (d .lists) x
       named-listed x m o (inl k) = f .listed x k (sym (same-ordinary x k) ∙ o)
       named-listed x m o (inr (inl q)) =
           absurd (false≢true (sym own ∙ ap (λ (e : Entry). ordinaryKind (kindAt (h .bytes) donor top e)) (sym q) ∙ o))
-      named-listed x m o (inr (inr q)) = absurd (used-out x m q (now h named) o)
+      named-listed x m o (inr (inr q)) = absurd (used-not-ordinary (now h named) x q o)
 
       settles-out : Settles ws h all donor top d named
       settles-out =
@@ -308,11 +267,8 @@ module _ (ws : List ℕ) (h : Heap) (stay : List Entry) (d : Draft) (f : Halfway
           record {
             halfway =
                 record {
-                  heap = ap (λ (g : Heap). with g (d .heap .heads) (d .heap .tails) donor top (g .merge) (d .heap .used)) (f .heap);
-                  headPlaces = f .headPlaces;
-                  tailPlaces = f .tailPlaces;
-                  headsEnd = f .headsEnd;
-                  tailsEnd = f .tailsEnd;
+                  heap = rw (f .heap);
+                  ends = f .ends;
                   way = rw a named-way;
                   none = f .none;
                   members =

@@ -10,6 +10,7 @@ use native.Mathlib.Omega.{arith}
 use lib.Dec.{eqb, ltb}
 use borrow.Author.Tests.{eqb-true}
 use Rattle.lists.specs.Lists.{Mem, headOr, lastOr, upTo, past}
+use Rattle.lists.proofs.ListsLaws.{each-cons}
 use Rattle.lists.proofs.MembersLaws.{last-member}
 use Rattle.lists.proofs.SplitLaws.{before-from, after-from}
 use Rattle.record.specs.declared.heap.Heap.{Heap}
@@ -21,14 +22,14 @@ use Rattle.record.specs.Heap.{tableOf}
 use Rattle.record.specs.Table.{smallBins, binOf}
 use Rattle.region.specs.Words.{Store, forward, backward, size, nextInBin, previousInBin, bin}
 use Rattle.region.proofs.PrefixLaws.{Below}
-use Rattle.region.proofs.WordsLaws.{Off}
+use Rattle.region.proofs.WordsLaws.{Fall, fall-both, fall-so, Off}
 use Rattle.rules.specs.Shape.{Entry, shape, binList}
 use Rattle.rules.specs.Kinds.{unused, blockOf, blockEnd, outside}
 use Rattle.rules.specs.Check.{Passes}
 use Rattle.rules.specs.Draft.{Draft, asRead, alsoWrites, nowUses, followedBy, precededBy, meet, relist, leave, leaves, leaveBin, putBetween, putInto, isPut, putInBin, sizeStores, headers, relink, settle}
 use Rattle.bins.proofs.BooksLaws.{putStores}
 use Rattle.bins.proofs.HeapBooks.{member-entry, list-none}
-use Rattle.bins.proofs.WayLaws.{member-relisted}
+use Rattle.bins.proofs.WayLaws.{InRelisted, member-relisted}
 use Rattle.settling.proofs.LayoutLaws.{Beside, Layout, laid-once, laid-beside}
 
 -- the word at index i is one of the heap, and of no block of the chain `all`
@@ -65,59 +66,54 @@ module _ (bytes : ℕ) (all : List Entry) (y : Layout bytes all) (e : Entry) (m 
   free-word f c k z lo hi = chunk-word (c / 4 + k) (omega arith) (omega arith) (λ q. absurd (omega arith))
 
 module _ (P : ℕ → Type 0) where
-  -- every store is to a word with the property
-  abbrev pub Fall : List Store → Type 0
-  Fall [] = Unit {0}
-  Fall (s ∷ ss) = P (s .chunk / 4 + s .number) × Fall ss
+  -- the two bin links of the chunk at c have the property; its three bin words; those of all members of a list
+  abbrev LinkWords : ℕ → Type 0
+  LinkWords c = P (c / 4 + nextInBin) × P (c / 4 + previousInBin)
 
-  fall-both : (ss ts : List Store) → Fall ss → Fall ts → Fall (ss ++ ts)
-  fall-both [] ts f g = g
-  fall-both (s ∷ ss) ts f g = (f .0, fall-both ss ts (f .1) g)
+  abbrev BinWords : ℕ → Type 0
+  BinWords c = P (c / 4 + nextInBin) × P (c / 4 + previousInBin) × P (c / 4 + bin)
 
-  -- so none is to a word without it, and all are below m if all such words are
-  fall-off : (i : ℕ) → (P i → ⊥) → (ss : List Store) → Fall ss → Off i ss
-  fall-off i n [] f = tt
-  fall-off i n (s ∷ ss) f = (λ q. n (rw q (f .0)), fall-off i n ss (f .1))
-
-  fall-below : (m : ℕ) → ((i : ℕ) → P i → i < m) → (ss : List Store) → Fall ss → Below m ss
-  fall-below m b [] f = tt
-  fall-below m b (s ∷ ss) f = (b _ (f .0), fall-below m b ss (f .1))
-
-  -- the links of the members of a list have it
   abbrev pub Links : List ℕ → Type 0
-  Links cs = (c : ℕ) → Mem c cs → P (c / 4 + nextInBin) × P (c / 4 + previousInBin)
+  Links cs = (c : ℕ) → Mem c cs → LinkWords c
 
-  meet-falls : (xs ys : List ℕ) → Links xs → Links ys → Fall (meet xs ys)
+  -- the words of a chunk's header
+  abbrev HeaderWords : Entry → Type 0
+  HeaderWords e = P (e .place / 4 + forward) × P (e .place / 4 + backward) × (e .flags ≡ 0 → P (e .place / 4 + size))
+
+  links-both : (xs ys : List ℕ) → Links xs → Links ys → Links (xs ++ ys)
+  links-both xs ys f g c m = elim (List·Memᴰ·append-cases xs m) [ inl k ↦ f c k | inr k ↦ g c k ]
+
+  meet-falls : (xs ys : List ℕ) → Links xs → Links ys → Fall P (meet xs ys)
   meet-falls xs ys f g =
-      fall-both (followedBy xs (headOr 0 ys)) (precededBy ys (lastOr 0 xs)) (followed xs (headOr 0 ys) f) (preceded ys (lastOr 0 xs) g)
+      fall-both P (followedBy xs (headOr 0 ys)) (precededBy ys (lastOr 0 xs)) (followed xs (headOr 0 ys) f) (preceded ys (lastOr 0 xs) g)
     where
-      followed : (xs : List ℕ) (v : ℕ) → Links xs → Fall (followedBy xs v)
+      followed : (xs : List ℕ) (v : ℕ) → Links xs → Fall P (followedBy xs v)
       followed [] v f = tt
       followed (x ∷ xs) v f = (f (lastOr x xs) (last-member x xs) .0, tt)
 
-      preceded : (ys : List ℕ) (v : ℕ) → Links ys → Fall (precededBy ys v)
+      preceded : (ys : List ℕ) (v : ℕ) → Links ys → Fall P (precededBy ys v)
       preceded [] v g = tt
       preceded (y ∷ ys) v g = (g y (List·Memᴰ·head refl) .1, tt)
 
   -- all stores of the draft are to such words, and the links of all that are in bins are such words
   pub record Spared (d : Draft) : Type 0 where
-    pub stores : Fall (d .stores)
+    pub stores : Fall P (d .stores)
     pub members : (i : ℕ) → Links (d .lists i)
 
-  pub writes-spared : (ss : List Store) (d : Draft) → Spared d → Fall ss → Spared (alsoWrites ss d)
-  writes-spared ss d s f = record { stores = fall-both (d .stores) ss (s .stores) f; members = s .members }
+  pub writes-spared : (ss : List Store) (d : Draft) → Spared d → Fall P ss → Spared (alsoWrites ss d)
+  writes-spared ss d s f = record { stores = fall-both P (d .stores) ss (s .stores) f; members = s .members }
 
   pub uses-spared : (before after : ℕ) (d : Draft) → Spared d → Spared (nowUses before after d)
   uses-spared before after d s = record { stores = s .stores; members = s .members }
 
-  relist-spared : (i : ℕ) (cs : List ℕ) (ss : List Store) (d : Draft) → Spared d → Links cs → Fall ss → Spared (relist i cs ss d)
+  relist-spared : (i : ℕ) (cs : List ℕ) (ss : List Store) (d : Draft) → Spared d → Links cs → Fall P ss → Spared (relist i cs ss d)
   relist-spared i cs ss d s l f =
       record {
-        stores = fall-both (d .stores) ss (s .stores) f;
+        stores = fall-both P (d .stores) ss (s .stores) f;
         members = λ j c m. go j c (member-relisted i cs (d .lists) j m);
       }
     where
-      go : (j c : ℕ) → ((j ≡ i) × Mem c cs) ⊎ ((j ≢ i) × Mem c (d .lists j)) → P (c / 4 + nextInBin) × P (c / 4 + previousInBin)
+      go : (j c : ℕ) → InRelisted i cs (d .lists) j c → LinkWords c
       go j c (inl k) = l c (k .1)
       go j c (inr k) = s .members j c (k .1)
 
@@ -133,62 +129,45 @@ module _ (P : ℕ → Type 0) where
           let ys : List ℕ = past (eqb (e .place)) (d .lists i) in
           let f : Links xs = λ c m. s .members i c (before-from (eqb (e .place)) (d .lists i) m) in
           let g : Links ys = λ c m. s .members i c (after-from (eqb (e .place)) (d .lists i) m) in
-          relist-spared i (xs ++ ys) (meet xs ys) d s (λ c m. either c xs ys f g (List·Memᴰ·append-cases xs m)) (meet-falls xs ys f g)
-        where
-          either : (c : ℕ) (xs ys : List ℕ) → Links xs → Links ys → Mem c xs ⊎ Mem c ys → P (c / 4 + nextInBin) × P (c / 4 + previousInBin)
-          either c xs ys f g (inl m) = f c m
-          either c xs ys f g (inr m) = g c m
+          relist-spared i (xs ++ ys) (meet xs ys) d s (links-both xs ys f g) (meet-falls xs ys f g)
 
   -- chunks are linked in: their headers have the property, and the backward link of the chunk above them
-  headers-fall : (p : ℕ) (es : List Entry)
-      → ((e : Entry) → Mem e es → P (e .place / 4 + forward) × P (e .place / 4 + backward) × (e .flags ≡ 0 → P (e .place / 4 + size)))
-      → Fall (headers p es)
+  headers-fall : (p : ℕ) (es : List Entry) → ((e : Entry) → Mem e es → HeaderWords e) → Fall P (headers p es)
   headers-fall p [] f = tt
   headers-fall p (e ∷ es) f =
       let o = f e (List·Memᴰ·head refl) in (
         o .0,
         (
           o .1,
-          fall-both (sizeStores e (eqb (e .flags) unused)) (headers (e .place) es) (own (eqb (e .flags) unused) refl (o .2))
+          fall-both P (sizeStores e (eqb (e .flags) unused)) (headers (e .place) es) (own (eqb (e .flags) unused) refl (o .2))
               (headers-fall (e .place) es (λ d m. f d (List·Memᴰ·tail m))),
         ),
       )
     where
-      own : (t : Bool) → eqb (e .flags) unused ≡ t → (e .flags ≡ 0 → P (e .place / 4 + size)) → Fall (sizeStores e t)
+      own : (t : Bool) → eqb (e .flags) unused ≡ t → (e .flags ≡ 0 → P (e .place / 4 + size)) → Fall P (sizeStores e t)
       own true q g = (g (eqb-true (e .flags) unused q), tt)
       own false q g = tt
 
-  pub relink-spared : (low es high : List Entry) (d : Draft) → Spared d
-      → ((e : Entry) → Mem e es → P (e .place / 4 + forward) × P (e .place / 4 + backward) × (e .flags ≡ 0 → P (e .place / 4 + size)))
+  pub relink-spared : (low es high : List Entry) (d : Draft) → Spared d → ((e : Entry) → Mem e es → HeaderWords e)
       → P (headOr outside high .place / 4 + backward) → Spared (relink low es high d)
   unfolding relink
   relink-spared low es high d s f a =
       let ss : List Store = headers (lastOr outside low .place) es in
       record {
-        stores = fall-both (d .stores ++ ss) _ (fall-both (d .stores) ss (s .stores) (headers-fall (lastOr outside low .place) es f)) (a, tt);
+        stores = fall-both P (d .stores ++ ss) _ (fall-both P (d .stores) ss (s .stores) (headers-fall (lastOr outside low .place) es f)) (a, tt);
         members = s .members;
       }
 
   -- a chunk takes its place: its links and its bin word have the property
-  module _ (e : Entry) (d : Draft) (s : Spared d)
-      (own : P (e .place / 4 + nextInBin) × P (e .place / 4 + previousInBin) × P (e .place / 4 + bin)) where
+  module _ (e : Entry) (d : Draft) (s : Spared d) (own : BinWords (e .place)) where
     put-spared : (i : ℕ) (xs ys : List ℕ) → Links xs → Links ys → Spared (putBetween i xs (e .place) ys d)
     unfolding putBetween
     put-spared i xs ys f g =
         let c : ℕ = e .place in
-        let one : Links (c ∷ []) = λ x m. single x m in
-        relist-spared i (xs ++ c ∷ ys) (putStores i xs c ys) d s (λ x m. either x (List·Memᴰ·append-cases xs m))
-        (fall-both (meet xs (c ∷ []) ++ meet (c ∷ []) ys) _
-        (fall-both (meet xs (c ∷ [])) (meet (c ∷ []) ys) (meet-falls xs (c ∷ []) f one) (meet-falls (c ∷ []) ys one g)) (own .2, tt))
-      where
-        single : (x : ℕ) → Mem x (e .place ∷ []) → P (x / 4 + nextInBin) × P (x / 4 + previousInBin)
-        single x (List·Memᴰ·head q) = rw q (own .0, own .1)
-        single x (List·Memᴰ·tail m) = absurd (List·Memᴰ·not-nil m)
-
-        either : (x : ℕ) → Mem x xs ⊎ Mem x (e .place ∷ ys) → P (x / 4 + nextInBin) × P (x / 4 + previousInBin)
-        either x (inl m) = f x m
-        either x (inr (List·Memᴰ·head q)) = rw q (own .0, own .1)
-        either x (inr (List·Memᴰ·tail m)) = g x m
+        let one : Links (c ∷ []) = each-cons (own .0, own .1) (λ x m. absurd (List·Memᴰ·not-nil m)) in
+        relist-spared i (xs ++ c ∷ ys) (putStores i xs c ys) d s (links-both xs (c ∷ ys) f (each-cons (own .0, own .1) g))
+        (fall-both P (meet xs (c ∷ []) ++ meet (c ∷ []) ys) _
+        (fall-both P (meet xs (c ∷ [])) (meet (c ∷ []) ys) (meet-falls xs (c ∷ []) f one) (meet-falls (c ∷ []) ys one g)) (own .2, tt))
 
     in-bin-spared : Spared (putInBin e d)
     unfolding putInBin putInto
@@ -205,30 +184,30 @@ module _ (P : ℕ → Type 0) where
     pub settle-spared : (k : Kind) → Spared (settle k e d)
     unfolding settle
     settle-spared Ordinary = in-bin-spared
-    settle-spared Donor = record { stores = fall-both (d .stores) _ (s .stores) (own .0, (own .1, (own .2, tt))); members = s .members }
-    settle-spared Top = record { stores = fall-both (d .stores) _ (s .stores) (own .0, (own .1, (own .2, tt))); members = s .members }
+    settle-spared Donor = record { stores = fall-both P (d .stores) _ (s .stores) (own .0, (own .1, (own .2, tt))); members = s .members }
+    settle-spared Top = record { stores = fall-both P (d .stores) _ (s .stores) (own .0, (own .1, (own .2, tt))); members = s .members }
     settle-spared Start = s
     settle-spared InUse = s
     settle-spared End = s
 
 -- a heap that passes, with nothing written yet, where the links of free chunks are such words
 pub read-spared : (P : ℕ → Type 0) (ws : List ℕ) (h : Heap) → Passes ws h
-    → ((e : Entry) → Mem e (shape ws (h .bytes)) → e .flags ≡ 0 → P (e .place / 4 + nextInBin) × P (e .place / 4 + previousInBin)) → Spared P (asRead ws h)
+    → ((e : Entry) → Mem e (shape ws (h .bytes)) → e .flags ≡ 0 → LinkWords P (e .place)) → Spared P (asRead ws h)
 unfolding asRead
 read-spared P ws h p f = record { stores = tt; members = λ i c m. go i c m (decLt i (h .bins)) }
   where
-    go : (i c : ℕ) → Mem c (binList ws h i) → Dec (i < h .bins) → P (c / 4 + nextInBin) × P (c / 4 + previousInBin)
+    go : (i c : ℕ) → Mem c (binList ws h i) → Dec (i < h .bins) → LinkWords P c
     go i c m (yes l) = let r = member-entry ws h p i c l m in rw (← r .1 .place) (f (r .0) (r .1 .member) (r .1 .is .free .flags))
     go i c m (no n) = absurd (List·Memᴰ·not-nil (rw (list-none ws h p i (omega arith)) at m))
 
 -- a draft all of whose stores are outside the blocks of a chain: no word of a block is written, and none past the heap bytes
 module _ (bytes : ℕ) (all : List Entry) (d : Draft) (s : Spared (Outside bytes all) d) where
   pub blocks-spared : (e : Entry) → Mem e all → e .flags ≡ 1 → (i : ℕ) → blockOf e ≤ 4 * i → 4 * i < blockEnd e → Off i (d .stores)
-  blocks-spared e m f i lo hi = fall-off (Outside bytes all) i (λ o. go (o .blocks e m f)) (d .stores) (s .stores)
+  blocks-spared e m f i lo hi = fall-so (Outside bytes all) (λ w. i ≢ w) (λ w o q. go (rw (← q) at o .blocks e m f)) (d .stores) (s .stores)
     where
       go : (4 * i < blockOf e) ⊎ (blockEnd e ≤ 4 * i) → ⊥
       go (inl l) = omega arith
       go (inr l) = omega arith
 
   pub heap-stores : Below (bytes / 4) (d .stores)
-  heap-stores = fall-below (Outside bytes all) (bytes / 4) (λ i o. let l = o .heap in omega arith) (d .stores) (s .stores)
+  heap-stores = fall-so (Outside bytes all) (λ w. w < bytes / 4) (λ w o. let l = o .heap in omega arith) (d .stores) (s .stores)

@@ -29,7 +29,7 @@ pub fn leave_bin(
     leave(region, heads, tails, chunk);
 }
 
-// Into the bin of its size. A chunk of less than 24 bytes, which no heap that passes has, has no bin and is put nowhere.
+// Into the bin of its size. A free chunk of less than 24 bytes, which no heap that passes has, has no bin and is put nowhere.
 pub fn put_in_bin(
     region: &mut [u32],
     heads: &mut [u32],
@@ -48,7 +48,7 @@ pub fn put_in_bin(
     put(region, heads, tails, small, bin, chunk);
 }
 
-// The bin words of the result: donor and top are in no bin.
+// A free chunk takes its place: in its bin, or, as donor or top, with its bin words 0.
 pub fn settle(
     region: &mut [u32],
     heads: &mut [u32],

@@ -1,30 +1,20 @@
 -- `bins::put_between` is its definition, call by call. Assumes nothing.
 use borrow.Author.Needs.{needs}
-use Rattle.bins.specs.Books.{putM}
-use Rattle.bins.proofs.BooksSteps.{words-of, ends-of}
+use Rattle.bins.proofs.BooksSteps.{put-steps}
 use Rattle.bins.proofs.put_between.Statement.{statement}
 use Rattle.bins.proofs.put_between.Tie as tie
 
 returns : tie.Need-returns
-unfolding putM
 returns c =
     let numbered = c .before .before in
-    let tails-back = numbered .before .before .before .before in
-    let before-next = tails-back .before .before .before in
-    let next-stored = before-next .before .before .before .before .before in
+    let tails-known = numbered .before .before .before .before in
+    let back = tails-known .before .before .before in
+    let next-stored = back .before .before .before .before .before in
     let previous-stored = next-stored .before .before .before .before in
-    let heads-back = previous-stored .before .before .before in
-    let after-previous = heads-back .before .before .before in
-    rw (
-      numbered .store3 .ensures,
-      numbered .before .bin-word .ensures,
-      words-of (before-next .link2 .ensures),
-      ends-of (before-next .link2 .ensures),
-      next-stored .store2 .ensures,
-      previous-stored .store .ensures,
-      words-of (after-previous .link .ensures),
-      ends-of (after-previous .link .ensures),
-    )
+    let heads-known = previous-stored .before .before .before in
+    let front = heads-known .before .before .before in
+    put-steps _ _ _ _ _ _ _ (front .link .ensures) (previous-stored .store .ensures) (next-stored .store2 .ensures) (back .link2 .ensures)
+    (numbered .before .bin-word .ensures) (numbered .store3 .ensures)
 
 pub put-between-spec : {M : Type 1} → statement M
 put-between-spec =

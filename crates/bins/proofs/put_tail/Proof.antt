@@ -1,4 +1,4 @@
--- `bins::put_tail` puts between 0 and the tail that it reads. Assumes nothing.
+-- `bins::put_tail` puts between the tail that it reads and 0. Assumes nothing.
 use borrow.Author.Needs.{needs}
 use Rattle.bins.proofs.put_tail.Statement.{statement}
 use Rattle.bins.proofs.put_tail.Tie as tie

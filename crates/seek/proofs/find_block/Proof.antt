@@ -6,7 +6,7 @@ use Rattle.seek.proofs.find_block.Tie as tie
 
 returns : tie.Need-returns
 returns c =
-    block-nowhere _ _ _ _ _ (c .before .before .before .chunk-of .ensures) (c .before .before .find-chunk .ensures)
+    block-nowhere _ _ _ (c .before .before .before .chunk-of .ensures) (c .before .before .find-chunk .ensures)
     (c .enum-told .given .1)
 
 -- behind the question whether the block is live: the chunk is found
@@ -21,14 +21,14 @@ returns-2 : tie.Need-returns-2
 returns-2 c =
     let asked = c .before in
     let sought = sought asked in
-    block-dead _ _ _ _ _ (sought .before .chunk-of .ensures) (sought .find-chunk .ensures) _ (found asked .sought .given .1) _
+    block-dead _ _ _ (sought .before .chunk-of .ensures) (sought .find-chunk .ensures) (found asked .sought .given .1)
     (asked .is-live .ensures) (c .if1 .taken)
 
 returns-3 : tie.Need-returns-3
 returns-3 c =
     let asked = c .before in
     let sought = sought asked in
-    block-found _ _ _ _ _ (sought .before .chunk-of .ensures) (sought .find-chunk .ensures) _ (found asked .sought .given .1) _
+    block-found _ _ _ (sought .before .chunk-of .ensures) (sought .find-chunk .ensures) (found asked .sought .given .1)
     (asked .is-live .ensures) (c .if1 .left)
 
 pub find-block-spec : {M : Type 1} → statement M

@@ -15,29 +15,28 @@ abbrev μ-loop : tie.MeasureT-loop
 μ-loop region bytes place before₀ at₀ before at = bytes - at
 
 loop-holds : tie.Need-loop-holds Inv-loop μ-loop
-loop-holds c = seeking-begins _ _ _
+loop-holds c = seeking-begins
 
 returns : tie.Need-returns Inv-loop μ-loop
 returns c =
-    seeking-found _ _ _ _ _ _ _ (c .before .before .before .before .loop .inv) (c .before .before .before .word .ensures)
-    (c .before .before .end-of .ensures) (c .before .if1 .taken) _ _ (c .word2 .ensures) refl
+    let here = c .before .before .before in
+    seeking-found (here .before .loop .inv) (here .word .ensures) (c .before .before .end-of .ensures) (c .before .if1 .taken) (c .word2 .ensures) refl
 
 returns-2 : tie.Need-returns-2 Inv-loop μ-loop
 returns-2 c =
-    seeking-ends _ _ _ _ _ _ _ (c .before .before .before .before .loop .inv) (c .before .before .before .word .ensures)
-    (c .before .before .end-of .ensures) (c .before .if1 .left) (c .if2 .taken)
+    let here = c .before .before .before in
+    seeking-ends (here .before .loop .inv) (here .word .ensures) (c .before .before .end-of .ensures) (c .before .if1 .left) (c .if2 .taken)
 
 loop-less : tie.Need-loop-less Inv-loop μ-loop
 loop-less c =
-    let g =
-    seeking-goes _ _ _ _ _ _ _ (c .before .before .before .before .loop .inv) (c .before .before .before .word .ensures)
-    (c .before .before .end-of .ensures) (c .before .if1 .left) (c .if2 .left) in
+    let here = c .before .before .before in
+    let g = seeking-goes (here .before .loop .inv) (here .word .ensures) (c .before .before .end-of .ensures) (c .before .if1 .left) (c .if2 .left) in
     omega (arith, g .0, g .1)
 
 loop-again : tie.Need-loop-again Inv-loop μ-loop
 loop-again c =
-    seeking-goes _ _ _ _ _ _ _ (c .before .before .before .before .loop .inv) (c .before .before .before .word .ensures)
-    (c .before .before .end-of .ensures) (c .before .if1 .left) (c .if2 .left) .2
+    let here = c .before .before .before in
+    seeking-goes (here .before .loop .inv) (here .word .ensures) (c .before .before .end-of .ensures) (c .before .if1 .left) (c .if2 .left) .2
 
 pub find-chunk-spec : {M : Type 1} → statement M
 find-chunk-spec =

@@ -5,7 +5,7 @@ use native.Mathlib.Omega.{arith}
 use mathlib.Core.Path.{_≡_, refl}
 use borrow.Author.Needs.{needs}
 use lib.ListN.{length}
-use Rattle.chain.proofs.EndLaws.{past-end}
+use Rattle.chain.proofs.EndLaws.{end-above}
 use Rattle.audit.proofs.SurveyLaws.{Onward, begins, walk-breaks, walk-ends, walk-goes}
 use Rattle.audit.proofs.survey.walk.Statement.{statement}
 use Rattle.audit.proofs.survey.walk.Tie as tie
@@ -22,7 +22,7 @@ loop-holds c = (begins, refl)
 
 sub-size : tie.Need-sub-size Inv-loop μ-loop
 sub-size c =
-    past-end _ _ _ _ _ (c .before .word .ensures) (c .end-of .ensures) (c .before .before .loop .inv .0 .inside)
+    end-above _ _ _ (c .before .word .ensures) (c .end-of .ensures) (c .before .before .loop .inv .0 .inside)
 
 same-length : tie.Need-same-length Inv-loop μ-loop
 same-length c = search needs

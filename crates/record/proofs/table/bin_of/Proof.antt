@@ -1,11 +1,10 @@
 -- `table::bin_of` gives the last bin whose size is not above: all bins passed on the way down are above.
 -- Assumes nothing.
-use Prim.Native.Nat.{ℕ, _≤_, _<_, _-_}
+use Prim.Native.Nat.{ℕ, _≤_, _<_}
 use native.Mathlib.Omega.{arith}
-use native.Mathlib.Decide.{ℕ-discrete}
-use mathlib.Core.Path.{_≡_}
 use borrow.Author.Needs.{needs}
 use lib.ListN.{length, getD}
+use Rattle.record.proofs.TableSteps.{above-one-more}
 use Rattle.record.proofs.table.bin_of.Statement.{statement}
 use Rattle.record.proofs.table.bin_of.Tie as tie
 
@@ -30,14 +29,10 @@ returns c =
 
 loop-again : tie.Need-loop-again Inv-loop μ-loop
 loop-again c =
-    let l = c .before .before .before .loop in
-    (omega arith, λ j lo hi. below j (ℕ-discrete j (l .i - 1)) lo hi)
-  where
-    below : (j : ℕ) → Dec (j ≡ c .before .before .before .loop .i - 1) → c .before .before .before .loop .i - 1 ≤ j
-        → j < length (c .before .before .before .before .args .table .now)
-        → c .before .before .before .before .args .size < getD (c .before .before .before .before .args .table .now) j 0
-    below j (yes e) lo hi = rw e (c .if1 .left)
-    below j (no n) lo hi = c .before .before .before .loop .inv .1 j (omega arith) hi
+    let turn = c .before .before .before in
+    let l = turn .loop in
+    let a = turn .before .args in
+    (omega arith, above-one-more (a .table .now) (l .i) (a .size) (l .inv .1) (c .if1 .left))
 
 returns-2 : tie.Need-returns-2 Inv-loop μ-loop
 returns-2 c = λ j hi. c .before .loop .inv .1 j (omega arith) hi
