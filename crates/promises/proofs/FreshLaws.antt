@@ -10,6 +10,7 @@ use lib.ListN.{length, length-append, getD, replicate, length-replicate, getD-re
 use lib.Seq.{take-append-seam, getD-append-add}
 use borrow.Author.Tests.{ne-eqb}
 use Rattle.lists.specs.Lists.{Mem}
+use Rattle.lists.proofs.ListsLaws.{each-cons}
 use Rattle.record.specs.declared.heap.Heap.{Heap}
 use Rattle.record.specs.Table.{ValidTable}
 use Rattle.region.specs.Words.{Store, put, written, forward, backward}
@@ -19,7 +20,6 @@ use Rattle.rules.specs.Kinds.{ordinary, live, outside}
 use Rattle.rules.specs.Check.{Fits, Tabled, Unbinned, TopIs, DonorIs, Listed, usedBytes, Passes, PassesAs}
 use Rattle.rules.specs.Draft.{headers, noBinWords}
 use Rattle.rules.specs.Setup.{fresh, firstHeaders}
-use Rattle.rules.proofs.ChainLaws.{each-cons}
 use Rattle.rules.proofs.KindsLaws.{kind-start, kind-end, kind-top, kind-donor}
 use Rattle.rules.proofs.ShapeLaws.{read-none}
 use Rattle.rules.proofs.TiledLaws.{tiled-empty}
