@@ -10,23 +10,21 @@ use borrow.Author.Tests.{le-leb, lt-leb}
 use Rattle.bins.specs.Books.{books}
 use Rattle.record.specs.declared.heap.Heap.{Heap}
 use Rattle.record.specs.declared.kinds.Kind.{Kind}
-use Rattle.record.specs.declared.sources.Source.{Source}
 use Rattle.record.specs.Heap.{at, tableOf, with}
 use Rattle.region.specs.Words.{written}
-use Rattle.rules.specs.Allocate.{sourceOf, grant}
-use Rattle.rules.specs.Check.{Passes}
-use Rattle.rules.specs.Cut.{Grant, grantAt, grantFrom}
-use Rattle.rules.specs.Draft.{asRead, Spot, spot}
-use Rattle.rules.specs.Kinds.{isAt, used}
-use Rattle.rules.specs.Serve.{nowhere}
-use Rattle.rules.specs.Shape.{Entry, entry, shape}
+use Rattle.rules.specs.Allocate.{grant}
+use Rattle.rules.specs.Cut.{Grant, grantAt}
+use Rattle.rules.specs.Draft.{asRead}
+use Rattle.rules.specs.Kinds.{used}
+use Rattle.rules.specs.Shape.{Entry, entry}
 use Rattle.rules.proofs.SpotLaws.{bounds, inside, used-few}
 use Rattle.settling.specs.Settling.{donorAfter, topAfter}
 use Rattle.settling.proofs.DraftLaws.{booksOf}
 use Rattle.grant.specs.Cut.{grantedM, cutM, takeM}
 use Rattle.grant.specs.Serve.{kindIn, Leaves, leaves, takenM, serveM, servedM}
-use Rattle.grant.proofs.SourceLaws.{CanGrant, free-source, source-can}
+use Rattle.grant.proofs.SourceLaws.{Grantable, free-source}
 use Rattle.grant.proofs.CutMeaning.{Serving, Taken, chunk-taken}
+use Rattle.grant.proofs.GrantKept.{source, chosen, can, low, high}
 
 -- what is left where the rule's grant was written, with this record and this chunk
 abbrev granting : List ℕ → Grant → Heap → Entry → Leaves
@@ -44,7 +42,7 @@ granted-few n s l = go (decLt s (n + 24))
     go (yes k) = rw (lt-leb (n + 24) s k) (omega arith)
     go (no k) = rw (le-leb (n + 24) s (omega arith)) l
 
-module _ (ws : List ℕ) (h : Heap) (p : Passes ws h) (n : ℕ) (large : 24 ≤ n) (eight : n % 8 ≡ 0) where
+module _ (ws : List ℕ) (h : Heap) (n : ℕ) where
   -- m bytes of the chunk e are granted as the rule says
   taken-is : (k : Kind) (e : Entry) (m : ℕ) (g : Grant) → m + h .used < 2 ^ 32
       → takeM (books ws (h .heads) (h .tails)) (tableOf h) k (cutM ws (e .place) n) ≡ booksOf ws (g .draft)
@@ -59,49 +57,47 @@ module _ (ws : List ℕ) (h : Heap) (p : Passes ws h) (n : ℕ) (large : 24 ≤ 
       rw (is, rest, z, u)
       (ap (λ (x : Heap). granting ws g x (entry (e .place) m used)) (sym heap) ∙ ap (granting ws g (g .draft .heap)) (sym given))
 
-  module _ (source : Source) (s : source ≡ sourceOf n (asRead ws h)) (some : nowhere source ≡ false) where
-    found : (e : Entry) × CanGrant ws h n source e
-    found = rw (sym s) at (source-can ws h p n (rw s at some))
+module _ {ws : List ℕ} {h : Heap} {n : ℕ} (room : Grantable ws h n) where
+  abbrev e : Entry
+  e = chosen room
 
-    abbrev here : Spot
-    here = spot (isAt (found .0 .place)) (shape ws (h .bytes))
+  abbrev kind : Kind
+  kind = kindIn (source room)
 
-    serving : Serving ws h n (kindIn source) (here .low) (found .0) (here .high)
-    serving =
-        let c = found .1 in
-        record {
-          split = c .split;
-          free = c .free;
-          kind = c .kind;
-          isFree = free-source source some;
-          enough = c .enough;
-          spare = c .spare;
-        }
+  serving : Serving ws h n kind (low room) e (high room)
+  serving =
+      let c = can room in
+      record {
+        split = c .split;
+        free = c .free;
+        kind = c .kind;
+        isFree = free-source (source room) (room .some);
+        enough = c .enough;
+        spare = c .spare;
+      }
 
-    -- the rule's grant is of this chunk
-    ruled : grantAt (kindIn source) (record { low = here .low; here = found .0; high = here .high }) n (asRead ws h) ≡ grant n (asRead ws h)
-    ruled =
-        ap (λ (x : Entry). grantAt (kindIn source) (record { low = here .low; here = x; high = here .high }) n (asRead ws h)) (sym (found .1 .here))
-        ∙ sym (found .1 .is)
-        ∙ ap (λ (x : Source). grantFrom x n (asRead ws h)) s
+  -- the rule's grant is of this chunk
+  ruled : grantAt kind (record { low = low room; here = e; high = high room }) n (asRead ws h) ≡ grant n (asRead ws h)
+  ruled =
+      ap (λ (x : Entry). grantAt kind (record { low = low room; here = x; high = high room }) n (asRead ws h)) (sym (can room .here)) ∙ sym (can room .is)
 
-    taken : Taken ws h p n large eight (kindIn source) (here .low) (found .0) (here .high) serving (grantedM n (found .0 .size)) (grant n (asRead ws h))
-    taken = rw ruled at (chunk-taken ws h p n large eight (kindIn source) (here .low) (found .0) (here .high) serving)
+  taken : Taken ws h (room .well) n (room .large) (room .eight) kind (low room) e (high room) serving (grantedM n (e .size)) (grant n (asRead ws h))
+  taken = rw ruled at (chunk-taken ws h (room .well) n (room .large) (room .eight) kind (low room) e (high room) serving)
 
-    pub serve-is : servedM ws (tableOf h) h source n ≡ handed ws (grant n (asRead ws h))
-    unfolding servedM serveM
-    serve-is =
-        let c = found .1 in
-        let t = taken in
-        let g = granted-few n (found .0 .size) (c .enough) in
-        let i = inside ws h p (found .0) (c .member) in
-        let b = bounds ws h p in
-        rw (sym (c .place))
-        (taken-is (kindIn source) (found .0) (grantedM n (found .0 .size)) (grant n (asRead ws h)) (omega (arith, used-few ws h p)) (t .is) (t .rest) (t .granted) (t .heap))
+  pub serve-is : servedM ws (tableOf h) h (source room) n ≡ handed ws (grant n (asRead ws h))
+  unfolding servedM serveM
+  serve-is =
+      let c = can room in
+      let t = taken in
+      let g = granted-few n (e .size) (c .enough) in
+      let i = inside ws h (room .well) e (c .member) in
+      let b = bounds ws h (room .well) in
+      rw (sym (c .place))
+      (taken-is ws h n kind e (grantedM n (e .size)) (grant n (asRead ws h)) (omega (arith, used-few ws h (room .well))) (t .is) (t .rest) (t .granted) (t .heap))
 
-    pub grant-housed : grant n (asRead ws h) .draft .homeless ≡ false
-    grant-housed = taken .housed
+  pub grant-housed : grant n (asRead ws h) .draft .homeless ≡ false
+  grant-housed = taken .housed
 
-    -- a grant leaves the table
-    pub grant-table : tableOf (grant n (asRead ws h) .draft .heap) ≡ tableOf h
-    grant-table = ap tableOf (taken .heap)
+  -- a grant leaves the table
+  pub grant-table : tableOf (grant n (asRead ws h) .draft .heap) ≡ tableOf h
+  grant-table = ap tableOf (taken .heap)

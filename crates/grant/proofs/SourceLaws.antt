@@ -1,9 +1,10 @@
 -- What the chosen source is on a heap that passes: a free chunk of the chain, large enough for the need, and for a need and 24 bytes more
--- if it is the donor or the top; and where the chain is taken apart for the grant (`source-can`). Assumes nothing.
+-- if it is the donor or the top; and where the chain is taken apart for the grant (`source-can`). What every law of a grant assumes is
+-- `Grantable`. Assumes nothing.
 use mathlib.Core.Path.{_≡_, refl, subst}
 use mathlib.Core.Bool.{Bool, true, false, cond, not, _&&_, true≢false}
 use mathlib.Core.List.{List, [], _∷_, _++_, List·Memᴰ·head}
-use Prim.Native.Nat.{ℕ, suc, _+_, _-_, _≤_, _<_}
+use Prim.Native.Nat.{ℕ, suc, _+_, _-_, _%_, _≤_, _<_}
 use native.Mathlib.Decide.{ℕ-discrete}
 use native.Mathlib.Omega.{arith}
 use lib.Dec.{eqb, leb}
@@ -22,16 +23,17 @@ use Rattle.record.specs.Heap.{at, tableOf}
 use Rattle.record.specs.Table.{Takes, TakenBy, small, binOf}
 use Rattle.record.proofs.TableLaws.{bin-taken, sizes-grow}
 use Rattle.rules.specs.Shape.{Entry, shape, binList}
-use Rattle.rules.specs.Kinds.{freeKind, ordinaryKind, kindOf, isAt}
+use Rattle.rules.specs.Kinds.{freeKind, ordinaryKind, kindOf, isAt, overhead}
 use Rattle.rules.specs.Check.{Passes}
 use Rattle.rules.specs.Draft.{asRead, spot}
 use Rattle.rules.specs.Cut.{grantAt, grantFrom}
-use Rattle.rules.specs.Serve.{sizeOn, fromBin, ownBin, tryDonor, largerBin, tryTop, firstOf, chosen, nowhere}
+use Rattle.rules.specs.Serve.{sizeOn, fromBin, ownBin, tryDonor, largerBin, tryTop, firstOf, chosen, nowhere, need}
 use Rattle.rules.specs.Allocate.{sourceOf}
 use Rattle.rules.proofs.SpotLaws.{Free, spot-at, top-here, donor-here}
 use Rattle.rules.proofs.KindsLaws.{ordinary-kind}
 use Rattle.bins.proofs.HeapBooks.{member-entry}
 use Rattle.grant.specs.Serve.{placeIn, kindIn}
+use Rattle.grant.proofs.NeedLaws.{need-large, need-eight}
 use Rattle.grant.proofs.ChooseMeaning.{size-on}
 
 -- a source is one of the three free kinds
@@ -158,3 +160,15 @@ module _ (ws : List ℕ) (h : Heap) (p : Passes ws h) (n : ℕ) where
       let own : Binned = binOf (tableOf h) n in
       first-good Can (ownBin es (binList ws h) n own ∷ tryDonor h es n ∷ largerBin h (binList ws h) own ∷ tryTop h es n ∷ [])
       (own-good own t, (donor-good, (larger-good own t, (top-good, tt))))
+
+-- the heap passes, n is as every need is, and something can serve it
+pub record Grantable (ws : List ℕ) (h : Heap) (n : ℕ) : Type 0 where
+  pub well : Passes ws h
+  pub large : 24 ≤ n
+  pub eight : n % 8 ≡ 0
+  pub some : nowhere (sourceOf n (asRead ws h)) ≡ false
+
+-- so it is with the need of z bytes
+pub need-grantable : {ws : List ℕ} {h : Heap} (z : ℕ) → Passes ws h → nowhere (sourceOf (need overhead z) (asRead ws h)) ≡ false
+    → Grantable ws h (need overhead z)
+need-grantable z p some = record { well = p; large = need-large z; eight = need-eight z; some = some }

@@ -10,6 +10,7 @@ use native.Mathlib.Omega.{arith}
 use lib.IntN.{ℤ}
 use borrow.Author.Tests.{ne-eqb, lt-ltb}
 use Rattle.grant.proofs.NeedLaws.{need-large, need-eight}
+use Rattle.grant.proofs.SourceLaws.{need-grantable}
 use Rattle.record.specs.declared.answers.Answer.{Answer}
 use Rattle.record.specs.declared.answers.Answer.the-variants.{Done, Granted, Returned}
 use Rattle.record.specs.declared.heap.Heap.{Heap}
@@ -21,14 +22,15 @@ use Rattle.region.proofs.WordsLaws.{off}
 use Rattle.release.proofs.ReleaseKept.{free-kept}
 use Rattle.release.proofs.ReleaseSpares.{shrink-spares, shrink-spares-own}
 use Rattle.release.proofs.ShrinkKept.{shrink-kept, shrink-there, shrink-others-stay, shrink-none-new}
+use Rattle.resize.proofs.MovedLaws.{Moving}
 use Rattle.rules.specs.Shape.{Entry, shape}
 use Rattle.rules.specs.Kinds.{live, overhead, blockOf, blockWords}
 use Rattle.rules.specs.Check.{Passes}
 use Rattle.rules.specs.Draft.{asRead, alsoWrites}
-use Rattle.rules.specs.Serve.{need, nowhere}
+use Rattle.rules.specs.Serve.{need}
 use Rattle.rules.specs.Cut.{Grant}
 use Rattle.rules.specs.Outcome.{Outcome, Refusals, judged, heapFails, unchanged, made, grants, changeOf}
-use Rattle.rules.specs.Allocate.{sourceOf, grant, asFound, cleared, allocateWith, allocate, allocateCleared, allocateRefusals}
+use Rattle.rules.specs.Allocate.{grant, asFound, cleared, allocateWith, allocate, allocateCleared, allocateRefusals}
 use Rattle.rules.specs.Free.{isLive, blockSpot, freeBlock, free}
 use Rattle.rules.specs.Reallocate.{shrunk, moved, resized, resize, reallocate, resizeRefusals}
 use Rattle.rules.specs.Merge.{setMerge, check}
@@ -76,14 +78,14 @@ module _ (ws : List ℕ) (h : Heap) (p : Passes ws h) (block : Block) (change : 
     with-apart : NewApart ws h n (block .0) (leftBy ws (allocateWith fill ws h z))
     with-apart =
         rw (taken .1, ← block-is)
-        (new-apart ws h p n (need-large z) (need-eight z) (taken .0 .1 .1 .0) (fill (grant n (asRead ws h) .granted)) (within _) (made-of .answer))
+        (new-apart (need-grantable z p (taken .0 .1 .1 .0)) (fill (grant n (asRead ws h) .granted)) (within _) (made-of .answer))
 
   -- a cleared one
   cleared-clear : (z : ℕ) → allocateWith cleared ws h z .answer ≡ Granted block change → Clear (block .0) (leftBy ws (allocateWith cleared ws h z))
   cleared-clear z q =
       let t = taken cleared cleared-within z q in
       rw (t .1, ← block-is cleared cleared-within z q)
-      (new-clear ws h p (need overhead z) (need-large z) (need-eight z) (t .0 .1 .1 .0))
+      (new-clear (need-grantable z p (t .0 .1 .1 .0)))
 
 -- the live block at b, whose chunk is e
 module _ (ws : List ℕ) (h : Heap) (p : Passes ws h) (b : ℕ) (e : Entry) (k : HoldsBlock ws h b e) where
@@ -141,10 +143,15 @@ module _ (ws : List ℕ) (h : Heap) (p : Passes ws h) (b : ℕ) (e : Entry) (k :
       abbrev left : Left
       left = ours (Reallocate b z) ws h
 
-      room : nowhere (sourceOf wanted (asRead ws h)) ≡ false
-      room =
+      moving : Moving ws h wanted old
+      moving =
           let f = resize-taken .0 .1 .1 .1 .0 in
-          rw (lt-ltb (old .size) wanted (rw old-is less)) at f
+          record {
+            room = need-grantable z p (rw (lt-ltb (old .size) wanted (rw old-is less)) at f);
+            member = old-holds .member;
+            live = old-holds .live;
+            less = rw old-is less;
+          }
 
       abbrev moves : Grant
       moves = moved ws (blockSpot (asRead ws h) b) wanted (asRead ws h)
@@ -164,7 +171,7 @@ module _ (ws : List ℕ) (h : Heap) (p : Passes ws h) (b : ℕ) (e : Entry) (k :
       moves-apart =
           let to : ℕ = blockOf (moves .granted) in
           let r : Moved to (blockOf old) old (leftBy ws (made (grants (old .size) (moves .granted)) (moves .draft))) =
-          moved-apart ws h p wanted (need-large z) (need-eight z) room old (old-holds .member) (old-holds .live) (rw old-is less) (grants (old .size) (moves .granted)) in
+          moved-apart moving (grants (old .size) (moves .granted)) in
           subst (λ (d : ℕ). Moved d b e left) (ap (λ (x : Grant). blockOf (x .granted)) (sym moved-is) ∙ resized-block)
           (subst (λ (x : Entry). Moved to b x left) old-is
           (subst (λ (c : ℕ). Moved to c old left) (old-holds .block)

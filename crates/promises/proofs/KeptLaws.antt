@@ -8,6 +8,7 @@ use native.Mathlib.Omega.{arith}
 use lib.Dec.{eqb, ltb}
 use lib.ListN.{length}
 use borrow.Author.Tests.{lt-ltb, not-false}
+use Rattle.grant.proofs.SourceLaws.{Grantable, need-grantable}
 use Rattle.grant.proofs.GrantedChunk.{filled}
 use Rattle.grant.proofs.NeedLaws.{need-large, need-eight}
 use Rattle.record.specs.declared.answers.Answer.{Answer}
@@ -19,7 +20,7 @@ use Rattle.record.proofs.TableLaws.{valid-iff}
 use Rattle.region.specs.Words.{Store, written}
 use Rattle.release.proofs.ReleaseKept.{free-kept}
 use Rattle.release.proofs.ShrinkKept.{shrink-kept}
-use Rattle.resize.proofs.MovedLaws.{copiedWords, copiedHeap, copied-passes, live-again, again-is, moved-words}
+use Rattle.resize.proofs.MovedLaws.{Moving, copiedWords, copiedHeap, copied-passes, live-again, again-is, moved-words}
 use Rattle.rules.specs.Shape.{Entry, shape, heapBytes}
 use Rattle.rules.specs.Kinds.{overhead, blockOf}
 use Rattle.rules.specs.Check.{Passes}
@@ -88,13 +89,11 @@ module _ (ws : List ℕ) (h : Heap) (p : Passes ws h) where
 
     moved-passes : nowhere (sourceOf n (asRead ws h)) ≡ false → at .here .size < n → PassesAfter ws (moved ws at n (asRead ws h) .draft)
     moved-passes some less =
-        let e : Entry = at .here in
         let k = live-holds ws h p b l in
-        let m = k .member in
-        let v = k .live in
-        rw (again-is ws h p n large eight some e m v less .0, moved-words ws h p n large eight some e m v less)
-        (free-kept (copiedWords ws h p n large eight some e m v less) (copiedHeap ws h p n large eight some e m v less) (copied-passes ws h p n large eight some e m v less) (blockOf e)
-        (live-again ws h p n large eight some e m v less) .passes)
+        let room : Grantable ws h n = record { well = p; large = large; eight = eight; some = some } in
+        let moves : Moving ws h n (at .here) = record { room = room; member = k .member; live = k .live; less = less } in
+        rw (again-is moves .0, moved-words moves)
+        (free-kept (copiedWords moves) (copiedHeap moves) (copied-passes moves) (blockOf (at .here)) (live-again moves) .passes)
 
     resized-passes : (ltb (at .here .size) n && nowhere (sourceOf n (asRead ws h))) ≡ false → PassesAfter ws (resized ws at n (asRead ws h) .draft)
     unfolding asRead
@@ -108,7 +107,7 @@ module _ (ws : List ℕ) (h : Heap) (p : Passes ws h) where
   with-passes fill within z =
       let e = grant (need overhead z) (asRead ws h) .granted in
       judged-passes h (allocated fill (asRead ws h) z) (allocateRefusals (heapFails ws h) (asRead ws h) z)
-      (λ (_, (_, (some, _))). filled ws h p (need overhead z) (need-large z) (need-eight z) some (fill e) (within e) .2)
+      (λ (_, (_, (some, _))). filled (need-grantable z p some) (fill e) (within e) .2)
 
   allocate-passes : (z : ℕ) → Passing (left ws h (allocate ws h z))
   unfolding allocate

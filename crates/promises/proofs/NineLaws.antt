@@ -18,9 +18,11 @@ use Rattle.rules.specs.Reallocate.{moved, resized}
 use Rattle.rules.specs.Serve.{need, nowhere}
 use Rattle.rules.specs.Shape.{Entry}
 use Rattle.grant.proofs.NeedLaws.{need-large, need-eight}
+use Rattle.grant.proofs.SourceLaws.{need-grantable}
 use Rattle.grant.proofs.GrantKept.{grant-kept}
 use Rattle.release.proofs.ReleaseKept.{free-kept}
 use Rattle.release.proofs.ShrinkKept.{shrink-kept}
+use Rattle.resize.proofs.MovedLaws.{Moving}
 use Rattle.resize.proofs.MoveMeaning.{move-housed}
 use Rattle.promises.specs.Ways.{ours}
 use Rattle.promises.specs.Room.{HoldsBlock, NoneServes}
@@ -49,7 +51,7 @@ module _ (ws : List ℕ) (h : Heap) (p : Passes ws h) where
 
   -- then a bin takes what is put: of a grant, of a move, of any resized block
   granted-housed : (z : ℕ) → (NoneServes ws h (need overhead z) → ⊥) → grant (need overhead z) before .draft .homeless ≡ false
-  granted-housed z f = grant-kept ws h p (need overhead z) (need-large z) (need-eight z) (found z f) .housed
+  granted-housed z f = grant-kept (need-grantable z p (found z f)) .housed
 
   -- a block is live, unless it is none
   is-live : (b : ℕ) → 0 < b → (NoBlock ws h b → ⊥) → isLive before b ≡ true
@@ -69,7 +71,8 @@ module _ (ws : List ℕ) (h : Heap) (p : Passes ws h) where
     moved-housed : nowhere (sourceOf n before) ≡ false → s .here .size < n → moved ws s n before .draft .homeless ≡ false
     moved-housed some less =
         let k = live-holds ws h p b l in
-        move-housed ws h p n (need-large z) (need-eight z) some (s .here) (k .member) (k .live) less
+        let moves : Moving ws h n (s .here) = record { room = need-grantable z p some; member = k .member; live = k .live; less = less } in
+        move-housed moves
 
     resized-housed : (s .here .size < n → NoneServes ws h n → ⊥) → resized ws s n before .draft .homeless ≡ false
     unfolding asRead

@@ -26,6 +26,7 @@ use Rattle.rules.proofs.CheckLaws.{passes-iff}
 use Rattle.rules.proofs.SpotLaws.{bounds, inside}
 use Rattle.seek.specs.declared.Place.{Place}
 use Rattle.grant.proofs.NeedLaws.{need-large, need-eight}
+use Rattle.grant.proofs.SourceLaws.{Grantable, need-grantable}
 use Rattle.grant.proofs.ChooseMeaning.{choose-is}
 use Rattle.grant.proofs.ServeMeaning.{serve-is}
 use Rattle.grant.proofs.GrantedChunk.{granted-lies}
@@ -35,7 +36,7 @@ use Rattle.release.proofs.ReleaseMeaning.{place, splits}
 use Rattle.release.proofs.TailMeaning.{tail-housed}
 use Rattle.replies.proofs.ChangeLaws.{change-ruled}
 use Rattle.resize.specs.Resize.{againM, shrinkM, movedM, moveM, resizeM}
-use Rattle.resize.proofs.MovedLaws.{copiedOver}
+use Rattle.resize.proofs.MovedLaws.{Moving, copiedOver}
 use Rattle.resize.proofs.MoveMeaning.{copy-written, move-is, move-housed}
 
 -- the live block at b, in a heap that passes
@@ -111,23 +112,29 @@ module _ (ws : List ℕ) (h : Heap) (q : passes ws h ≡ true) (z : ℕ) (k : pe
       abbrev g : Grant
       g = grant n (asRead ws h)
 
+      abbrev room : Grantable ws h n
+      room = need-grantable z well some
+
+      moving : Moving ws h n e
+      moving = record { room = room; member = member; live = is-live; less = less }
+
       abbrev after : Draft
-      after = copiedOver ws h well n (need-large z) (need-eight z) some e member is-live less
+      after = copiedOver moving
 
       code-moves : resizeM ws (tableOf h) h p n ≡ leftBy ws (made (grants (e .size) (g .granted)) (freeBlock (blockOf e) after))
       unfolding resizeM moveM movedM againM
       code-moves =
           let i = lies in
-          let o = granted-lies ws h well n (need-large z) (need-eight z) some in
+          let o = granted-lies room in
           let block : blockAt (g .granted .place) ≡ blockOf (g .granted) = omega arith in
           rw (
             i .size,
             lt-ltb (e .size) n less,
             choose-is ws h well n,
             some,
-            serve-is ws h well n (need-large z) (need-eight z) (sourceOf n (asRead ws h)) refl some,
-            copy-written ws h well n (need-large z) (need-eight z) some e member is-live less,
-            move-is ws h well n (need-large z) (need-eight z) some e member is-live less,
+            serve-is room,
+            copy-written moving,
+            move-is moving,
             block,
             change-ruled (e .size) (g .granted .size) (omega arith) (omega arith),
           )
@@ -135,7 +142,7 @@ module _ (ws : List ℕ) (h : Heap) (q : passes ws h ≡ true) (z : ℕ) (k : pe
       rule-moves : resize ws h b z ≡ made (grants (e .size) (g .granted)) (freeBlock (blockOf e) after)
       unfolding resize resized
       rule-moves =
-          rw (q, k, l, lt-ltb (e .size) n less, some, move-housed ws h well n (need-large z) (need-eight z) some e member is-live less)
+          rw (q, k, l, lt-ltb (e .size) n less, some, move-housed moving)
 
       moves : resizeM ws (tableOf h) h p n ≡ leftBy ws (resize ws h b z)
       moves = code-moves ∙ sym (ap (leftBy ws) rule-moves)
