@@ -22,7 +22,7 @@ use Rattle.region.proofs.WordsLaws.{off}
 use Rattle.release.proofs.ReleaseKept.{free-kept}
 use Rattle.release.proofs.ReleaseSpares.{shrink-spares, shrink-spares-own}
 use Rattle.release.proofs.ShrinkKept.{shrink-kept, shrink-there, shrink-others-stay, shrink-none-new}
-use Rattle.resize.proofs.MovedLaws.{Moving}
+use Rattle.resize.proofs.MovedLaws.{Moving, block-moves}
 use Rattle.rules.specs.Shape.{Entry, shape}
 use Rattle.rules.specs.Kinds.{live, overhead, blockOf, blockWords}
 use Rattle.rules.specs.Check.{Passes}
@@ -143,22 +143,18 @@ module _ (ws : List ℕ) (h : Heap) (p : Passes ws h) (b : ℕ) (e : Entry) (k :
       abbrev left : Left
       left = ours (Reallocate b z) ws h
 
+      outgrown : old .size < wanted
+      outgrown = rw old-is less
+
       moving : Moving ws h wanted old
-      moving =
-          let f = resize-taken .0 .1 .1 .1 .0 in
-          record {
-            room = need-grantable z p (rw (lt-ltb (old .size) wanted (rw old-is less)) at f);
-            member = old-holds .member;
-            live = old-holds .live;
-            less = rw old-is less;
-          }
+      moving = let f = resize-taken .0 .1 .1 .1 .0 in block-moves p b is-live z (rw (lt-ltb (old .size) wanted outgrown) at f) outgrown
 
       abbrev moves : Grant
       moves = moved ws (blockSpot (asRead ws h) b) wanted (asRead ws h)
 
       moved-is : result ≡ moves
       unfolding resized
-      moved-is = rw (lt-ltb (old .size) wanted (rw old-is less)) refl
+      moved-is = rw (lt-ltb (old .size) wanted outgrown) refl
 
       moved-left : leftBy ws (made (grants (old .size) (moves .granted)) (moves .draft)) ≡ left
       moved-left = sym (resized-left ∙ ap (λ (x : Grant). leftBy ws (made (grants (old .size) (x .granted)) (x .draft))) moved-is)

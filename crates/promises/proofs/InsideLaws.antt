@@ -4,7 +4,7 @@ use mathlib.Core.Path.{_≡_}
 use mathlib.Core.Logic.{inl, inr}
 use mathlib.Core.Bool.{Bool, true, false, not, cond, _&&_, _||_}
 use mathlib.Core.List.{List, [], _∷_}
-use Prim.Native.Nat.{ℕ, _+_, _/_, _%_, _≤_, _<_, _*_}
+use Prim.Native.Nat.{ℕ, _+_, _/_, _≤_, _<_, _*_}
 use native.Mathlib.Omega.{arith}
 use lib.Dec.{ltb, eqb}
 use lib.ListN.{length}
@@ -41,8 +41,8 @@ use Rattle.grant.proofs.GrantedChunk.{grantedWords, kept, new-there}
 use Rattle.grant.proofs.GrantSpares.{grant-inside}
 use Rattle.grant.proofs.NeedLaws.{need-large, need-eight}
 use Rattle.release.proofs.ReleaseSpares.{free-inside, shrink-inside}
-use Rattle.resize.proofs.MovedLaws.{Moving, fits, copiedOver, copiedWords, copiedHeap, copied-passes, live-again, again-is}
-use Rattle.promises.proofs.ReasonLaws.{Fitting, fitting-iff, length-in, live-holds}
+use Rattle.resize.proofs.MovedLaws.{block-moves, fits, copiedOver, copiedWords, copiedHeap, copied-passes, live-again, again-is}
+use Rattle.promises.proofs.ReasonLaws.{Fitting, fitting-iff, length-in}
 use Rattle.promises.proofs.ResizedLaws.{resized-so}
 use Rattle.promises.proofs.GrantedLaws.{fillFrom}
 
@@ -85,21 +85,22 @@ module _ {ws : List ℕ} {h : Heap} {n : ℕ} (room : Grantable ws h n) where
   cleared-below = filled-below (λ i. 0) (blockWords (given .granted)) (omega arith)
 
 -- the live block at b
-module _ (ws : List ℕ) (h : Heap) (p : Passes ws h) (n : ℕ) (large : 24 ≤ n) (eight : n % 8 ≡ 0) (b : ℕ) (l : isLive (asRead ws h) b ≡ true) where
+module _ (ws : List ℕ) (h : Heap) (p : Passes ws h) (b : ℕ) (l : isLive (asRead ws h) b ≡ true) (z : ℕ) where
   abbrev at : Spot
   at = blockSpot (asRead ws h) b
+
+  abbrev n : ℕ
+  n = need overhead z
 
   -- is moved: it is live still when the old words have been copied
   moved-below : nowhere (sourceOf n (asRead ws h)) ≡ false → at .here .size < n → Inner h (moved ws at n (asRead ws h) .draft)
   moved-below some less =
       let e : Entry = at .here in
-      let k = live-holds ws h p b l in
-      let room : Grantable ws h n = record { well = p; large = large; eight = eight; some = some } in
-      let moves : Moving ws h n e = record { room = room; member = k .member; live = k .live; less = less } in
+      let moves = block-moves p b l z some less in
       rw (again-is moves .1)
       (below-both (h .bytes / 4) (copiedOver moves .stores) (freeBlock (blockOf e) (asRead (copiedWords moves) (copiedHeap moves)) .stores)
-      (filled-below room (λ i. word ws (blockOf e) i) (blockWords e) (fits moves))
-      (rw (same-bytes room) at (free-inside (copiedWords moves) (copiedHeap moves) (copied-passes moves) (blockOf e) (live-again moves))))
+      (filled-below (moves .room) (λ i. word ws (blockOf e) i) (blockWords e) (fits moves))
+      (rw (same-bytes (moves .room)) at (free-inside (copiedWords moves) (copiedHeap moves) (copied-passes moves) (blockOf e) (live-again moves))))
 
   -- is resized, and there is room if it has to move
   resized-below : (ltb (at .here .size) n && nowhere (sourceOf n (asRead ws h)) ≡ false) → Inner h (resized ws at n (asRead ws h) .draft)
@@ -107,7 +108,7 @@ module _ (ws : List ℕ) (h : Heap) (p : Passes ws h) (n : ℕ) (large : 24 ≤ 
   resized-below q =
       resized-so (λ x. Inner h (x .draft)) ws at n (asRead ws h)
       (λ less. moved-below (rw (lt-ltb (at .here .size) n less) at q) less)
-      (λ spare. shrink-inside ws h p b l n large eight spare) tt
+      (λ spare. shrink-inside ws h p b l n (need-large z) (need-eight z) spare) tt
 
 -- a refusal writes nothing
 judged-below : (m : ℕ) (h : Heap) (o : Outcome) (ts : Refusals) → (Failed ts → Below m (o .stores)) → Below m (judged h ts o .stores)
@@ -158,7 +159,7 @@ module _ (ws : List ℕ) (h : Heap) where
       judged-below even h (resizedTo ws (asRead ws h) b z) (resizeRefusals (heapFails ws h) ws (asRead ws h) b z)
       (λ (f, (_, (l, (room, _)))).
       let p = passing f in
-      rw (← heap-even p) (resized-below ws h p (need overhead z) (need-large z) (need-eight z) b (not-false (isLive (asRead ws h) b) l) room))
+      rw (← heap-even p) (resized-below ws h p b (not-false (isLive (asRead ws h) b) l) z room))
 
   reallocate-below : (b z : ℕ) → Below even (reallocate ws h b z .stores)
   unfolding reallocate

@@ -22,7 +22,7 @@ use Rattle.grant.proofs.SourceLaws.{need-grantable}
 use Rattle.grant.proofs.GrantKept.{grant-kept}
 use Rattle.release.proofs.ReleaseKept.{free-kept}
 use Rattle.release.proofs.ShrinkKept.{shrink-kept}
-use Rattle.resize.proofs.MovedLaws.{Moving}
+use Rattle.resize.proofs.MovedLaws.{block-moves}
 use Rattle.resize.proofs.MoveMeaning.{move-housed}
 use Rattle.promises.specs.Ways.{ours}
 use Rattle.promises.specs.Room.{HoldsBlock, NoneServes}
@@ -69,10 +69,7 @@ module _ (ws : List ℕ) (h : Heap) (p : Passes ws h) where
     s = blockSpot before b
 
     moved-housed : nowhere (sourceOf n before) ≡ false → s .here .size < n → moved ws s n before .draft .homeless ≡ false
-    moved-housed some less =
-        let k = live-holds ws h p b l in
-        let moves : Moving ws h n (s .here) = record { room = need-grantable z p some; member = k .member; live = k .live; less = less } in
-        move-housed moves
+    moved-housed some less = move-housed (block-moves p b l z some less)
 
     resized-housed : (s .here .size < n → NoneServes ws h n → ⊥) → resized ws s n before .draft .homeless ≡ false
     unfolding asRead

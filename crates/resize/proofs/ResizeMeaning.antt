@@ -26,7 +26,6 @@ use Rattle.rules.proofs.CheckLaws.{passes-iff}
 use Rattle.rules.proofs.SpotLaws.{bounds, inside}
 use Rattle.seek.specs.declared.Place.{Place}
 use Rattle.grant.proofs.NeedLaws.{need-large, need-eight}
-use Rattle.grant.proofs.SourceLaws.{Grantable, need-grantable}
 use Rattle.grant.proofs.ChooseMeaning.{choose-is}
 use Rattle.grant.proofs.ServeMeaning.{serve-is}
 use Rattle.grant.proofs.GrantedChunk.{granted-lies}
@@ -36,7 +35,7 @@ use Rattle.release.proofs.ReleaseMeaning.{place, splits}
 use Rattle.release.proofs.TailMeaning.{tail-housed}
 use Rattle.replies.proofs.ChangeLaws.{change-ruled}
 use Rattle.resize.specs.Resize.{againM, shrinkM, movedM, moveM, resizeM}
-use Rattle.resize.proofs.MovedLaws.{Moving, copiedOver}
+use Rattle.resize.proofs.MovedLaws.{Moving, block-moves, copiedOver}
 use Rattle.resize.proofs.MoveMeaning.{copy-written, move-is, move-housed}
 
 -- the live block at b, in a heap that passes
@@ -112,11 +111,8 @@ module _ (ws : List ℕ) (h : Heap) (q : passes ws h ≡ true) (z : ℕ) (k : pe
       abbrev g : Grant
       g = grant n (asRead ws h)
 
-      abbrev room : Grantable ws h n
-      room = need-grantable z well some
-
       moving : Moving ws h n e
-      moving = record { room = room; member = member; live = is-live; less = less }
+      moving = block-moves well b l z some less
 
       abbrev after : Draft
       after = copiedOver moving
@@ -125,14 +121,14 @@ module _ (ws : List ℕ) (h : Heap) (q : passes ws h ≡ true) (z : ℕ) (k : pe
       unfolding resizeM moveM movedM againM
       code-moves =
           let i = lies in
-          let o = granted-lies room in
+          let o = granted-lies (moving .room) in
           let block : blockAt (g .granted .place) ≡ blockOf (g .granted) = omega arith in
           rw (
             i .size,
             lt-ltb (e .size) n less,
             choose-is ws h well n,
             some,
-            serve-is room,
+            serve-is (moving .room),
             copy-written moving,
             move-is moving,
             block,
