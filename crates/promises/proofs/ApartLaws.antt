@@ -9,7 +9,6 @@ use native.Mathlib.Decide.{ℕ-discrete}
 use native.Mathlib.Omega.{arith}
 use lib.IntN.{ℤ}
 use borrow.Author.Tests.{ne-eqb, lt-ltb}
-use Rattle.grant.proofs.NeedLaws.{need-large, need-eight}
 use Rattle.grant.proofs.SourceLaws.{need-grantable}
 use Rattle.record.specs.declared.answers.Answer.{Answer}
 use Rattle.record.specs.declared.answers.Answer.the-variants.{Done, Granted, Returned}
@@ -21,8 +20,9 @@ use Rattle.region.specs.Words.{Store, written}
 use Rattle.region.proofs.WordsLaws.{off}
 use Rattle.release.proofs.ReleaseKept.{free-kept}
 use Rattle.release.proofs.ReleaseSpares.{shrink-spares, shrink-spares-own}
-use Rattle.release.proofs.ShrinkKept.{shrink-kept, shrink-there, shrink-others-stay, shrink-none-new}
-use Rattle.resize.proofs.MovedLaws.{Moving, block-moves}
+use Rattle.release.proofs.ShrinkKept.{ShrinkingBlock, shrink-kept, shrink-there, shrink-others-stay, shrink-none-new}
+use Rattle.resize.proofs.MovedLaws.{Moving}
+use Rattle.resize.proofs.WantedLaws.{block-moves, block-shrinks}
 use Rattle.rules.specs.Shape.{Entry, shape}
 use Rattle.rules.specs.Kinds.{live, overhead, blockOf, blockWords}
 use Rattle.rules.specs.Check.{Passes}
@@ -183,6 +183,9 @@ module _ (ws : List ℕ) (h : Heap) (p : Passes ws h) (b : ℕ) (e : Entry) (k :
 
       -- a tail is split off
       module _ (l : wanted + 24 ≤ old .size) where
+        shrinking : ShrinkingBlock ws h b wanted
+        shrinking = block-shrinks p b is-live z l
+
         abbrev shrinks : Grant
         shrinks = shrunk (blockSpot (asRead ws h) b) wanted (asRead ws h)
 
@@ -190,11 +193,11 @@ module _ (ws : List ℕ) (h : Heap) (p : Passes ws h) (b : ℕ) (e : Entry) (k :
         shrunkWords = written ws (shrinks .draft .stores)
 
         shrunk-chain : shape shrunkWords (shrinks .draft .heap .bytes) ≡ shrinks .draft .chain
-        shrunk-chain = shrink-kept ws h p b is-live wanted (need-large z) (need-eight z) l .chain
+        shrunk-chain = shrink-kept shrinking .chain
 
         shrunk-stays : Stays ws wanted b e shrunkWords (shrinks .draft .heap) (shrinks .granted)
         shrunk-stays =
-            let t = shrink-there ws h p b is-live wanted (need-large z) (need-eight z) l in
+            let t = shrink-there shrinking in
             record {
               held = record { member = rw shrunk-chain (t .0); live = t .1; block = old-holds .block };
               enough = omega arith;
@@ -202,18 +205,18 @@ module _ (ws : List ℕ) (h : Heap) (p : Passes ws h) (b : ℕ) (e : Entry) (k :
               same = λ j r.
                   let i = inside ws h p old (old-holds .member) .place in
                   off (shrinks .draft .stores) ws b j
-                  (shrink-spares-own ws h p b is-live wanted (need-large z) (need-eight z) l _ (omega (arith, old-holds .block)) (omega (arith, old-holds .block)));
+                  (shrink-spares-own shrinking _ (omega (arith, old-holds .block)) (omega (arith, old-holds .block)));
             }
 
         shrunk-keeps : (d : Entry) → OnChain ws h d → live h d ≡ true → blockOf d ≢ b → Keeps ws shrunkWords (shrinks .draft .heap) d
         shrunk-keeps d m v o =
-            let s = shrink-others-stay ws h p b is-live wanted (need-large z) (need-eight z) l d m v o in
+            let s = shrink-others-stay shrinking d m v o in
             record {
               held = record { member = rw shrunk-chain (s .0); live = s .1; block = refl };
               same = λ j r.
                   let i = inside ws h p d m in
                   off (shrinks .draft .stores) ws (blockOf d) j
-                  (shrink-spares ws h p b is-live wanted (need-large z) (need-eight z) l d m v o _ (omega arith) (omega arith));
+                  (shrink-spares shrinking d m v o _ (omega arith) (omega arith));
             }
 
         shrunk-only : (d : Entry) → OnChain shrunkWords (shrinks .draft .heap) d → live (shrinks .draft .heap) d ≡ true
@@ -222,7 +225,7 @@ module _ (ws : List ℕ) (h : Heap) (p : Passes ws h) (b : ℕ) (e : Entry) (k :
           where
             go : Dec (blockOf d ≡ b) → (blockOf d ≡ b) ⊎ (OnChain ws h d × (live h d ≡ true))
             go (yes q) = inl q
-            go (no o) = inr (shrink-none-new ws h p b is-live wanted (need-large z) (need-eight z) l d (rw shrunk-chain at m) v o)
+            go (no o) = inr (shrink-none-new shrinking d (rw shrunk-chain at m) v o)
 
       -- nothing changes
       same-stays : Stay (record { granted = old; draft = asRead ws h })

@@ -39,9 +39,9 @@ use Rattle.settling.proofs.FillLaws.{Within, filled-within}
 use Rattle.grant.proofs.SourceLaws.{Grantable, need-grantable}
 use Rattle.grant.proofs.GrantedChunk.{grantedWords, kept, new-there}
 use Rattle.grant.proofs.GrantSpares.{grant-inside}
-use Rattle.grant.proofs.NeedLaws.{need-large, need-eight}
 use Rattle.release.proofs.ReleaseSpares.{free-inside, shrink-inside}
-use Rattle.resize.proofs.MovedLaws.{block-moves, fits, copiedOver, copiedWords, copiedHeap, copied-passes, live-again, again-is}
+use Rattle.resize.proofs.WantedLaws.{block-moves, block-shrinks}
+use Rattle.resize.proofs.MovedLaws.{fits, copiedOver, copiedWords, copiedHeap, copied-passes, live-again, again-is}
 use Rattle.promises.proofs.ReasonLaws.{Fitting, fitting-iff, length-in}
 use Rattle.promises.proofs.ResizedLaws.{resized-so}
 use Rattle.promises.proofs.GrantedLaws.{fillFrom}
@@ -108,7 +108,7 @@ module _ (ws : List ℕ) (h : Heap) (p : Passes ws h) (b : ℕ) (l : isLive (asR
   resized-below q =
       resized-so (λ x. Inner h (x .draft)) ws at n (asRead ws h)
       (λ less. moved-below (rw (lt-ltb (at .here .size) n less) at q) less)
-      (λ spare. shrink-inside ws h p b l n (need-large z) (need-eight z) spare) tt
+      (λ spare. shrink-inside (block-shrinks p b l z spare)) tt
 
 -- a refusal writes nothing
 judged-below : (m : ℕ) (h : Heap) (o : Outcome) (ts : Refusals) → (Failed ts → Below m (o .stores)) → Below m (judged h ts o .stores)

@@ -10,7 +10,6 @@ use lib.ListN.{length}
 use borrow.Author.Tests.{lt-ltb, not-false}
 use Rattle.grant.proofs.SourceLaws.{need-grantable}
 use Rattle.grant.proofs.GrantedChunk.{filled}
-use Rattle.grant.proofs.NeedLaws.{need-large, need-eight}
 use Rattle.record.specs.declared.answers.Answer.{Answer}
 use Rattle.record.specs.declared.answers.Answer.the-variants.{Done, Granted, Returned, Told, Counted, Refused}
 use Rattle.record.specs.declared.heap.Heap.{Heap}
@@ -20,7 +19,8 @@ use Rattle.record.proofs.TableLaws.{valid-iff}
 use Rattle.region.specs.Words.{Store, written}
 use Rattle.release.proofs.ReleaseKept.{free-kept}
 use Rattle.release.proofs.ShrinkKept.{shrink-kept}
-use Rattle.resize.proofs.MovedLaws.{block-moves, copiedWords, copiedHeap, copied-passes, live-again, again-is, moved-words}
+use Rattle.resize.proofs.WantedLaws.{block-moves, block-shrinks}
+use Rattle.resize.proofs.MovedLaws.{copiedWords, copiedHeap, copied-passes, live-again, again-is, moved-words}
 use Rattle.rules.specs.Shape.{Entry, shape, heapBytes}
 use Rattle.rules.specs.Kinds.{overhead, blockOf}
 use Rattle.rules.specs.Check.{Passes}
@@ -101,7 +101,7 @@ module _ (ws : List ℕ) (h : Heap) (p : Passes ws h) where
     resized-passes q =
         resized-so (λ x. PassesAfter ws (x .draft)) ws at n (asRead ws h)
         (λ less. moved-passes (rw (lt-ltb (at .here .size) n less) at q) less)
-        (λ spare. shrink-kept ws h p b l n (need-large z) (need-eight z) spare .passes) p
+        (λ spare. shrink-kept (block-shrinks p b l z spare) .passes) p
 
   -- a block that is granted, whatever is written into it
   with-passes : (fill : Entry → List Store) → ((e : Entry) → Within e (fill e)) → (z : ℕ) → Passing (left ws h (allocateWith fill ws h z))

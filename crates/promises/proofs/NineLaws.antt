@@ -17,12 +17,12 @@ use Rattle.rules.specs.Kinds.{overhead}
 use Rattle.rules.specs.Reallocate.{moved, resized}
 use Rattle.rules.specs.Serve.{need, nowhere}
 use Rattle.rules.specs.Shape.{Entry}
-use Rattle.grant.proofs.NeedLaws.{need-large, need-eight}
+use Rattle.grant.proofs.NeedLaws.{need-large}
 use Rattle.grant.proofs.SourceLaws.{need-grantable}
 use Rattle.grant.proofs.GrantKept.{grant-kept}
 use Rattle.release.proofs.ReleaseKept.{free-kept}
 use Rattle.release.proofs.ShrinkKept.{shrink-kept}
-use Rattle.resize.proofs.MovedLaws.{block-moves}
+use Rattle.resize.proofs.WantedLaws.{block-moves, block-shrinks}
 use Rattle.resize.proofs.MoveMeaning.{move-housed}
 use Rattle.promises.specs.Ways.{ours}
 use Rattle.promises.specs.Room.{HoldsBlock, NoneServes}
@@ -75,7 +75,7 @@ module _ (ws : List ℕ) (h : Heap) (p : Passes ws h) where
     unfolding asRead
     resized-housed f =
         resized-so (λ x. x .draft .homeless ≡ false) ws s n before (λ less. moved-housed (found z (f less)) less)
-        (λ large. shrink-kept ws h p b l n (need-large z) (need-eight z) large .housed) refl
+        (λ spare. shrink-kept (block-shrinks p b l z spare) .housed) refl
 
 module _ (ws : List ℕ) (h : Heap) where
   -- the heap passes, since the call is not refused for failing

@@ -2,8 +2,8 @@
 -- shrinking says (`give-up-tail-is`). Assumes nothing.
 use mathlib.Core.Path.{_≡_, ap}
 use mathlib.Core.Bool.{true}
-use mathlib.Core.List.{List, [], _∷_, _++_}
-use Prim.Native.Nat.{ℕ, _+_, _-_, _%_, _≤_}
+use mathlib.Core.List.{List, [], _∷_}
+use Prim.Native.Nat.{ℕ, _+_, _-_}
 use native.Mathlib.Omega.{arith}
 use Rattle.lists.specs.Lists.{lastOr}
 use Rattle.record.specs.declared.heap.Heap.{Heap}
@@ -13,13 +13,13 @@ use Rattle.rules.specs.Calls.{State}
 use Rattle.rules.specs.Check.{Passes}
 use Rattle.rules.specs.Draft.{Draft, asRead}
 use Rattle.rules.specs.Free.{isLive, freeBlock}
-use Rattle.rules.specs.Kinds.{live, blockEnd, outside}
+use Rattle.rules.specs.Kinds.{blockEnd, outside}
 use Rattle.rules.specs.Reallocate.{shrunk}
-use Rattle.rules.specs.Shape.{Entry, shape}
+use Rattle.rules.specs.Shape.{Entry}
 use Rattle.seek.specs.Seek.{placed}
 use Rattle.release.specs.Give.{state, giveUpM, givenUpM}
 use Rattle.release.proofs.ReleaseMeaning.{place, after, give-back-is, after-heap}
-use Rattle.release.proofs.TailMeaning.{tailAfter, tail-back-is, tail-heap}
+use Rattle.release.proofs.TailMeaning.{ShrinkingChunk, tailAfter, tail-back-is, tail-heap}
 
 abbrev pub drawn : List ℕ → Draft → State
 drawn ws d = state (written ws (d .stores)) (d .heap)
@@ -43,9 +43,7 @@ module _ (ws : List ℕ) (h : Heap) (p : Passes ws h) (b : ℕ) (l : isLive (asR
       (fewer-used h (after ws h p b l .heap) _ _ _ _ (e .size) (e .size) 0 (after-heap ws h p b l) (omega arith)))
 
 -- the tail of the chunk e of a live block, above n bytes that are kept
-module _ (ws : List ℕ) (h : Heap) (p : Passes ws h) (low : List Entry) (e : Entry) (high : List Entry)
-    (split : shape ws (h .bytes) ≡ low ++ e ∷ high) (l : live h e ≡ true)
-    (n : ℕ) (some : 24 ≤ n) (eights : n % 8 ≡ 0) (less : n + 24 ≤ e .size) where
+module _ {ws : List ℕ} {h : Heap} {low : List Entry} {e : Entry} {high : List Entry} {n : ℕ} (shrinks : ShrinkingChunk ws h low e high n) where
   abbrev pub ruled : Draft
   ruled = shrunk (record { low = low; here = e; high = high }) n (asRead ws h) .draft
 
@@ -54,8 +52,8 @@ module _ (ws : List ℕ) (h : Heap) (p : Passes ws h) (low : List Entry) (e : En
       ≡ drawn ws ruled
   unfolding givenUpM giveUpM
   give-up-tail-is f =
-      let d : Draft = tailAfter ws h p low e high split l n some eights less in
+      let d : Draft = tailAfter shrinks in
       let size-is : blockEnd e - (e .place + n) ≡ e .size - n = omega arith in
-      rw (size-is, tail-back-is ws h p low e high split l n some eights less)
+      rw (size-is, tail-back-is shrinks)
       (ap (state (written ws (d .stores)))
-      (fewer-used h (d .heap) _ _ _ _ (e .size - n) (e .size) n (tail-heap ws h p low e high split l n some eights less) (omega arith)))
+      (fewer-used h (d .heap) _ _ _ _ (e .size - n) (e .size) n (tail-heap shrinks) (omega arith)))

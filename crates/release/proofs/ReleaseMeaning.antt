@@ -25,19 +25,18 @@ use Rattle.release.specs.declared.Joined.{Joined}
 use Rattle.release.specs.Release.{joinM, giveBackM}
 use Rattle.settling.specs.Settling.{donorAfter, topAfter}
 use Rattle.settling.proofs.DraftLaws.{begins}
-use Rattle.release.proofs.JoinMeaning.{Agrees, chunkJoined, sides, chunk-joins, chunk-lies}
+use Rattle.release.proofs.JoinMeaning.{LiveChunk, chunkJoined, sides, chunk-joins, chunk-lies}
 use Rattle.release.proofs.GivingMeaning.{Released, given-back}
 
 -- by the chain taken apart at the chunk
-module _ (ws : List ℕ) (h : Heap) (p : Passes ws h) (low : List Entry) (e : Entry) (high : List Entry)
-    (split : shape ws (h .bytes) ≡ low ++ e ∷ high) (l : live h e ≡ true) where
-  pub chunk-given-back : Released ws h (books ws (h .heads) (h .tails)) (chunkJoined ws h p low e high split l) (lastOr outside low .place) (blockEnd e)
+module _ {ws : List ℕ} {h : Heap} {low : List Entry} {e : Entry} {high : List Entry} (chunk : LiveChunk ws h low e high) where
+  pub chunk-given-back : Released ws h (books ws (h .heads) (h .tails)) (chunkJoined chunk) (lastOr outside low .place) (blockEnd e)
       (release low e high (asRead ws h))
   unfolding release asRead
   chunk-given-back =
-      given-back ws h p (asRead ws h) (begins ws h p) (λ i x m. m) (e .place) (lastOr outside low) (headOr outside high)
-      (chunkJoined ws h p low e high split l) (chunk-lies ws h p low e high split l) (joining h low e high) (chunk-joins ws h p low e high split l)
-      (blockEnd e) (sides ws h p low e high split l .abovePlace)
+      given-back ws h (chunk .well) (asRead ws h) (begins ws h (chunk .well)) (λ i x m. m) (e .place) (lastOr outside low) (headOr outside high)
+      (chunkJoined chunk) (chunk-lies chunk) (joining h low e high) (chunk-joins chunk)
+      (blockEnd e) (sides chunk .abovePlace)
 
 last-place : (low : List Entry) → lastOr (entry 0 0 0) low .place ≡ lastOr outside low .place
 last-place [] = refl
@@ -74,11 +73,11 @@ module _ (ws : List ℕ) (h : Heap) (p : Passes ws h) (b : ℕ) (l : isLive (asR
       sought-block h b 0 (shape ws (h .bytes)) ∙ sought-spot (holdsBlock h b) 0 (shape ws (h .bytes)) l
       ∙ ap (λ (c : ℕ). Found (placed c (place .here))) (last-place (place .low))
 
-  pub join-is : Agrees (joining h (place .low) (place .here) (place .high)) (lastOr outside (place .low)) (headOr outside (place .high)) joined
-  join-is = chunk-joins ws h p (place .low) (place .here) (place .high) (splits .0) (splits .1)
+  pub live-chunk : LiveChunk ws h (place .low) (place .here) (place .high)
+  live-chunk = record { well = p; split = splits .0; live = splits .1 }
 
   released : Released ws h (books ws (h .heads) (h .tails)) joined (lastOr outside (place .low) .place) (blockEnd (place .here)) after
-  released = chunk-given-back ws h p (place .low) (place .here) (place .high) (splits .0) (splits .1)
+  released = chunk-given-back live-chunk
 
   pub give-back-is : giveBackM (books ws (h .heads) (h .tails)) (tableOf h) joined (lastOr outside (place .low) .place) (blockEnd (place .here))
       ≡ books (written ws (after .stores)) (after .heap .heads) (after .heap .tails)
@@ -88,10 +87,6 @@ module _ (ws : List ℕ) (h : Heap) (p : Passes ws h) (b : ℕ) (l : isLive (asR
   pub after-heap : after .heap
       ≡ with h (after .heap .heads) (after .heap .tails) (donorAfter (joined .becomes) (joined .chunk .0) (h .donor .0)) (topAfter (joined .becomes) (joined .chunk .0) (h .top .0)) (h .merge) (h .used)
   after-heap = released .heap
-
-  pub after-ends : (after .heap .donor .0 ≡ donorAfter (joined .becomes) (joined .chunk .0) (h .donor .0))
-      × (after .heap .top .0 ≡ topAfter (joined .becomes) (joined .chunk .0) (h .top .0))
-  after-ends = (ap (λ (x : Heap). x .donor .0) after-heap, ap (λ (x : Heap). x .top .0) after-heap)
 
   pub housed : after .homeless ≡ false
   housed = released .housed

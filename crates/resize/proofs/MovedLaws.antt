@@ -1,30 +1,26 @@
 -- A block moves: after the grant and the copy the heap passes and the old block is live (`copied-passes`, `live-again`), so that giving it back
 -- goes by the heap as it is read then (`again-is`, `moved-words`). Assumes nothing.
 use mathlib.Core.Path.{_≡_, refl, ap, _∙_}
-use mathlib.Core.Bool.{true, false}
+use mathlib.Core.Bool.{true}
 use mathlib.Core.List.{List, _++_}
 use Prim.Native.Nat.{ℕ, _≤_, _<_}
 use native.Mathlib.Omega.{arith}
 use borrow.Author.Tests.{eq-eqb}
 use Rattle.lists.specs.Lists.{Mem}
-use Rattle.lists.proofs.SplitLaws.{in-split}
 use Rattle.lists.proofs.ListsLaws.{for-some, itself}
 use Rattle.record.specs.declared.heap.Heap.{Heap}
 use Rattle.region.specs.Words.{Store, word, written}
 use Rattle.region.proofs.WordsLaws.{written-append}
-use Rattle.rules.specs.Allocate.{sourceOf}
 use Rattle.rules.specs.Check.{Passes}
 use Rattle.rules.specs.Draft.{Draft, asRead, alsoWrites}
-use Rattle.rules.specs.Free.{isLive, blockSpot, freeBlock}
-use Rattle.rules.specs.Kinds.{overhead, live, blockOf, blockWords, holdsBlock}
+use Rattle.rules.specs.Free.{isLive, freeBlock}
+use Rattle.rules.specs.Kinds.{live, blockOf, blockWords, holdsBlock}
 use Rattle.rules.specs.Reallocate.{copied}
-use Rattle.rules.specs.Serve.{need, nowhere}
 use Rattle.rules.specs.Shape.{Entry, shape}
 use Rattle.settling.proofs.FillLaws.{Within, filled-within}
-use Rattle.grant.proofs.SourceLaws.{Grantable, need-grantable}
+use Rattle.grant.proofs.SourceLaws.{Grantable}
 use Rattle.grant.proofs.GrantKept.{granted-large, live-stays}
 use Rattle.grant.proofs.GrantedChunk.{given, new, grantedHeap, kept, old-there, filledWords, filled}
-use Rattle.release.proofs.ReleaseMeaning.{splits}
 use Rattle.release.proofs.AgainLaws.{again}
 
 -- the chunk e of a live block, which has less than n bytes, and room for n elsewhere
@@ -33,15 +29,6 @@ pub record Moving (ws : List ℕ) (h : Heap) (n : ℕ) (e : Entry) : Type 0 wher
   pub member : Mem e (shape ws (h .bytes))
   pub live : live h e ≡ true
   pub less : e .size < n
-
--- so it is with the live block at b, where the need of z bytes is more than its chunk has and something can serve it
-pub block-moves : {ws : List ℕ} {h : Heap} (p : Passes ws h) (b : ℕ) → isLive (asRead ws h) b ≡ true → (z : ℕ)
-    → nowhere (sourceOf (need overhead z) (asRead ws h)) ≡ false → blockSpot (asRead ws h) b .here .size < need overhead z
-    → Moving ws h (need overhead z) (blockSpot (asRead ws h) b .here)
-block-moves {ws} {h} p b l z some less =
-    let s = blockSpot (asRead ws h) b in
-    let t = splits ws h p b l in
-    record { room = need-grantable z p some; member = in-split (s .low) (s .here) (s .high) (t .0); live = t .1; less = less }
 
 module _ {ws : List ℕ} {h : Heap} {n : ℕ} {e : Entry} (moves : Moving ws h n e) where
   abbrev pub to : Entry

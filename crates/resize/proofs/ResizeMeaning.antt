@@ -25,17 +25,18 @@ use Rattle.rules.specs.Statements.{leftBy}
 use Rattle.rules.proofs.CheckLaws.{passes-iff}
 use Rattle.rules.proofs.SpotLaws.{bounds, inside}
 use Rattle.seek.specs.declared.Place.{Place}
-use Rattle.grant.proofs.NeedLaws.{need-large, need-eight}
 use Rattle.grant.proofs.ChooseMeaning.{choose-is}
 use Rattle.grant.proofs.ServeMeaning.{serve-is}
 use Rattle.grant.proofs.GrantedChunk.{granted-lies}
 use Rattle.release.proofs.FindLaws.{placeOf}
 use Rattle.release.proofs.GiveMeaning.{give-up-tail-is}
 use Rattle.release.proofs.ReleaseMeaning.{place, splits}
+use Rattle.release.proofs.ShrinkKept.{chunk-shrinks}
 use Rattle.release.proofs.TailMeaning.{tail-housed}
 use Rattle.replies.proofs.ChangeLaws.{change-ruled}
 use Rattle.resize.specs.Resize.{againM, shrinkM, movedM, moveM, resizeM}
-use Rattle.resize.proofs.MovedLaws.{Moving, block-moves, copiedOver}
+use Rattle.resize.proofs.MovedLaws.{Moving, copiedOver}
+use Rattle.resize.proofs.WantedLaws.{block-moves, block-shrinks}
 use Rattle.resize.proofs.MoveMeaning.{copy-written, move-is, move-housed}
 
 -- the live block at b, in a heap that passes
@@ -82,21 +83,20 @@ module _ (ws : List ℕ) (h : Heap) (q : passes ws h ≡ true) (z : ℕ) (k : pe
   unfolding resizeM shrinkM resize resized
   shrinks u =
       let i = lies in
-      let s = place ws h well b l in
+      let c = chunk-shrinks (block-shrinks well b l z u) in
       let r : (e .place + n) % 2 ^ 32 ≡ e .place + n = omega arith in
-      let housed = tail-housed ws h well (s .low) e (s .high) (splits ws h well b l .0) is-live n (need-large z) (need-eight z) u in
       rw (
         i .size,
         le-ltb (e .size) n (omega arith),
         le-leb (n + 24) (e .size) u,
         r,
-        give-up-tail-is ws h well (s .low) e (s .high) (splits ws h well b l .0) is-live n (need-large z) (need-eight z) u (e .flags),
+        give-up-tail-is c (e .flags),
         i .block,
         change-ruled (e .size) n (omega arith) (omega arith),
         q,
         k,
         l,
-        housed,
+        tail-housed c,
       )
 
   -- the block moves, if something can serve
