@@ -22,8 +22,9 @@ use Rattle.settling.proofs.OpenLaws as opened
 use Rattle.settling.proofs.PictureLaws.{Pictured}
 use Rattle.grant.specs.Serve.{kindIn}
 use Rattle.grant.proofs.SourceLaws.{CanGrant, Grantable, free-source, source-can}
-use Rattle.grant.proofs.CutLaws.{Cutting, Whole, Left, cut-either}
-use Rattle.grant.proofs.CutKept.{Kept, part-kept, whole-kept-as}
+use Rattle.grant.proofs.CutLaws.{FreeChunk, Cutting, Whole, Left, cut-either}
+use Rattle.grant.proofs.CutKept.{Kept, whole-kept-as}
+use Rattle.grant.proofs.PartKept.{part-kept}
 
 module _ {ws : List ℕ} {h : Heap} {n : ℕ} (room : Grantable ws h n) where
   abbrev pub source : Source
@@ -57,14 +58,17 @@ module _ {ws : List ℕ} {h : Heap} {n : ℕ} (room : Grantable ws h n) where
   unfolding grantAt
   grant-is = can .is ∙ rw (can .here)
 
-  cut-kept : Kept ws h (room .well) low chosen high (can .split) (can .free) (chunksOf parts) (parts .granted) after
+  chunk : FreeChunk ws h low chosen high
+  chunk = record { well = room .well; split = can .split; free = can .free }
+
+  cut-kept : Kept ws h low high (chunksOf parts) (parts .granted) after
   cut-kept = go (cut-either chosen n (room .large) (can .enough))
     where
-      go : Whole chosen n parts ⊎ Left chosen n parts → Kept ws h (room .well) low chosen high (can .split) (can .free) (chunksOf parts) (parts .granted) after
+      go : Whole chosen n parts ⊎ Left chosen n parts → Kept ws h low high (chunksOf parts) (parts .granted) after
       go (inl w) =
-          whole-kept-as ws h (room .well) low chosen high (can .split) (can .free) n (room .large) parts w (kindIn source) (can .kind) (free-source source (room .some)) (can .spare)
+          whole-kept-as chunk (room .large) w (kindIn source) (can .kind) (free-source source (room .some)) (can .spare)
       go (inr w) =
-          part-kept ws h (room .well) low chosen high (can .split) (can .free) n (room .large) parts w (room .eight) (kindIn source) (can .kind) (free-source source (room .some))
+          part-kept chunk (room .large) w (room .eight) (kindIn source) (can .kind) (free-source source (room .some))
 
   pub cutting : Cutting chosen n parts
   cutting = go (cut-either chosen n (room .large) (can .enough))

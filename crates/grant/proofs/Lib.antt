@@ -6,6 +6,7 @@ pub mod CutSteps
 pub mod CutLaws
 pub mod CutMeaning
 pub mod CutKept
+pub mod PartKept
 pub mod GrantKept
 pub mod GrantedChunk
 pub mod GrantSpares

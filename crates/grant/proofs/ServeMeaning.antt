@@ -10,7 +10,7 @@ use borrow.Author.Tests.{le-leb, lt-leb}
 use Rattle.bins.specs.Books.{books}
 use Rattle.record.specs.declared.heap.Heap.{Heap}
 use Rattle.record.specs.declared.kinds.Kind.{Kind}
-use Rattle.record.specs.Heap.{at, tableOf, with}
+use Rattle.record.specs.Heap.{at, tableOf}
 use Rattle.region.specs.Words.{written}
 use Rattle.rules.specs.Allocate.{grant}
 use Rattle.rules.specs.Cut.{Grant, grantAt}
@@ -18,9 +18,7 @@ use Rattle.rules.specs.Draft.{asRead}
 use Rattle.rules.specs.Kinds.{used}
 use Rattle.rules.specs.Shape.{Entry, entry}
 use Rattle.rules.proofs.SpotLaws.{bounds, inside, used-few}
-use Rattle.settling.specs.Settling.{donorAfter, topAfter}
-use Rattle.settling.proofs.DraftLaws.{booksOf}
-use Rattle.grant.specs.Cut.{grantedM, cutM, takeM}
+use Rattle.grant.specs.Cut.{grantedM}
 use Rattle.grant.specs.Serve.{kindIn, Leaves, leaves, takenM, serveM, servedM}
 use Rattle.grant.proofs.SourceLaws.{Grantable, free-source}
 use Rattle.grant.proofs.CutMeaning.{Serving, Taken, chunk-taken}
@@ -42,20 +40,15 @@ granted-few n s l = go (decLt s (n + 24))
     go (yes k) = rw (lt-leb (n + 24) s k) (omega arith)
     go (no k) = rw (le-leb (n + 24) s (omega arith)) l
 
-module _ (ws : List ℕ) (h : Heap) (n : ℕ) where
-  -- m bytes of the chunk e are granted as the rule says
-  taken-is : (k : Kind) (e : Entry) (m : ℕ) (g : Grant) → m + h .used < 2 ^ 32
-      → takeM (books ws (h .heads) (h .tails)) (tableOf h) k (cutM ws (e .place) n) ≡ booksOf ws (g .draft)
-      → cutM ws (e .place) n .rest .0 ≡ e .place + m
-      → g .granted ≡ entry (e .place) m used
-      → g .draft .heap ≡ with h (g .draft .heap .heads) (g .draft .heap .tails) (donorAfter k (e .place + m) (h .donor .0)) (topAfter k (e .place + m) (h .top .0)) (h .merge) (h .used + m)
-      → leaves h (takenM (books ws (h .heads) (h .tails)) (tableOf h) (h .donor .0) (h .top .0) k (e .place) n) ≡ handed ws g
-  unfolding takenM
-  taken-is k e m g few is rest given heap =
-      let z : e .place + m - e .place ≡ m = omega arith in
-      let u : (h .used + m) % 2 ^ 32 ≡ h .used + m = omega arith in
-      rw (is, rest, z, u)
-      (ap (λ (x : Heap). granting ws g x (entry (e .place) m used)) (sym heap) ∙ ap (granting ws g (g .draft .heap)) (sym given))
+-- m bytes of the chunk e, which were taken as the rule says, are handed back as its grant
+taken-is : {ws : List ℕ} {h : Heap} {n : ℕ} {k : Kind} {e : Entry} {m : ℕ} {g : Grant} → m + h .used < 2 ^ 32 → Taken ws h n k e m g
+    → leaves h (takenM (books ws (h .heads) (h .tails)) (tableOf h) (h .donor .0) (h .top .0) k (e .place) n) ≡ handed ws g
+unfolding takenM
+taken-is {ws} {h} {e = e} {m = m} {g = g} few t =
+    let z : e .place + m - e .place ≡ m = omega arith in
+    let u : (h .used + m) % 2 ^ 32 ≡ h .used + m = omega arith in
+    rw (t .is, t .rest, z, u)
+    (ap (λ (x : Heap). granting ws g x (entry (e .place) m used)) (sym (t .heap)) ∙ ap (granting ws g (g .draft .heap)) (sym (t .granted)))
 
 module _ {ws : List ℕ} {h : Heap} {n : ℕ} (room : Grantable ws h n) where
   abbrev e : Entry
@@ -81,19 +74,17 @@ module _ {ws : List ℕ} {h : Heap} {n : ℕ} (room : Grantable ws h n) where
   ruled =
       ap (λ (x : Entry). grantAt kind (record { low = low room; here = x; high = high room }) n (asRead ws h)) (sym (can room .here)) ∙ sym (can room .is)
 
-  taken : Taken ws h (room .well) n (room .large) (room .eight) kind (low room) e (high room) serving (grantedM n (e .size)) (grant n (asRead ws h))
-  taken = rw ruled at (chunk-taken ws h (room .well) n (room .large) (room .eight) kind (low room) e (high room) serving)
+  taken : Taken ws h n kind e (grantedM n (e .size)) (grant n (asRead ws h))
+  taken = rw ruled at (chunk-taken (room .well) (room .large) (room .eight) serving)
 
   pub serve-is : servedM ws (tableOf h) h (source room) n ≡ handed ws (grant n (asRead ws h))
   unfolding servedM serveM
   serve-is =
       let c = can room in
-      let t = taken in
       let g = granted-few n (e .size) (c .enough) in
       let i = inside ws h (room .well) e (c .member) in
       let b = bounds ws h (room .well) in
-      rw (sym (c .place))
-      (taken-is ws h n kind e (grantedM n (e .size)) (grant n (asRead ws h)) (omega (arith, used-few ws h (room .well))) (t .is) (t .rest) (t .granted) (t .heap))
+      rw (sym (c .place)) (taken-is (omega (arith, used-few ws h (room .well))) taken)
 
   pub grant-housed : grant n (asRead ws h) .draft .homeless ≡ false
   grant-housed = taken .housed
