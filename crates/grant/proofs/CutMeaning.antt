@@ -44,6 +44,7 @@ pub record Serving (ws : List ℕ) (h : Heap) (n : ℕ) (k : Kind) (low : List E
   -- of donor and top 24 bytes stay
   pub spare : ordinaryKind k ≡ false → n + 24 ≤ e .size
 
+-- what the code grants of s bytes
 granted-part : (n s : ℕ) → n + 24 ≤ s → grantedM n s ≡ n
 unfolding grantedM
 granted-part n s l = rw (le-leb (n + 24) s l)
@@ -80,6 +81,7 @@ module _ {ws : List ℕ} {h : Heap} (p : Passes ws h) where
       let s = one-chunk ws h p (r .0) e (r .1 .member) me (r .1 .place ∙ q) in
       false≢true (sym o ∙ ap (ordinary h) (sym s) ∙ r .1 .kind)
 
+  -- a free chunk leaves its bin as its kind has it
   leaves-as : (k : Kind) (e : Entry) → Mem e (shape ws (h .bytes)) → kindOf h e ≡ k → freeKind k ≡ true → Left ws h e k (leaveAs k e (asRead ws h))
   unfolding leaveBinM asRead
   leaves-as Start e m q f = absurd (false≢true f)
@@ -196,6 +198,7 @@ module _ {ws : List ℕ} {h : Heap} (p : Passes ws h) where
     abbrev pub grantRuled : Grant
     grantRuled = grantAt k (record { low = low; here = e; high = high }) n (asRead ws h)
 
+    -- n bytes are granted, and the rest takes the chunk's place
     module _ (l : n + 24 ≤ e .size) where
       abbrev given : Entry
       given = entry (e .place) n used
@@ -297,6 +300,7 @@ module _ {ws : List ℕ} {h : Heap} (p : Passes ws h) where
                 (more-used h _ _ _ _ _ (e .size) (gone .follows .heap));
           })
 
+    -- either way
     pub chunk-taken : Taken ws h n k e (grantedM n (e .size)) grantRuled
     chunk-taken = go (decLt (e .size) (n + 24))
       where

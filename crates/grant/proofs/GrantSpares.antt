@@ -27,6 +27,7 @@ use Rattle.grant.proofs.SourceLaws.{Grantable}
 use Rattle.grant.proofs.CutLaws.{Cutting, Whole, Left, cut-either}
 use Rattle.grant.proofs.GrantKept.{source, chosen, can, low, high, parts, after, grant-is}
 
+-- only an ordinary chunk leaves a bin
 leaves-spared : (P : ℕ → Type 0) (k : Kind) (e : Entry) (d : Draft) → Spared P d → Spared P (leaveAs k e d)
 leaves-spared P Ordinary e d s = leave-spared P e d s
 leaves-spared P Donor e d s = s

@@ -32,6 +32,7 @@ granting ws g h e = record { words = written ws (g .draft .stores); heap = h; ch
 abbrev pub handed : List ℕ → Grant → Leaves
 handed ws g = granting ws g (g .draft .heap) (g .granted)
 
+-- no more is granted than the chunk has
 granted-few : (n s : ℕ) → n ≤ s → grantedM n s ≤ s
 unfolding grantedM
 granted-few n s l = go (decLt s (n + 24))
@@ -57,6 +58,7 @@ module _ {ws : List ℕ} {h : Heap} {n : ℕ} (room : Grantable ws h n) where
   abbrev kind : Kind
   kind = kindIn (source room)
 
+  -- the chunk that the source names, as the cut wants it
   serving : Serving ws h n kind (low room) e (high room)
   serving =
       let c = can room in
@@ -86,6 +88,7 @@ module _ {ws : List ℕ} {h : Heap} {n : ℕ} (room : Grantable ws h n) where
       let b = bounds ws h (room .well) in
       rw (sym (c .place)) (taken-is (omega (arith, used-few ws h (room .well))) taken)
 
+  -- a bin takes what is left
   pub grant-housed : grant n (asRead ws h) .draft .homeless ≡ false
   grant-housed = taken .housed
 

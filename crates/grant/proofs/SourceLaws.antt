@@ -64,6 +64,7 @@ abbrev Goods : (Source → Type 0) → List Source → Type 0
 Goods P [] = Unit {0}
 Goods P (s ∷ ss) = Good P s × Goods P ss
 
+-- so has the first that finds something
 first-good : (P : Source → Type 0) (ss : List Source) → Goods P ss → Good P (firstOf ss)
 first-good P [] g some = absurd (true≢false some)
 first-good P (FromBin c ∷ ss) g some = g .0 some
@@ -76,6 +77,7 @@ first-member : (cs : List ℕ) → (headOr 0 cs ≡ 0 → ⊥) → Mem (headOr 0
 first-member [] n = absurd (n refl)
 first-member (c ∷ cs) n = List·Memᴰ·head refl
 
+-- the first of a bin's list has what all its members have, and a test's source what the test shows
 from-bin-good : (P : Source → Type 0) (cs : List ℕ) → ((c : ℕ) → Mem c cs → P (FromBin (at c))) → Good P (fromBin (headOr 0 cs))
 from-bin-good P cs f = go (ℕ-discrete (headOr 0 cs) 0)
   where
@@ -112,6 +114,7 @@ module _ (ws : List ℕ) (h : Heap) (p : Passes ws h) (n : ℕ) where
       can-at (FromBin (at c)) (k .0) (r .member) (r .place) (ordinary-kind (kindOf h (k .0)) (r .kind)) (r .is .free)
       (large (k .0) (r .member) (r .place) (r .takes)) (λ q. absurd (true≢false q)) (λ q. cc) (rw (r .place))
 
+  -- each of the four tries finds a chunk that can
   own-good : (b : Binned) → TakenBy (tableOf h) n b → Good Can (ownBin es (binList ws h) n b)
   own-good (Bin i) k =
       from-bin-good Can (keep (λ c. leb n (sizeOn es c)) (binList ws h i))

@@ -31,10 +31,12 @@ sees-kind : (t : Bool) (k : Kind) → freeKind (cond t k InUse) ≡ true → k �
 sees-kind true k f = refl
 sees-kind false k f = absurd (false≢true f)
 
+-- chunks of two lists leave their bins
 leave-all : (xs ys : List Entry) (d : Draft) → leaveBins (xs ++ ys) d ≡ leaveBins ys (leaveBins xs d)
 leave-all [] ys d = refl
 leave-all (x ∷ xs) ys d = leave-all xs ys (leaveBin x d)
 
+-- giving back, by the kinds of the neighbours as joining sees them
 pub release-is : (h : Heap) (low : List Entry) (part : Entry) (high : List Entry) (d : Draft) → d .heap ≡ h
     → release low part high d ≡ givenBack (joinedBy (sees h (lastOr outside low)) (sees h (headOr outside high)) low part high) d
 unfolding release

@@ -21,6 +21,7 @@ use Rattle.release.specs.Give.{state, giveUpM, givenUpM}
 use Rattle.release.proofs.ReleaseMeaning.{place, after, give-back-is, after-heap}
 use Rattle.release.proofs.TailMeaning.{ShrinkingChunk, tailAfter, tail-back-is, tail-heap}
 
+-- the words and the record that a draft leaves
 abbrev pub drawn : List ℕ → Draft → State
 drawn ws d = state (written ws (d .stores)) (d .heap)
 

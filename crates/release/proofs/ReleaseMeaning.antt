@@ -38,10 +38,12 @@ module _ {ws : List ℕ} {h : Heap} {low : List Entry} {e : Entry} {high : List 
       (chunkJoined chunk) (chunk-lies chunk) (joining h low e high) (chunk-joins chunk)
       (blockEnd e) (sides chunk .abovePlace)
 
+-- below the first chunk is nothing, at 0, for the walk as for the rules
 last-place : (low : List Entry) → lastOr (entry 0 0 0) low .place ≡ lastOr outside low .place
 last-place [] = refl
 last-place (x ∷ xs) = refl
 
+-- both tests of a live block have held
 is-live : (t u : Bool) → cond t u false ≡ true → (t ≡ true) × (u ≡ true)
 is-live true u q = (refl, q)
 is-live false u q = absurd (false≢true q)
@@ -59,6 +61,7 @@ module _ (ws : List ℕ) (h : Heap) (p : Passes ws h) (b : ℕ) (l : isLive (asR
   abbrev pub after : Draft
   after = release (place .low) (place .here) (place .high) (asRead ws h)
 
+  -- where the chain is taken apart: at the chunk of the block
   pub splits : (shape ws (h .bytes) ≡ place .low ++ place .here ∷ place .high) × (live h (place .here) ≡ true) × (blockOf (place .here) ≡ b)
   unfolding asRead
   splits =

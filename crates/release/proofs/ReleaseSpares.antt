@@ -34,6 +34,7 @@ use Rattle.release.proofs.GapKept.{release-is}
 use Rattle.release.proofs.ReleaseKept.{filled, others-outer}
 use Rattle.release.proofs.ShrinkKept.{ShrinkingBlock, chunk-shrinks, split-laid}
 
+-- chunks that leave their bins one after the other
 leaves-spared : (P : ℕ → Type 0) (es : List Entry) (d : Draft) → Spared P d → Spared P (leaveBins es d)
 leaves-spared P [] d s = s
 leaves-spared P (e ∷ es) d s = leaves-spared P es (leaveBin e d) (leave-spared P e d s)

@@ -29,6 +29,7 @@ use Rattle.release.specs.Release.{neighbourM, joinedM, joinM, giveBackM}
 use Rattle.release.proofs.JoinMeaning.{Agrees, Lies, LiveChunk, sees, joining-sees, here, own, sides, neighbour-is, seen-free, seen-above, part-far, part-joins, part-lies}
 use Rattle.release.proofs.GivingMeaning.{Released, given-back}
 
+-- a chunk in use is seen as one, with merging or without
 in-use-seen : (t : Bool) → cond t InUse InUse ≡ InUse
 in-use-seen true = refl
 in-use-seen false = refl

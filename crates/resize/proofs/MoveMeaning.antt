@@ -36,15 +36,15 @@ module _ {ws : List ℕ} {h : Heap} {n : ℕ} {e : Entry} (moves : Moving ws h n
   abbrev new : Entry
   new = to moves
 
-  -- the words after the grant, those after the copy, and the record
-  abbrev W : List ℕ
-  W = grantedWords (moves .room)
+  -- the words before the copy, those after it, and the record
+  abbrev uncopied : List ℕ
+  uncopied = grantedWords (moves .room)
 
-  abbrev W₁ : List ℕ
-  W₁ = copiedWords moves
+  abbrev words : List ℕ
+  words = copiedWords moves
 
-  abbrev H : Heap
-  H = copiedHeap moves
+  abbrev heap : Heap
+  heap = copiedHeap moves
 
   abbrev freedAfter : Draft
   freedAfter = freeBlock (blockOf e) (copiedOver moves)
@@ -61,58 +61,58 @@ module _ {ws : List ℕ} {h : Heap} {n : ℕ} {e : Entry} (moves : Moving ws h n
       go u ze zn se sn w (inl a) j k jl kl q = omega arith
       go u ze zn se sn w (inr a) j k jl kl q = omega arith
 
-  pub copy-written : copiedM (e .size / 4 - 2) W (e .place) (new .place) 2 ≡ W₁
+  pub copy-written : copiedM (e .size / 4 - 2) uncopied (e .place) (new .place) 2 ≡ words
   copy-written =
       let b = live-between ws h (moves .room .well) e (moves .member) (moves .live) .1 in
       let i = inside ws h (moves .room .well) e (moves .member) in
-      copy-is ws W e new (omega arith) disjoint
+      copy-is ws uncopied e new (omega arith) disjoint
       (λ j k. off (grant n (asRead ws h) .draft .stores) ws (blockOf e) j (grant-spares (moves .room) e (moves .member) (moves .live) _ (omega arith) (omega arith)))
       ∙ sym (appended (moves .room) (copies moves) (copies-within moves))
 
-  abbrev passesAgain : Passes W₁ H
+  abbrev passesAgain : Passes words heap
   passesAgain = copied-passes moves
 
-  abbrev liveAgain : isLive (asRead W₁ H) (blockOf e) ≡ true
+  abbrev liveAgain : isLive (asRead words heap) (blockOf e) ≡ true
   liveAgain = live-again moves
 
-  abbrev thereAgain : Mem e (shape W₁ (H .bytes))
+  abbrev thereAgain : Mem e (shape words (heap .bytes))
   thereAgain = there-again moves
 
   abbrev spotAgain : Spot
-  spotAgain = place W₁ H passesAgain (blockOf e) liveAgain
+  spotAgain = place words heap passesAgain (blockOf e) liveAgain
 
-  split-again : (shape W₁ (H .bytes) ≡ spotAgain .low ++ spotAgain .here ∷ spotAgain .high) × (live H (spotAgain .here) ≡ true) × (blockOf (spotAgain .here) ≡ blockOf e)
-  split-again = splits W₁ H passesAgain (blockOf e) liveAgain
+  split-again : (shape words (heap .bytes) ≡ spotAgain .low ++ spotAgain .here ∷ spotAgain .high) × (live heap (spotAgain .here) ≡ true) × (blockOf (spotAgain .here) ≡ blockOf e)
+  split-again = splits words heap passesAgain (blockOf e) liveAgain
 
   -- it is the old chunk that is found there
   here-again : spotAgain .here ≡ e
   here-again =
       let b = split-again .2 in
-      one-chunk W₁ H passesAgain (spotAgain .here) e (in-split (spotAgain .low) (spotAgain .here) (spotAgain .high) (split-again .0)) thereAgain (omega arith)
+      one-chunk words heap passesAgain (spotAgain .here) e (in-split (spotAgain .low) (spotAgain .here) (spotAgain .high) (split-again .0)) thereAgain (omega arith)
 
-  split-at : shape W₁ (H .bytes) ≡ spotAgain .low ++ e ∷ spotAgain .high
+  split-at : shape words (heap .bytes) ≡ spotAgain .low ++ e ∷ spotAgain .high
   split-at = split-again .0 ∙ ap (λ (x : Entry). spotAgain .low ++ x ∷ spotAgain .high) here-again
 
   -- the chunk below it, as its link names it
-  below-again : word W₁ (e .place) backward - word W₁ (e .place) backward % 8 ≡ lastOr outside (spotAgain .low) .place
+  below-again : word words (e .place) backward - word words (e .place) backward % 8 ≡ lastOr outside (spotAgain .low) .place
   below-again =
-      let o = live-between W₁ H passesAgain e thereAgain (old-live moves) in
+      let o = live-between words heap passesAgain e thereAgain (old-live moves) in
       let b = o .1 in
-      let a = around W₁ H passesAgain (spotAgain .low) e (spotAgain .high) split-at (omega arith) (omega arith) in
-      let i = inside W₁ H passesAgain (lastOr outside (spotAgain .low)) (a .below) in
+      let a = around words heap passesAgain (spotAgain .low) e (spotAgain .high) split-at (omega arith) (omega arith) in
+      let i = inside words heap passesAgain (lastOr outside (spotAgain .low)) (a .below) in
       omega (arith, a .ownBackward, o .0, i .place)
 
-  drawn-again : drawn W₁ (freeBlock (blockOf e) (asRead W₁ H)) ≡ drawn ws freedAfter
+  drawn-again : drawn words (freeBlock (blockOf e) (asRead words heap)) ≡ drawn ws freedAfter
   drawn-again = rw (again-is moves .0, moved-words moves) refl
 
-  pub move-is : givenUpM W₁ (tableOf h) H (record { before = at (word W₁ (e .place) backward - word W₁ (e .place) backward % 8); chunk = at (e .place); end = blockEnd e; flags = e .flags })
+  pub move-is : givenUpM words (tableOf h) heap (record { before = at (word words (e .place) backward - word words (e .place) backward % 8); chunk = at (e .place); end = blockEnd e; flags = e .flags })
       ≡ drawn ws freedAfter
   move-is =
       rw (below-again, ← grant-table (moves .room))
-      (ap (λ (x : Entry). givenUpM W₁ (tableOf H) H (placed (lastOr outside (spotAgain .low) .place) x)) (sym here-again)
-      ∙ give-up-is W₁ H passesAgain (blockOf e) liveAgain
+      (ap (λ (x : Entry). givenUpM words (tableOf heap) heap (placed (lastOr outside (spotAgain .low) .place) x)) (sym here-again)
+      ∙ give-up-is words heap passesAgain (blockOf e) liveAgain
       ∙ drawn-again)
 
   pub move-housed : freedAfter .homeless ≡ false
   unfolding freeBlock
-  move-housed = again-is moves .2 ∙ housed W₁ H passesAgain (blockOf e) liveAgain
+  move-housed = again-is moves .2 ∙ housed words heap passesAgain (blockOf e) liveAgain
