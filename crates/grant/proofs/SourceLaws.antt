@@ -1,6 +1,6 @@
 -- What the chosen source is on a heap that passes: a free chunk of the chain, large enough for the need, and for a need and 24 bytes more
--- if it is the donor or the top; and where the chain is taken apart for the grant (`source-can`). What every law of a grant assumes is
--- `Grantable`. Assumes nothing.
+-- if it is the donor or the top; and where the chain is taken apart for the grant (`source-can`). What the laws of grants
+-- are told is one record, `Grantable`. Assumes nothing.
 use mathlib.Core.Path.{_≡_, refl, subst}
 use mathlib.Core.Bool.{Bool, true, false, cond, not, _&&_, true≢false}
 use mathlib.Core.List.{List, [], _∷_, _++_, List·Memᴰ·head}
