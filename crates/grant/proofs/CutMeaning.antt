@@ -54,9 +54,9 @@ unfolding grantedM
 granted-all n s l = rw (lt-leb (n + 24) s l)
 
 -- a record that says m bytes more are used
-more-used : (h a : Heap) (heads tails : List ℕ) (donor top m : ℕ) → a ≡ with h heads tails donor top (h .merge) (h .used)
+more-used : (h : Heap) {a : Heap} {heads tails : List ℕ} {donor top : ℕ} (m : ℕ) → a ≡ with h heads tails donor top (h .merge) (h .used)
     → withUsed a (a .used + m - 0) ≡ with h heads tails donor top (h .merge) (h .used + m)
-more-used h a heads tails donor top m q = rw (q, sub-zero)
+more-used h m q = rw (q, sub-zero)
 
 -- the words, the bins' ends and the record after the grant g of m bytes, for which n were asked, from the chunk e of kind k
 pub record Taken (ws : List ℕ) (h : Heap) (n : ℕ) (k : Kind) (e : Entry) (m : ℕ) (g : Grant) : Type 0 where
@@ -68,7 +68,7 @@ pub record Taken (ws : List ℕ) (h : Heap) (n : ℕ) (k : Kind) (e : Entry) (m 
       ≡ with h (g .draft .heap .heads) (g .draft .heap .tails) (donorAfter k (e .place + m) (h .donor .0)) (topAfter k (e .place + m) (h .top .0)) (h .merge) (h .used + m)
 
 -- the chunk e has left its bin, if it was in one
-record Left (ws : List ℕ) (h : Heap) (e : Entry) (k : Kind) (after : Draft) : Type 0 where
+record LeftBin (ws : List ℕ) (h : Heap) (e : Entry) (k : Kind) (after : Draft) : Type 0 where
   pub is : leaveBinM (booksOf ws (asRead ws h)) (ordinaryKind k) (e .place) ≡ booksOf ws after
   pub follows : Follows ws h after
   pub others : (j x : ℕ) → j < h .bins → Mem x (after .lists j) → x ≢ e .place
@@ -82,7 +82,7 @@ module _ {ws : List ℕ} {h : Heap} (p : Passes ws h) where
       false≢true (sym o ∙ ap (ordinary h) (sym s) ∙ r .1 .kind)
 
   -- a free chunk leaves its bin as its kind has it
-  leaves-as : (k : Kind) (e : Entry) → Mem e (shape ws (h .bytes)) → kindOf h e ≡ k → freeKind k ≡ true → Left ws h e k (leaveAs k e (asRead ws h))
+  leaves-as : (k : Kind) (e : Entry) → Mem e (shape ws (h .bytes)) → kindOf h e ≡ k → freeKind k ≡ true → LeftBin ws h e k (leaveAs k e (asRead ws h))
   unfolding leaveBinM asRead
   leaves-as Start e m q f = absurd (false≢true f)
   leaves-as InUse e m q f = absurd (false≢true f)
@@ -112,7 +112,7 @@ module _ {ws : List ℕ} {h : Heap} (p : Passes ws h) where
     abbrev out : Draft
     out = leaveAs k e (asRead ws h)
 
-    gone : Left ws h e k out
+    gone : LeftBin ws h e k out
     gone = leaves-as k e here (s .kind) (s .isFree)
 
     left-is : leaveBinM (books ws (h .heads) (h .tails)) (ordinaryKind k) (e .place) ≡ booksOf ws out
@@ -254,7 +254,7 @@ module _ {ws : List ℕ} {h : Heap} (p : Passes ws h) where
             rest = ap (λ (x : Cut). x .rest .0) (cut-reads n (granted-part n (e .size) l) (omega arith));
             granted = refl;
             housed = t .housed;
-            heap = more-used h _ _ _ _ _ n (t .heap);
+            heap = more-used h n (t .heap);
           })
 
     -- nothing is left, so the chunk is ordinary
@@ -297,7 +297,7 @@ module _ {ws : List ℕ} {h : Heap} (p : Passes ws h) where
             housed = gone .follows .housed;
             heap =
                 rw (stays k is-ordinary (blockEnd e) (h .donor .0) .0, stays k is-ordinary (blockEnd e) (h .top .0) .1)
-                (more-used h _ _ _ _ _ (e .size) (gone .follows .heap));
+                (more-used h (e .size) (gone .follows .heap));
           })
 
     -- either way

@@ -49,9 +49,9 @@ record Bottom (ws : List ℕ) (h : Heap) (c b : ℕ) : Type 0 where
   clear : (j x : ℕ) → j < h .bins → Mem x (binList ws h j) → x < b → x + 24 ≤ b
 
 -- no chunk has left its bin on the way to the draft d
-module _ (ws : List ℕ) (h : Heap) (p : Passes ws h) (d : Draft) (follows : Follows ws h d)
+module _ {ws : List ℕ} {h : Heap} (p : Passes ws h) {d : Draft} (follows : Follows ws h d)
     (has : (i x : ℕ) → Mem x (binList ws h i) → Mem x (d .lists i))
-    (c : ℕ) (lower upper : Entry) (u : Union) (lies : Lies ws h c lower upper u) where
+    {c : ℕ} {lower upper : Entry} {u : Union} (lies : Lies ws h c lower upper u) where
   leaves : (x : Entry) → Mem x (shape ws (h .bytes)) → ordinary h x ≡ true → Gone ws h d x (leaveBin x d)
   leaves x m o =
       let b = ordinary-listed ws h p x m o in
@@ -119,7 +119,7 @@ module _ (ws : List ℕ) (h : Heap) (p : Passes ws h) (d : Draft) (follows : Fol
   bottom : Bottom ws h c from
   bottom = rw (lies .chunk) (bottom-by _ refl)
 
-  module _ (j : Joined) (agrees : Agrees j lower upper u) where
+  module _ {j : Joined} (agrees : Agrees j lower upper u) where
     abbrev new : Entry
     new = entry from (u .end - from) unused
 
@@ -172,7 +172,7 @@ module _ (ws : List ℕ) (h : Heap) (p : Passes ws h) (d : Draft) (follows : Fol
     given-is = rw (agrees .here, agrees .becomes, agrees .leaving)
 
     -- the chunk above the one that is given back is at `end`
-    pub given-back : (end : ℕ) → upper .place ≡ end → Released ws h (booksOf ws d) u (lower .place) end (givenBack j d)
-    given-back end q =
+    pub given-back : {end : ℕ} → upper .place ≡ end → Released ws h (booksOf ws d) u (lower .place) end (givenBack j d)
+    given-back q =
         rw (given-is, ← q)
         (record { is = gives ∙ rw (lies .becomes .1) (settles .is); housed = rw (lies .becomes .1) (settles .housed); heap = rw (lies .becomes .1) (settles .heap) })

@@ -6,15 +6,14 @@ use mathlib.Core.List.{List, [], _∷_, _++_}
 use Prim.Native.Nat.{ℕ}
 use lib.Dec.{eqb}
 use borrow.Author.Tests.{eqb-true}
-use Rattle.lists.specs.Lists.{headOr, lastOr}
+use Rattle.lists.specs.Lists.{lastOr}
 use Rattle.record.specs.declared.heap.Heap.{Heap}
 use Rattle.record.specs.Heap.{tableOf, with}
-use Rattle.region.specs.Words.{written}
 use Rattle.rules.specs.Shape.{Entry, entry, shape}
 use Rattle.rules.specs.Kinds.{live, blockOf, blockEnd, holdsBlock, outside}
 use Rattle.rules.specs.Check.{Passes}
 use Rattle.rules.specs.Draft.{Draft, asRead, Spot}
-use Rattle.rules.specs.Join.{joining, release}
+use Rattle.rules.specs.Join.{release}
 use Rattle.rules.specs.Free.{isLive, blockSpot}
 use Rattle.rules.proofs.SpotLaws.{spot-splits}
 use Rattle.bins.specs.Books.{books}
@@ -24,7 +23,7 @@ use Rattle.seek.proofs.SeekLaws.{sought-spot, sought-block}
 use Rattle.release.specs.declared.Joined.{Joined}
 use Rattle.release.specs.Release.{joinM, giveBackM}
 use Rattle.settling.specs.Settling.{donorAfter, topAfter}
-use Rattle.settling.proofs.DraftLaws.{begins}
+use Rattle.settling.proofs.DraftLaws.{booksOf, begins}
 use Rattle.release.proofs.JoinMeaning.{LiveChunk, chunkJoined, sides, chunk-joins, chunk-lies}
 use Rattle.release.proofs.GivingMeaning.{Released, given-back}
 
@@ -34,9 +33,7 @@ module _ {ws : List ℕ} {h : Heap} {low : List Entry} {e : Entry} {high : List 
       (release low e high (asRead ws h))
   unfolding release asRead
   chunk-given-back =
-      given-back ws h (chunk .well) (asRead ws h) (begins ws h (chunk .well)) (λ i x m. m) (e .place) (lastOr outside low) (headOr outside high)
-      (chunkJoined chunk) (chunk-lies chunk) (joining h low e high) (chunk-joins chunk)
-      (blockEnd e) (sides chunk .abovePlace)
+      given-back (chunk .well) (begins ws h (chunk .well)) (λ i x m. m) (chunk-lies chunk) (chunk-joins chunk) (sides chunk .abovePlace)
 
 -- below the first chunk is nothing, at 0, for the walk as for the rules
 last-place : (low : List Entry) → lastOr (entry 0 0 0) low .place ≡ lastOr outside low .place
@@ -83,7 +80,7 @@ module _ (ws : List ℕ) (h : Heap) (p : Passes ws h) (b : ℕ) (l : isLive (asR
   released = chunk-given-back live-chunk
 
   pub give-back-is : giveBackM (books ws (h .heads) (h .tails)) (tableOf h) joined (lastOr outside (place .low) .place) (blockEnd (place .here))
-      ≡ books (written ws (after .stores)) (after .heap .heads) (after .heap .tails)
+      ≡ booksOf ws after
   give-back-is = released .is
 
   -- of the record only the bins' ends, the donor and the top change

@@ -23,7 +23,7 @@ use Rattle.rules.proofs.SpotLaws.{inside}
 use Rattle.bins.specs.Books.{books}
 use Rattle.bins.proofs.WayLaws.{way-keeps}
 use Rattle.settling.specs.Settling.{donorAfter, topAfter}
-use Rattle.settling.proofs.DraftLaws.{Follows, begins}
+use Rattle.settling.proofs.DraftLaws.{booksOf, Follows, begins}
 use Rattle.release.specs.declared.Joined.{Joined}
 use Rattle.release.specs.Release.{neighbourM, joinedM, joinM, giveBackM}
 use Rattle.release.proofs.JoinMeaning.{Agrees, Lies, LiveChunk, sees, joining-sees, here, own, sides, neighbour-is, seen-free, seen-above, part-far, part-joins, part-lies}
@@ -160,11 +160,10 @@ module _ {ws : List ℕ} {h : Heap} {low : List Entry} {e : Entry} {high : List 
   tail-released : Released ws h (books splitWords (h .heads) (h .tails)) tailJoined (e .place) (blockEnd e) tailAfter
   unfolding release asRead
   tail-released =
-      given-back ws h well splitDraft follows (λ i x m. m) (e .place + n) keptChunk above tailJoined tail-lies
-      (joining h (low ++ keptChunk ∷ []) tailChunk high) tail-joins (blockEnd e) (sides chunk .abovePlace)
+      given-back well follows (λ i x m. m) tail-lies tail-joins (sides chunk .abovePlace)
 
   pub tail-back-is : giveBackM (books splitWords (h .heads) (h .tails)) (tableOf h) tailJoined (e .place) (blockEnd e)
-      ≡ books (written ws (tailAfter .stores)) (tailAfter .heap .heads) (tailAfter .heap .tails)
+      ≡ booksOf ws tailAfter
   tail-back-is = tail-released .is
 
   -- of the record only the bins' ends, the donor and the top change
