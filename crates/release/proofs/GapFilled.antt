@@ -31,6 +31,7 @@ pub record Given (ws : List ℕ) (h : Heap) (base : List Entry) (after : Draft) 
   pub stays : (x : Entry) → Mem x base → live h x ≡ true → Mem x (after .chain) × (live (after .heap) x ≡ true)
   pub only : (x : Entry) → Mem x (after .chain) → live (after .heap) x ≡ true → Mem x base × (live h x ≡ true)
 
+-- the gap is filled
 module _ {ws : List ℕ} {h : Heap} {base : List Entry} {rest : ℕ} (p : Passes ws h) {low : List Entry} {from to : ℕ} {high : List Entry} {d : Draft}
     (g : Gap ws h base rest low from to high d) where
   abbrev fill : Entry

@@ -20,7 +20,6 @@ use Rattle.rules.specs.Check.{Passes}
 use Rattle.rules.specs.Draft.{Draft, Spot, asRead, leaveBin}
 use Rattle.rules.specs.Join.{Joined, leaveBins, release}
 use Rattle.rules.specs.Free.{isLive, blockSpot, freeBlock}
-use Rattle.rules.specs.Reallocate.{shrunk}
 use Rattle.rules.proofs.SpotLaws.{one-chunk, live-between}
 use Rattle.rules.proofs.KindsLaws.{ordinary-free}
 use Rattle.settling.proofs.LayoutLaws.{Layout}
@@ -32,7 +31,7 @@ use Rattle.release.proofs.TailMeaning.{keptChunk, tailChunk, splitDraft
 use Rattle.release.proofs.GapLaws.{filling}
 use Rattle.release.proofs.GapKept.{release-is}
 use Rattle.release.proofs.ReleaseKept.{filled, others-outer}
-use Rattle.release.proofs.ShrinkKept.{ShrinkingBlock, chunk-shrinks, split-laid}
+use Rattle.release.proofs.ShrinkKept.{ShrinkingBlock, shrunken, chunk-shrinks, split-laid}
 
 -- chunks that leave their bins one after the other
 leaves-spared : (P : ℕ → Type 0) (es : List Entry) (d : Draft) → Spared P d → Spared P (leaveBins es d)
@@ -165,7 +164,7 @@ module _ {ws : List ℕ} {h : Heap} {b n : ℕ} (shrinks : ShrinkingBlock ws h b
   kept-in : Mem kept parted
   kept-in = Memᴰ·append-left (old .high) (middle-in (old .low) (kept ∷ []) (filling (part .place) (blockEnd part) ∷ []) (List·Memᴰ·head refl))
 
-  shrink-spared : Spared (Outside (h .bytes) parted) (shrunk old n (asRead ws h) .draft)
+  shrink-spared : Spared (Outside (h .bytes) parted) (shrunken shrinks .draft)
   unfolding asRead
   shrink-spared =
       uses-spared (Outside (h .bytes) parted) (old .here .size) n (release (old .low ++ kept ∷ []) part (old .high) _)
@@ -177,17 +176,17 @@ module _ {ws : List ℕ} {h : Heap} {b n : ℕ} (shrinks : ShrinkingBlock ws h b
       (link-word (h .bytes) parted laid kept kept-in 0 (omega arith), tt)))
 
   pub shrink-spares : (e : Entry) → Mem e (shape ws (h .bytes)) → live h e ≡ true → blockOf e ≢ b → (i : ℕ) → blockOf e ≤ 4 * i → 4 * i < blockEnd e
-      → Off i (shrunk (blockSpot (asRead ws h) b) n (asRead ws h) .draft .stores)
+      → Off i (shrunken shrinks .draft .stores)
   shrink-spares e m k o =
-      blocks-spared (h .bytes) parted (shrunk old n (asRead ws h) .draft) shrink-spared e
+      blocks-spared (h .bytes) parted (shrunken shrinks .draft) shrink-spared e
       (outer-in (old .low ++ kept ∷ []) (filling (part .place) (blockEnd part) ∷ []) (old .high) (outer-in (old .low) (kept ∷ []) (old .high) (others-outer ws h (shrinks .well) b (shrinks .live) e m o)))
       (live-between ws h (shrinks .well) e m k .0)
 
   -- nor is a word of the kept part written
   pub shrink-spares-own : (i : ℕ) → b ≤ 4 * i → 4 * i < blockSpot (asRead ws h) b .here .place + n
-      → Off i (shrunk (blockSpot (asRead ws h) b) n (asRead ws h) .draft .stores)
+      → Off i (shrunken shrinks .draft .stores)
   shrink-spares-own i lo hi =
-      blocks-spared (h .bytes) parted (shrunk old n (asRead ws h) .draft) shrink-spared kept kept-in refl i (omega (arith, splits ws h (shrinks .well) b (shrinks .live) .2)) hi
+      blocks-spared (h .bytes) parted (shrunken shrinks .draft) shrink-spared kept kept-in refl i (omega (arith, splits ws h (shrinks .well) b (shrinks .live) .2)) hi
 
-  pub shrink-inside : Below (h .bytes / 4) (shrunk (blockSpot (asRead ws h) b) n (asRead ws h) .draft .stores)
-  shrink-inside = heap-stores (h .bytes) parted (shrunk old n (asRead ws h) .draft) shrink-spared
+  pub shrink-inside : Below (h .bytes / 4) (shrunken shrinks .draft .stores)
+  shrink-inside = heap-stores (h .bytes) parted (shrunken shrinks .draft) shrink-spared

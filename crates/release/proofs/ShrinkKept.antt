@@ -228,30 +228,30 @@ module _ {ws : List ℕ} {h : Heap} {b n : ℕ} (shrinks : ShrinkingBlock ws h b
   pub chunk-shrinks : ShrinkingChunk ws h (s .low) (s .here) (s .high) n
   chunk-shrinks = record { chunk = live-chunk ws h (shrinks .well) b (shrinks .live); large = shrinks .large; eight = shrinks .eight; less = shrinks .less }
 
-  abbrev shrunken : Grant
+  abbrev pub shrunken : Grant
   shrunken = shrunk s n (asRead ws h)
 
   given : Given ws h (s .low ++ shrunken .granted ∷ [] ++ s .high) (shrunken .draft)
   given = tail-given chunk-shrinks
 
-  pub shrink-kept : Pictured ws (shrunk (blockSpot (asRead ws h) b) n (asRead ws h) .draft)
+  pub shrink-kept : Pictured ws (shrunken .draft)
   shrink-kept = given .pictured
 
   -- the kept chunk is a live one of the new chain
-  pub shrink-there : Mem (shrunk (blockSpot (asRead ws h) b) n (asRead ws h) .granted) (shrunk (blockSpot (asRead ws h) b) n (asRead ws h) .draft .chain)
-      × (live (shrunk (blockSpot (asRead ws h) b) n (asRead ws h) .draft .heap) (shrunk (blockSpot (asRead ws h) b) n (asRead ws h) .granted) ≡ true)
+  pub shrink-there : Mem (shrunken .granted) (shrunken .draft .chain)
+      × (live (shrunken .draft .heap) (shrunken .granted) ≡ true)
   shrink-there =
       given .stays (shrunken .granted) (middle-in (s .low) (shrunken .granted ∷ []) (s .high) (List·Memᴰ·head refl))
       (kept-live chunk-shrinks)
 
   -- every other live chunk stays, and no other is live then
   pub shrink-others-stay : (e : Entry) → Mem e (shape ws (h .bytes)) → live h e ≡ true → blockOf e ≢ b
-      → Mem e (shrunk (blockSpot (asRead ws h) b) n (asRead ws h) .draft .chain) × (live (shrunk (blockSpot (asRead ws h) b) n (asRead ws h) .draft .heap) e ≡ true)
+      → Mem e (shrunken .draft .chain) × (live (shrunken .draft .heap) e ≡ true)
   shrink-others-stay e m k o =
       given .stays e (outer-in (s .low) (shrunken .granted ∷ []) (s .high) (others-outer ws h (shrinks .well) b (shrinks .live) e m o)) k
 
-  pub shrink-none-new : (e : Entry) → Mem e (shrunk (blockSpot (asRead ws h) b) n (asRead ws h) .draft .chain)
-      → live (shrunk (blockSpot (asRead ws h) b) n (asRead ws h) .draft .heap) e ≡ true → blockOf e ≢ b → Mem e (shape ws (h .bytes)) × (live h e ≡ true)
+  pub shrink-none-new : (e : Entry) → Mem e (shrunken .draft .chain)
+      → live (shrunken .draft .heap) e ≡ true → blockOf e ≢ b → Mem e (shape ws (h .bytes)) × (live h e ≡ true)
   shrink-none-new e m k o = let r = given .only e m k in (go (among (s .low) (shrunken .granted ∷ []) (s .high) (r .0)), r .1)
     where
       go : Mem e (s .low ++ s .high) ⊎ Mem e (shrunken .granted ∷ []) → Mem e (shape ws (h .bytes))

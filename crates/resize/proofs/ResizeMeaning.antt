@@ -16,7 +16,7 @@ use Rattle.rules.specs.Check.{Passes, passes}
 use Rattle.rules.specs.Cut.{Grant}
 use Rattle.rules.specs.Draft.{Draft, asRead}
 use Rattle.rules.specs.Free.{isLive, freeBlock}
-use Rattle.rules.specs.Kinds.{overhead, blockOf, blockEnd, live}
+use Rattle.rules.specs.Kinds.{overhead, blockOf, blockEnd}
 use Rattle.rules.specs.Outcome.{made, grants}
 use Rattle.rules.specs.Reallocate.{resize, resized}
 use Rattle.rules.specs.Serve.{need, permitted, nowhere}
@@ -56,9 +56,6 @@ module _ (ws : List ℕ) (h : Heap) (q : passes ws h ≡ true) (z : ℕ) (k : pe
   member : Mem e (shape ws (h .bytes))
   member = in-split (place ws h well b l .low) e (place ws h well b l .high) (splits ws h well b l .0)
 
-  is-live : live h e ≡ true
-  is-live = splits ws h well b l .1
-
   -- where the chunk lies
   record Lies : Type 0 where
     pub size : blockEnd e - e .place ≡ e .size
@@ -71,15 +68,19 @@ module _ (ws : List ℕ) (h : Heap) (q : passes ws h ≡ true) (z : ℕ) (k : pe
       let w = bounds ws h well in
       record { size = omega arith; block = omega arith; few = omega arith }
 
+  -- what the code leaves is what the rule says
+  abbrev AsRuled : Type 0
+  AsRuled = resizeM ws (tableOf h) h p n ≡ leftBy ws (resize ws h b z)
+
   -- the chunk has the need, and nothing to give back
-  stays : n ≤ e .size → e .size < n + 24 → resizeM ws (tableOf h) h p n ≡ leftBy ws (resize ws h b z)
+  stays : n ≤ e .size → e .size < n + 24 → AsRuled
   unfolding resizeM resize resized asRead
   stays m u =
       let i = lies in
       rw (i .size, le-ltb (e .size) n m, lt-leb (n + 24) (e .size) u, i .block, change-ruled (e .size) (e .size) (omega arith) (omega arith), q, k, l)
 
   -- the tail is given back
-  shrinks : n + 24 ≤ e .size → resizeM ws (tableOf h) h p n ≡ leftBy ws (resize ws h b z)
+  shrinks : n + 24 ≤ e .size → AsRuled
   unfolding resizeM shrinkM resize resized
   shrinks u =
       let i = lies in
@@ -101,7 +102,7 @@ module _ (ws : List ℕ) (h : Heap) (q : passes ws h ≡ true) (z : ℕ) (k : pe
 
   -- the block moves, if something can serve
   module _ (less : e .size < n) where
-    refuses : nowhere (sourceOf n (asRead ws h)) ≡ true → resizeM ws (tableOf h) h p n ≡ leftBy ws (resize ws h b z)
+    refuses : nowhere (sourceOf n (asRead ws h)) ≡ true → AsRuled
     unfolding resizeM moveM resize
     refuses none =
         let i = lies in
@@ -140,14 +141,14 @@ module _ (ws : List ℕ) (h : Heap) (q : passes ws h ≡ true) (z : ℕ) (k : pe
       rule-moves =
           rw (q, k, l, lt-ltb (e .size) n less, some, move-housed moving)
 
-      moves : resizeM ws (tableOf h) h p n ≡ leftBy ws (resize ws h b z)
+      moves : AsRuled
       moves = code-moves ∙ sym (ap (leftBy ws) rule-moves)
 
   pub resize-is : resizeM ws (tableOf h) h p n ≡ leftBy ws (resize ws h b z)
   resize-is = by (decLt (e .size) n) (decLt (e .size) (n + 24)) (nowhere (sourceOf n (asRead ws h))) refl
     where
       by : Dec (e .size < n) → Dec (e .size < n + 24) → (t : Bool) → nowhere (sourceOf n (asRead ws h)) ≡ t
-          → resizeM ws (tableOf h) h p n ≡ leftBy ws (resize ws h b z)
+          → AsRuled
       by (yes u) d true t = refuses u t
       by (yes u) d false t = moves u t
       by (no u) (yes v) t s = stays (omega arith) v
