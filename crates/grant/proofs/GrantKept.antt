@@ -14,7 +14,7 @@ use Rattle.region.specs.Words.{written}
 use Rattle.rules.specs.Shape.{Entry, shape}
 use Rattle.rules.specs.Kinds.{liveKind, live, isAt}
 use Rattle.rules.specs.Draft.{Draft, asRead, relink, settle, nowUses, spot}
-use Rattle.rules.specs.Cut.{Parts, cut, chunksOf, leaveAs, grantAt}
+use Rattle.rules.specs.Cut.{Grant, Parts, cut, chunksOf, leaveAs, grantAt}
 use Rattle.rules.specs.Allocate.{sourceOf, grant}
 use Rattle.rules.proofs.KindsLaws.{free-not-live}
 use Rattle.rules.proofs.SpotLaws.{one-chunk, live-between}
@@ -32,6 +32,10 @@ module _ {ws : List ℕ} {h : Heap} {n : ℕ} (room : Grantable ws h n) where
 
   abbrev es : List Entry
   es = shape ws (h .bytes)
+
+  -- the rule's grant
+  abbrev pub given : Grant
+  given = grant n (asRead ws h)
 
   pub chosen : Entry
   chosen = source-can ws h (room .well) n (room .some) .0
@@ -54,7 +58,7 @@ module _ {ws : List ℕ} {h : Heap} {n : ℕ} (room : Grantable ws h n) where
       nowUses 0 (parts .granted .size) (cond (eqb (parts .above .size) 0) (relink low (chunksOf parts) high (leaveAs (kindIn source) chosen (asRead ws h)))
       (settle (kindIn source) (parts .above) (relink low (chunksOf parts) high (leaveAs (kindIn source) chosen (asRead ws h)))))
 
-  pub grant-is : grant n (asRead ws h) ≡ record { granted = parts .granted; draft = after }
+  pub grant-is : given ≡ record { granted = parts .granted; draft = after }
   unfolding grantAt
   grant-is = can .is ∙ rw (can .here)
 
@@ -77,17 +81,17 @@ module _ {ws : List ℕ} {h : Heap} {n : ℕ} (room : Grantable ws h n) where
       go (inl w) = w .cutting
       go (inr w) = w .cutting
 
-  pub grant-kept : Pictured ws (grant n (asRead ws h) .draft)
+  pub grant-kept : Pictured ws (given .draft)
   grant-kept = rw grant-is (cut-kept .pictured)
 
   -- the granted chunk is a live one of the new chain, with at least n bytes, at a place that is no live chunk's of the old chain
-  pub granted-there : Mem (grant n (asRead ws h) .granted) (grant n (asRead ws h) .draft .chain)
+  pub granted-there : Mem (given .granted) (given .draft .chain)
   granted-there = rw (grant-is, cut-kept .chain) (middle-in low (chunksOf parts) high (cut-kept .there))
 
-  pub granted-live : live (grant n (asRead ws h) .draft .heap) (grant n (asRead ws h) .granted) ≡ true
+  pub granted-live : live (given .draft .heap) (given .granted) ≡ true
   granted-live = rw grant-is (ap liveKind (cut-kept .inUse))
 
-  pub granted-large : n ≤ grant n (asRead ws h) .granted .size
+  pub granted-large : n ≤ given .granted .size
   granted-large = rw grant-is (cutting .enough)
 
   -- the source was not live
@@ -96,12 +100,12 @@ module _ {ws : List ℕ} {h : Heap} {n : ℕ} (room : Grantable ws h n) where
       let r = one-chunk ws h (room .well) e chosen m (can .member) q in
       false≢true (sym (free-not-live h chosen (can .free .flags)) ∙ ap (live h) (sym r) ∙ l)
 
-  pub granted-new : (e : Entry) → Mem e (shape ws (h .bytes)) → live h e ≡ true → e .place ≢ grant n (asRead ws h) .granted .place
+  pub granted-new : (e : Entry) → Mem e (shape ws (h .bytes)) → live h e ≡ true → e .place ≢ given .granted .place
   granted-new e m l = rw grant-is (λ q. other e m l (q ∙ cutting .place))
 
   -- every live chunk stays
   pub live-stays : (e : Entry) → Mem e (shape ws (h .bytes)) → live h e ≡ true
-      → Mem e (grant n (asRead ws h) .draft .chain) × (live (grant n (asRead ws h) .draft .heap) e ≡ true)
+      → Mem e (given .draft .chain) × (live (given .draft .heap) e ≡ true)
   live-stays e m l =
       let k = opened.outer ws h (room .well) low chosen high (can .split) (can .free .between) e m (other e m l) in
       rw (grant-is, cut-kept .chain) (outer-in low (chunksOf parts) high k, ap liveKind (cut-kept .kinds e k) ∙ l)
@@ -130,6 +134,6 @@ module _ {ws : List ℕ} {h : Heap} {n : ℕ} (room : Grantable ws h n) where
       go (inr k) (inl w) = inl (List·Memᴰ·eq-of-singleton (rw (w .chunks) at k))
       go (inr k) (inr w) = inl (part w (rw (w .chunks) at k))
 
-  pub granted-only : (e : Entry) → Mem e (grant n (asRead ws h) .draft .chain) → live (grant n (asRead ws h) .draft .heap) e ≡ true
-      → (e ≡ grant n (asRead ws h) .granted) ⊎ (Mem e (shape ws (h .bytes)) × (live h e ≡ true))
+  pub granted-only : (e : Entry) → Mem e (given .draft .chain) → live (given .draft .heap) e ≡ true
+      → (e ≡ given .granted) ⊎ (Mem e (shape ws (h .bytes)) × (live h e ≡ true))
   granted-only = rw grant-is kept-only

@@ -18,14 +18,13 @@ use Rattle.rules.specs.Shape.{Entry, shape}
 use Rattle.rules.specs.Kinds.{live, blockOf, blockEnd, outside}
 use Rattle.rules.specs.Draft.{Draft, asRead, relink, settle}
 use Rattle.rules.specs.Cut.{Parts, chunksOf, leaveAs}
-use Rattle.rules.specs.Allocate.{grant}
 use Rattle.rules.proofs.SpotLaws.{Around, inside, around, free-between, live-between}
 use Rattle.settling.proofs.LayoutLaws.{Layout, layout-read}
 use Rattle.settling.proofs.SparesLaws.{Outside, link-word, free-word, Spared, read-spared, leave-spared, relink-spared, settle-spared, uses-spared, blocks-spared, heap-stores}
 use Rattle.grant.specs.Serve.{kindIn}
 use Rattle.grant.proofs.SourceLaws.{Grantable}
 use Rattle.grant.proofs.CutLaws.{Cutting, Whole, Left, cut-either}
-use Rattle.grant.proofs.GrantKept.{source, chosen, can, low, high, parts, after, grant-is}
+use Rattle.grant.proofs.GrantKept.{source, given, chosen, can, low, high, parts, after, grant-is}
 
 -- only an ordinary chunk leaves a bin
 leaves-spared : (P : ℕ → Type 0) (k : Kind) (e : Entry) (d : Draft) → Spared P d → Spared P (leaveAs k e d)
@@ -147,13 +146,13 @@ module _ {ws : List ℕ} {h : Heap} {n : ℕ} (room : Grantable ws h n) where
       go true q = linked-spared
       go false q = rest-spared q (cut-either from n (room .large) (can room .enough))
 
-  grant-spared : Spared Open (grant n (asRead ws h) .draft)
+  grant-spared : Spared Open (given room .draft)
   grant-spared = rw (grant-is room) after-spared
 
   -- the word at index i is inside the live block of e
   pub grant-spares : (e : Entry) → Mem e (shape ws (h .bytes)) → live h e ≡ true → (i : ℕ) → blockOf e ≤ 4 * i → 4 * i < blockEnd e
-      → Off i (grant n (asRead ws h) .draft .stores)
-  grant-spares e m l = blocks-spared (h .bytes) es (grant n (asRead ws h) .draft) grant-spared e m (live-between ws h (room .well) e m l .0)
+      → Off i (given room .draft .stores)
+  grant-spares e m l = blocks-spared (h .bytes) es (given room .draft) grant-spared e m (live-between ws h (room .well) e m l .0)
 
-  pub grant-inside : Below (h .bytes / 4) (grant n (asRead ws h) .draft .stores)
-  grant-inside = heap-stores (h .bytes) es (grant n (asRead ws h) .draft) grant-spared
+  pub grant-inside : Below (h .bytes / 4) (given room .draft .stores)
+  grant-inside = heap-stores (h .bytes) es (given room .draft) grant-spared

@@ -14,31 +14,25 @@ use Rattle.region.proofs.WordsLaws.{written-append}
 use Rattle.rules.specs.Shape.{Entry, shape, binList}
 use Rattle.rules.specs.Kinds.{live, blockEnd}
 use Rattle.rules.specs.Check.{Passes}
-use Rattle.rules.specs.Draft.{asRead}
-use Rattle.rules.specs.Cut.{Grant}
-use Rattle.rules.specs.Allocate.{grant}
 use Rattle.rules.proofs.SpotLaws.{bounds, inside, apart}
 use Rattle.settling.proofs.FillLaws.{Within, fills}
 use Rattle.settling.proofs.PictureLaws.{Pictured}
 use Rattle.grant.proofs.SourceLaws.{Grantable}
-use Rattle.grant.proofs.GrantKept.{grant-kept, granted-there, granted-live, granted-new, live-stays}
+use Rattle.grant.proofs.GrantKept.{given, grant-kept, granted-there, granted-live, granted-new, live-stays}
 
 -- n bytes are granted
 module _ {ws : List ℕ} {h : Heap} {n : ℕ} (room : Grantable ws h n) where
-  abbrev pub given : Grant
-  given = grant n (asRead ws h)
-
   abbrev pub new : Entry
-  new = given .granted
+  new = given room .granted
 
   -- the words and the record then
   abbrev pub grantedWords : List ℕ
-  grantedWords = written ws (given .draft .stores)
+  grantedWords = written ws (given room .draft .stores)
 
   abbrev pub grantedHeap : Heap
-  grantedHeap = given .draft .heap
+  grantedHeap = given room .draft .heap
 
-  pub kept : Pictured ws (given .draft)
+  pub kept : Pictured ws (given room .draft)
   kept = grant-kept room
 
   pub new-there : Mem new (shape grantedWords (grantedHeap .bytes))
@@ -72,10 +66,10 @@ module _ {ws : List ℕ} {h : Heap} {n : ℕ} (room : Grantable ws h n) where
   -- its block is written into
   module _ (ss : List Store) (w : Within new ss) where
     abbrev pub filledWords : List ℕ
-    filledWords = written ws (given .draft .stores ++ ss)
+    filledWords = written ws (given room .draft .stores ++ ss)
 
     pub appended : filledWords ≡ written grantedWords ss
-    appended = written-append (given .draft .stores) ss ws
+    appended = written-append (given room .draft .stores) ss ws
 
     pub filled : (shape filledWords (grantedHeap .bytes) ≡ shape grantedWords (grantedHeap .bytes)) × ((i : ℕ) → binList filledWords grantedHeap i ≡ binList grantedWords grantedHeap i) × Passes filledWords grantedHeap
     filled = rw appended (fills grantedWords grantedHeap (kept .passes) new new-there new-live ss w)

@@ -12,7 +12,6 @@ use Rattle.record.specs.declared.heap.Heap.{Heap}
 use Rattle.record.specs.declared.kinds.Kind.{Kind}
 use Rattle.record.specs.Heap.{at, tableOf}
 use Rattle.region.specs.Words.{written}
-use Rattle.rules.specs.Allocate.{grant}
 use Rattle.rules.specs.Cut.{Grant, grantAt}
 use Rattle.rules.specs.Draft.{asRead}
 use Rattle.rules.specs.Kinds.{used}
@@ -22,7 +21,7 @@ use Rattle.grant.specs.Cut.{grantedM}
 use Rattle.grant.specs.Serve.{kindIn, Leaves, leaves, takenM, serveM, servedM}
 use Rattle.grant.proofs.SourceLaws.{Grantable, free-source}
 use Rattle.grant.proofs.CutMeaning.{Serving, Taken, chunk-taken}
-use Rattle.grant.proofs.GrantKept.{source, chosen, can, low, high}
+use Rattle.grant.proofs.GrantKept.{source, given, chosen, can, low, high}
 
 -- what is left where the rule's grant was written, with this record and this chunk
 abbrev granting : List ℕ → Grant → Heap → Entry → Leaves
@@ -72,14 +71,14 @@ module _ {ws : List ℕ} {h : Heap} {n : ℕ} (room : Grantable ws h n) where
       }
 
   -- the rule's grant is of this chunk
-  ruled : grantAt kind (record { low = low room; here = e; high = high room }) n (asRead ws h) ≡ grant n (asRead ws h)
+  ruled : grantAt kind (record { low = low room; here = e; high = high room }) n (asRead ws h) ≡ given room
   ruled =
       ap (λ (x : Entry). grantAt kind (record { low = low room; here = x; high = high room }) n (asRead ws h)) (sym (can room .here)) ∙ sym (can room .is)
 
-  taken : Taken ws h n kind e (grantedM n (e .size)) (grant n (asRead ws h))
+  taken : Taken ws h n kind e (grantedM n (e .size)) (given room)
   taken = rw ruled at (chunk-taken (room .well) (room .large) (room .eight) serving)
 
-  pub serve-is : servedM ws (tableOf h) h (source room) n ≡ handed ws (grant n (asRead ws h))
+  pub serve-is : servedM ws (tableOf h) h (source room) n ≡ handed ws (given room)
   unfolding servedM serveM
   serve-is =
       let c = can room in
@@ -89,9 +88,9 @@ module _ {ws : List ℕ} {h : Heap} {n : ℕ} (room : Grantable ws h n) where
       rw (sym (c .place)) (taken-is (omega (arith, used-few ws h (room .well))) taken)
 
   -- a bin takes what is left
-  pub grant-housed : grant n (asRead ws h) .draft .homeless ≡ false
+  pub grant-housed : given room .draft .homeless ≡ false
   grant-housed = taken .housed
 
   -- a grant leaves the table
-  pub grant-table : tableOf (grant n (asRead ws h) .draft .heap) ≡ tableOf h
+  pub grant-table : tableOf (given room .draft .heap) ≡ tableOf h
   grant-table = ap tableOf (taken .heap)

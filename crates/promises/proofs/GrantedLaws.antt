@@ -9,7 +9,7 @@ use native.Mathlib.Decide.{ℕ-discrete}
 use native.Mathlib.Omega.{arith}
 use lib.ListN.{length}
 use Rattle.grant.proofs.SourceLaws.{CanGrant, Grantable}
-use Rattle.grant.proofs.GrantKept.{chosen, can, source, cutting, grant-is, granted-large, granted-new, live-stays, granted-only}
+use Rattle.grant.proofs.GrantKept.{given, chosen, can, source, cutting, grant-is, granted-large, granted-new, live-stays, granted-only}
 use Rattle.grant.proofs.GrantedChunk as granting
 use Rattle.grant.proofs.GrantSpares.{grant-spares}
 use Rattle.lists.specs.Lists.{numbersFrom}
@@ -143,7 +143,7 @@ module _ {ws : List ℕ} {h : Heap} {n : ℕ} (room : Grantable ws h n) where
               let i = inside ws h (room .well) e m in
               rw (granting.appended room ss w)
               (off ss (granting.grantedWords room) (blockOf e) k (old-off e m l k r)
-              ∙ off (granting.given room .draft .stores) ws (blockOf e) k (grant-spares room e m l _ (omega arith) (omega arith)));
+              ∙ off (given room .draft .stores) ws (blockOf e) k (grant-spares room e m l _ (omega arith) (omega arith)));
         }
 
     -- no other chunk becomes live
@@ -156,7 +156,7 @@ module _ {ws : List ℕ} {h : Heap} {n : ℕ} (room : Grantable ws h n) where
 
     -- it meets the promise of a new block
     pub new-apart : (a : Answer)
-        → NewApart ws h n (blockOf new) (leftBy ws (made a (alsoWrites ss (granting.given room .draft))))
+        → NewApart ws h n (blockOf new) (leftBy ws (made a (alsoWrites ss (given room .draft))))
     new-apart a = ((new, from, (new-held, cut-from)), keeps-all, only-new)
 
 -- zeros to the chunk's end fall into its block

@@ -12,7 +12,6 @@ use Rattle.record.specs.declared.heap.Heap.{Heap}
 use Rattle.record.specs.Heap.{at, tableOf}
 use Rattle.region.specs.Words.{word, backward}
 use Rattle.region.proofs.WordsLaws.{off}
-use Rattle.rules.specs.Allocate.{grant}
 use Rattle.rules.specs.Check.{Passes}
 use Rattle.rules.specs.Draft.{Draft, asRead, Spot}
 use Rattle.rules.specs.Free.{isLive, freeBlock}
@@ -23,7 +22,7 @@ use Rattle.seek.specs.Seek.{placed}
 use Rattle.blocks.specs.Blocks.{copiedM}
 use Rattle.blocks.proofs.BlocksMeaning.{Disjoint, copy-is}
 use Rattle.grant.proofs.ServeMeaning.{grant-table}
-use Rattle.grant.proofs.GrantKept.{granted-large}
+use Rattle.grant.proofs.GrantKept.{given, granted-large}
 use Rattle.grant.proofs.GrantedChunk.{grantedWords, beside, granted-lies, appended}
 use Rattle.grant.proofs.GrantSpares.{grant-spares}
 use Rattle.release.specs.Give.{givenUpM}
@@ -66,7 +65,7 @@ module _ {ws : List ℕ} {h : Heap} {n : ℕ} {e : Entry} (moves : Moving ws h n
       let b = live-between ws h (moves .room .well) e (moves .member) (moves .live) .1 in
       let i = inside ws h (moves .room .well) e (moves .member) in
       copy-is ws uncopied e new (omega arith) disjoint
-      (λ j k. off (grant n (asRead ws h) .draft .stores) ws (blockOf e) j (grant-spares (moves .room) e (moves .member) (moves .live) _ (omega arith) (omega arith)))
+      (λ j k. off (given (moves .room) .draft .stores) ws (blockOf e) j (grant-spares (moves .room) e (moves .member) (moves .live) _ (omega arith) (omega arith)))
       ∙ sym (appended (moves .room) (copies moves) (copies-within moves))
 
   abbrev passesAgain : Passes words heap

@@ -19,8 +19,8 @@ use Rattle.rules.specs.Reallocate.{copied}
 use Rattle.rules.specs.Shape.{Entry, shape}
 use Rattle.settling.proofs.FillLaws.{Within, filled-within}
 use Rattle.grant.proofs.SourceLaws.{Grantable}
-use Rattle.grant.proofs.GrantKept.{granted-large, live-stays}
-use Rattle.grant.proofs.GrantedChunk.{given, new, grantedHeap, kept, old-there, filledWords, filled}
+use Rattle.grant.proofs.GrantKept.{given, granted-large, live-stays}
+use Rattle.grant.proofs.GrantedChunk.{new, grantedHeap, kept, old-there, filledWords, filled}
 use Rattle.release.proofs.AgainLaws.{again}
 
 -- the chunk e of a live block, which has less than n bytes, and room for n elsewhere
