@@ -14,6 +14,7 @@ use Rattle.region.specs.declared.Chunk.{Chunk}
 use Rattle.region.specs.Words.{word, size}
 use Rattle.grant.specs.Choose.{ownM, largerM, donorM, topM, chooseM}
 
+-- whether the donor serves: the need is not small, there is no donor, or its size decides
 module _ (ws table : List ℕ) (donor n : ℕ) {t : Bool} (et : t ≡ small table n) where
   pub not-small : not t ≡ true → false ≡ donorM ws table donor n
   unfolding donorM
@@ -28,6 +29,7 @@ module _ (ws table : List ℕ) (donor n : ℕ) {t : Bool} (et : t ≡ small tabl
     unfolding donorM
     by-size m es = rw (sym et ∙ not-false t ht, ne-eqb donor 0 m, es)
 
+-- the source: b is the need's bin, and `own` what it has; each try is made where those before it have failed
 module _ (ws table heads : List ℕ) (donor top n : ℕ) (b : Binned) (eb : TakenBy table n b) (own : Chunk) (eo : own .0 ≡ ownM ws heads n b) where
   binned : b ≡ binOf table n
   binned = bin-is table n b eb

@@ -49,6 +49,7 @@ module _ (ws : List ℕ) (h : Heap) (p : Passes ws h) (n : ℕ) where
   donor-size : 0 < h .donor .0 → word ws (h .donor .0) size ≡ sizeOn es (h .donor .0)
   donor-size l = let t = donor-here ws h p l in rw (t .place) at (t .free .sized)
 
+  -- each of the four tries is the rule's
   own-is : (b : Binned) → TakenBy (tableOf h) n b → fromBin (ownM ws (h .heads) n b) ≡ ownBin es (binList ws h) n b
   unfolding ownM
   own-is (Bin i) k =

@@ -21,8 +21,8 @@ use Rattle.headers.specs.Headers.{aboveWords, freeWords, usedWords}
 use Rattle.rules.specs.Shape.{Entry, entry, shape, binList, flagsAt}
 use Rattle.rules.specs.Kinds.{kindOf, ordinaryKind, freeKind, ordinary, unused, used, blockEnd, outside}
 use Rattle.rules.specs.Check.{Passes}
-use Rattle.rules.specs.Draft.{Draft, asRead, nowUses, relink, settle}
-use Rattle.rules.specs.Cut.{Grant, cut, grantAt, leaveAs}
+use Rattle.rules.specs.Draft.{Draft, asRead, relink, settle}
+use Rattle.rules.specs.Cut.{Grant, grantAt, leaveAs}
 use Rattle.rules.proofs.SpotLaws.{Free, Around, bounds, inside, around, apart, one-chunk}
 use Rattle.rules.proofs.KindsLaws.{ordinary-kind, free-kinds}
 use Rattle.bins.specs.Books.{books}
@@ -32,6 +32,7 @@ use Rattle.settling.specs.Settling.{leaveBinM, alsoWritten, donorAfter, topAfte
 use Rattle.settling.proofs.DraftLaws.{booksOf, Clears, Follows, Settled, begins, leave-step, relink-follows, settle-step}
 use Rattle.grant.specs.declared.cut.Cut.{Cut}
 use Rattle.grant.specs.Cut.{grantedM, cutM, takeM}
+use Rattle.grant.proofs.CutLaws.{grants-part, grants-all}
 
 -- the chunk e of kind k, between low and high, from which n bytes can be granted
 pub record Serving (ws : List ℕ) (h : Heap) (n : ℕ) (k : Kind) (low : List Entry) (e : Entry) (high : List Entry) : Type 0 where
@@ -43,36 +44,7 @@ pub record Serving (ws : List ℕ) (h : Heap) (n : ℕ) (k : Kind) (low : List E
   -- of donor and top 24 bytes stay
   pub spare : ordinaryKind k ≡ false → n + 24 ≤ e .size
 
--- the rule, where something is left of the chunk, and where nothing is
-abbrev partly : Kind → List Entry → Entry → List Entry → ℕ → Draft → Grant
-partly k low e high n d =
-    let given = entry (e .place) n used in
-    let rest = entry (e .place + n) (e .size - n) unused in
-    record {
-      granted = given;
-      draft = nowUses 0 n (settle k rest (relink low (given ∷ rest ∷ []) high (leaveAs k e d)));
-    }
-
-abbrev wholly : Kind → List Entry → Entry → List Entry → Draft → Grant
-wholly k low e high d =
-    let given = entry (e .place) (e .size) used in
-    record { granted = given; draft = nowUses 0 (e .size) (relink low (given ∷ []) high (leaveAs k e d)) }
-
-module _ (k : Kind) (low : List Entry) (e : Entry) (high : List Entry) (n : ℕ) (d : Draft) (large : 24 ≤ n) where
-  abbrev ruled : Grant
-  ruled = grantAt k (record { low = low; here = e; high = high }) n d
-
-  pub grants-part : n + 24 ≤ e .size → ruled ≡ partly k low e high n d
-  unfolding grantAt cut
-  grants-part l =
-      rw (add-zero (e .place), sub-zero (e .size), le-leb (n + 24) (e .size) l, ne-eqb n 0 (λ z. omega arith), ne-eqb (e .size - n) 0 (λ z. omega arith))
-
-  pub grants-all : n ≤ e .size → e .size < n + 24 → ruled ≡ wholly k low e high d
-  unfolding grantAt cut
-  grants-all m l =
-      let z : e .size - e .size ≡ 0 = omega arith in
-      rw (add-zero (e .place), sub-zero (e .size), lt-leb (n + 24) (e .size) l, ne-eqb (e .size) 0 (λ q. omega arith), z)
-
+-- what the code grants of s bytes
 granted-part : (n s : ℕ) → n + 24 ≤ s → grantedM n s ≡ n
 unfolding grantedM
 granted-part n s l = rw (le-leb (n + 24) s l)
@@ -82,17 +54,26 @@ unfolding grantedM
 granted-all n s l = rw (lt-leb (n + 24) s l)
 
 -- a record that says m bytes more are used
-more-used : (h a : Heap) (heads tails : List ℕ) (donor top m : ℕ) → a ≡ with h heads tails donor top (h .merge) (h .used)
+more-used : (h : Heap) {a : Heap} {heads tails : List ℕ} {donor top : ℕ} (m : ℕ) → a ≡ with h heads tails donor top (h .merge) (h .used)
     → withUsed a (a .used + m - 0) ≡ with h heads tails donor top (h .merge) (h .used + m)
-more-used h a heads tails donor top m q = rw (q, sub-zero)
+more-used h m q = rw (q, sub-zero)
+
+-- the words, the bins' ends and the record after the grant g of m bytes, for which n were asked, from the chunk e of kind k
+pub record Taken (ws : List ℕ) (h : Heap) (n : ℕ) (k : Kind) (e : Entry) (m : ℕ) (g : Grant) : Type 0 where
+  pub is : takeM (books ws (h .heads) (h .tails)) (tableOf h) k (cutM ws (e .place) n) ≡ booksOf ws (g .draft)
+  pub rest : cutM ws (e .place) n .rest .0 ≡ e .place + m
+  pub granted : g .granted ≡ entry (e .place) m used
+  pub housed : g .draft .homeless ≡ false
+  pub heap : g .draft .heap
+      ≡ with h (g .draft .heap .heads) (g .draft .heap .tails) (donorAfter k (e .place + m) (h .donor .0)) (topAfter k (e .place + m) (h .top .0)) (h .merge) (h .used + m)
 
 -- the chunk e has left its bin, if it was in one
-record Left (ws : List ℕ) (h : Heap) (e : Entry) (k : Kind) (after : Draft) : Type 0 where
+record LeftBin (ws : List ℕ) (h : Heap) (e : Entry) (k : Kind) (after : Draft) : Type 0 where
   pub is : leaveBinM (booksOf ws (asRead ws h)) (ordinaryKind k) (e .place) ≡ booksOf ws after
   pub follows : Follows ws h after
   pub others : (j x : ℕ) → j < h .bins → Mem x (after .lists j) → x ≢ e .place
 
-module _ (ws : List ℕ) (h : Heap) (p : Passes ws h) where
+module _ {ws : List ℕ} {h : Heap} (p : Passes ws h) where
   -- no member of a bin is the donor or the top
   not-listed : (e : Entry) → Mem e (shape ws (h .bytes)) → ordinary h e ≡ false → (j x : ℕ) → j < h .bins → Mem x (binList ws h j) → x ≢ e .place
   not-listed e me o j x l m q =
@@ -100,7 +81,8 @@ module _ (ws : List ℕ) (h : Heap) (p : Passes ws h) where
       let s = one-chunk ws h p (r .0) e (r .1 .member) me (r .1 .place ∙ q) in
       false≢true (sym o ∙ ap (ordinary h) (sym s) ∙ r .1 .kind)
 
-  leaves-as : (k : Kind) (e : Entry) → Mem e (shape ws (h .bytes)) → kindOf h e ≡ k → freeKind k ≡ true → Left ws h e k (leaveAs k e (asRead ws h))
+  -- a free chunk leaves its bin as its kind has it
+  leaves-as : (k : Kind) (e : Entry) → Mem e (shape ws (h .bytes)) → kindOf h e ≡ k → freeKind k ≡ true → LeftBin ws h e k (leaveAs k e (asRead ws h))
   unfolding leaveBinM asRead
   leaves-as Start e m q f = absurd (false≢true f)
   leaves-as InUse e m q f = absurd (false≢true f)
@@ -114,8 +96,7 @@ module _ (ws : List ℕ) (h : Heap) (p : Passes ws h) where
       record { is = refl; follows = begins ws h p; others = λ j x l k. not-listed e m (ap ordinaryKind q) j x l (begins ws h p .from j x l k) }
   leaves-as End e m q f = absurd (false≢true f)
 
-  module _ (n : ℕ) (large : 24 ≤ n) (eight : n % 8 ≡ 0) (k : Kind) (low : List Entry) (e : Entry) (high : List Entry)
-      (s : Serving ws h n k low e high) where
+  module _ {n : ℕ} (large : 24 ≤ n) (eight : n % 8 ≡ 0) {k : Kind} {low : List Entry} {e : Entry} {high : List Entry} (s : Serving ws h n k low e high) where
     here : Mem e (shape ws (h .bytes))
     here = in-split low e high (s .split)
 
@@ -131,7 +112,7 @@ module _ (ws : List ℕ) (h : Heap) (p : Passes ws h) where
     abbrev out : Draft
     out = leaveAs k e (asRead ws h)
 
-    gone : Left ws h e k out
+    gone : LeftBin ws h e k out
     gone = leaves-as k e here (s .kind) (s .isFree)
 
     left-is : leaveBinM (books ws (h .heads) (h .tails)) (ordinaryKind k) (e .place) ≡ booksOf ws out
@@ -217,15 +198,7 @@ module _ (ws : List ℕ) (h : Heap) (p : Passes ws h) where
     abbrev pub grantRuled : Grant
     grantRuled = grantAt k (record { low = low; here = e; high = high }) n (asRead ws h)
 
-    -- the words, the bins' ends and the record after the grant; m bytes are granted
-    pub record Taken (m : ℕ) (g : Grant) : Type 0 where
-      pub is : takeM (books ws (h .heads) (h .tails)) (tableOf h) k (cutM ws (e .place) n) ≡ booksOf ws (g .draft)
-      pub rest : cutM ws (e .place) n .rest .0 ≡ e .place + m
-      pub granted : g .granted ≡ entry (e .place) m used
-      pub housed : g .draft .homeless ≡ false
-      pub heap : g .draft .heap
-          ≡ with h (g .draft .heap .heads) (g .draft .heap .tails) (donorAfter k (e .place + m) (h .donor .0)) (topAfter k (e .place + m) (h .top .0)) (h .merge) (h .used + m)
-
+    -- n bytes are granted, and the rest takes the chunk's place
     module _ (l : n + 24 ≤ e .size) where
       abbrev given : Entry
       given = entry (e .place) n used
@@ -272,16 +245,16 @@ module _ (ws : List ℕ) (h : Heap) (p : Passes ws h) where
           rw (cut-reads n (granted-part n (e .size) l) (omega arith), left-is, ne-eqb (e .place + n) (blockEnd e) (λ q. omega arith), part-words, y)
           (part-settles k (s .isFree) .is)
 
-      takes-part : Taken n grantRuled
+      takes-part : Taken ws h n k e n grantRuled
       takes-part =
           let t = part-settles k (s .isFree) in
-          rw (grants-part k low e high n (asRead ws h) large l)
+          rw (grants-part k low e high (asRead ws h) large l)
           (record {
             is = part-taken;
             rest = ap (λ (x : Cut). x .rest .0) (cut-reads n (granted-part n (e .size) l) (omega arith));
             granted = refl;
             housed = t .housed;
-            heap = more-used h _ _ _ _ _ n (t .heap);
+            heap = more-used h n (t .heap);
           })
 
     -- nothing is left, so the chunk is ordinary
@@ -313,10 +286,10 @@ module _ (ws : List ℕ) (h : Heap) (p : Passes ws h) where
       stays : (k₁ : Kind) → ordinaryKind k₁ ≡ true → (c x : ℕ) → (donorAfter k₁ c x ≡ x) × (topAfter k₁ c x ≡ x)
       stays k₁ o c x = rw (ordinary-kind k₁ o) (refl, refl)
 
-      takes-all : Taken (e .size) grantRuled
+      takes-all : Taken ws h n k e (e .size) grantRuled
       unfolding relink
       takes-all =
-          rw (grants-all k low e high n (asRead ws h) large (s .enough) l)
+          rw (grants-all k low e high (asRead ws h) large (s .enough) l)
           (record {
             is = all-taken;
             rest = ap (λ (x : Cut). x .rest .0) (cut-reads (e .size) (granted-all n (e .size) l) (omega arith));
@@ -324,12 +297,13 @@ module _ (ws : List ℕ) (h : Heap) (p : Passes ws h) where
             housed = gone .follows .housed;
             heap =
                 rw (stays k is-ordinary (blockEnd e) (h .donor .0) .0, stays k is-ordinary (blockEnd e) (h .top .0) .1)
-                (more-used h _ _ _ _ _ (e .size) (gone .follows .heap));
+                (more-used h (e .size) (gone .follows .heap));
           })
 
-    pub chunk-taken : Taken (grantedM n (e .size)) grantRuled
+    -- either way
+    pub chunk-taken : Taken ws h n k e (grantedM n (e .size)) grantRuled
     chunk-taken = go (decLt (e .size) (n + 24))
       where
-        go : Dec (e .size < n + 24) → Taken (grantedM n (e .size)) grantRuled
+        go : Dec (e .size < n + 24) → Taken ws h n k e (grantedM n (e .size)) grantRuled
         go (yes l) = rw (granted-all n (e .size) l) (takes-all l)
         go (no m) = rw (granted-part n (e .size) (omega arith)) (takes-part (omega arith))

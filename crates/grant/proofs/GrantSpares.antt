@@ -16,19 +16,17 @@ use Rattle.region.proofs.PrefixLaws.{Below}
 use Rattle.region.proofs.WordsLaws.{Off}
 use Rattle.rules.specs.Shape.{Entry, shape}
 use Rattle.rules.specs.Kinds.{live, blockOf, blockEnd, outside}
-use Rattle.rules.specs.Check.{Passes}
 use Rattle.rules.specs.Draft.{Draft, asRead, relink, settle}
-use Rattle.rules.specs.Serve.{nowhere}
 use Rattle.rules.specs.Cut.{Parts, chunksOf, leaveAs}
-use Rattle.rules.specs.Allocate.{sourceOf, grant}
 use Rattle.rules.proofs.SpotLaws.{Around, inside, around, free-between, live-between}
 use Rattle.settling.proofs.LayoutLaws.{Layout, layout-read}
 use Rattle.settling.proofs.SparesLaws.{Outside, link-word, free-word, Spared, read-spared, leave-spared, relink-spared, settle-spared, uses-spared, blocks-spared, heap-stores}
 use Rattle.grant.specs.Serve.{kindIn}
-use Rattle.grant.proofs.SourceLaws.{CanGrant}
+use Rattle.grant.proofs.SourceLaws.{Grantable}
 use Rattle.grant.proofs.CutLaws.{Cutting, Whole, Left, cut-either}
-use Rattle.grant.proofs.GrantKept.{source, chosen, can, low, high, parts, after, grant-is}
+use Rattle.grant.proofs.GrantKept.{source, given, chosen, can, low, high, parts, after, grant-is}
 
+-- only an ordinary chunk leaves a bin
 leaves-spared : (P : ℕ → Type 0) (k : Kind) (e : Entry) (d : Draft) → Spared P d → Spared P (leaveAs k e d)
 leaves-spared P Ordinary e d s = leave-spared P e d s
 leaves-spared P Donor e d s = s
@@ -37,8 +35,7 @@ leaves-spared P Start e d s = s
 leaves-spared P InUse e d s = s
 leaves-spared P End e d s = s
 
-module _ (ws : List ℕ) (h : Heap) (p : Passes ws h) (n : ℕ) (large : 24 ≤ n) (eight : n % 8 ≡ 0)
-    (some : nowhere (sourceOf n (asRead ws h)) ≡ false) where
+module _ {ws : List ℕ} {h : Heap} {n : ℕ} (room : Grantable ws h n) where
   abbrev es : List Entry
   es = shape ws (h .bytes)
 
@@ -47,16 +44,16 @@ module _ (ws : List ℕ) (h : Heap) (p : Passes ws h) (n : ℕ) (large : 24 ≤ 
   Open i = Outside (h .bytes) es i
 
   abbrev from : Entry
-  from = chosen ws h p n large eight some
+  from = chosen room
 
   abbrev lower : List Entry
-  lower = low ws h p n large eight some
+  lower = low room
 
   abbrev upper : List Entry
-  upper = high ws h p n large eight some
+  upper = high room
 
   abbrev pieces : Parts
-  pieces = parts ws h p n large eight some
+  pieces = parts room
 
   abbrev granted : Entry
   granted = pieces .granted
@@ -65,30 +62,27 @@ module _ (ws : List ℕ) (h : Heap) (p : Passes ws h) (n : ℕ) (large : 24 ≤ 
   above = pieces .above
 
   abbrev kind : Kind
-  kind = kindIn (source ws h p n large eight some)
-
-  taken : CanGrant ws h n (source ws h p n large eight some) from
-  taken = can ws h p n large eight some
+  kind = kindIn (source room)
 
   laid-out : Layout (h .bytes) es
-  laid-out = layout-read ws h p
+  laid-out = layout-read ws h (room .well)
 
   -- words of the source, and of the chunk above it the link
   source-word : (c k : ℕ) → c % 8 ≡ 0 → from .place ≤ c → c + 4 * k + 4 ≤ blockEnd from → Open (c / 4 + k)
-  source-word = let c = taken in free-word (h .bytes) es laid-out from (c .member) (c .free .flags)
+  source-word = let c = can room in free-word (h .bytes) es laid-out from (c .member) (c .free .flags)
 
   sides : Around ws es lower from upper
   sides =
-      let c = taken in
+      let c = can room in
       let b = c .free .between in
-      around ws h p lower from upper (c .split) (omega arith) (omega arith)
+      around ws h (room .well) lower from upper (c .split) (omega arith) (omega arith)
 
   above-link : Open (headOr outside upper .place / 4 + backward)
   above-link = link-word (h .bytes) es laid-out (headOr outside upper) (sides .above) 1 (omega arith)
 
   -- the parts lie inside the source
   from-eight : from .place % 8 ≡ 0
-  from-eight = let c = taken in inside ws h p from (c .member) .place
+  from-eight = let c = can room in inside ws h (room .well) from (c .member) .place
 
   granted-free : Cutting from n pieces
       → Open (granted .place / 4 + forward) × Open (granted .place / 4 + backward) × (granted .flags ≡ 0 → Open (granted .place / 4 + size))
@@ -129,13 +123,13 @@ module _ (ws : List ℕ) (h : Heap) (p : Passes ws h) (n : ℕ) (large : 24 ≤ 
   linked-spared =
       relink-spared Open lower (chunksOf pieces) upper _
       (leaves-spared Open kind from (asRead ws h)
-      (read-spared Open ws h p
+      (read-spared Open ws h (room .well)
       (λ e m f.
-      let i = inside ws h p e m in
-      let b = free-between ws h p e m f in
+      let i = inside ws h (room .well) e m in
+      let b = free-between ws h (room .well) e m f in
       let w : (k : ℕ) → k < 6 → Open (e .place / 4 + k) = λ k l. free-word (h .bytes) es laid-out e m f (e .place) k (i .place) (omega arith) (omega arith) in
       (w 3 (omega arith), w 4 (omega arith)))))
-      (new-free (cut-either from n large (taken .enough))) above-link
+      (new-free (cut-either from n (room .large) (can room .enough))) above-link
 
   -- what is left of the source takes its place
   rest-spared : eqb (above .size) 0 ≡ false → Whole from n pieces ⊎ Left from n pieces
@@ -145,20 +139,20 @@ module _ (ws : List ℕ) (h : Heap) (p : Passes ws h) (n : ℕ) (large : 24 ≤ 
       settle-spared Open above linked linked-spared (above-free w 3 (omega arith), above-free w 4 (omega arith), above-free w 5 (omega arith))
       kind
 
-  after-spared : Spared Open (after ws h p n large eight some)
+  after-spared : Spared Open (after room)
   after-spared = uses-spared Open 0 (granted .size) _ (go (eqb (above .size) 0) refl)
     where
       go : (t : Bool) → eqb (above .size) 0 ≡ t → Spared Open (cond t linked (settle kind above linked))
       go true q = linked-spared
-      go false q = rest-spared q (cut-either from n large (taken .enough))
+      go false q = rest-spared q (cut-either from n (room .large) (can room .enough))
 
-  grant-spared : Spared Open (grant n (asRead ws h) .draft)
-  grant-spared = rw (grant-is ws h p n large eight some) after-spared
+  grant-spared : Spared Open (given room .draft)
+  grant-spared = rw (grant-is room) after-spared
 
   -- the word at index i is inside the live block of e
   pub grant-spares : (e : Entry) → Mem e (shape ws (h .bytes)) → live h e ≡ true → (i : ℕ) → blockOf e ≤ 4 * i → 4 * i < blockEnd e
-      → Off i (grant n (asRead ws h) .draft .stores)
-  grant-spares e m l = blocks-spared (h .bytes) es (grant n (asRead ws h) .draft) grant-spared e m (live-between ws h p e m l .0)
+      → Off i (given room .draft .stores)
+  grant-spares e m l = blocks-spared (h .bytes) es (given room .draft) grant-spared e m (live-between ws h (room .well) e m l .0)
 
-  pub grant-inside : Below (h .bytes / 4) (grant n (asRead ws h) .draft .stores)
-  grant-inside = heap-stores (h .bytes) es (grant n (asRead ws h) .draft) grant-spared
+  pub grant-inside : Below (h .bytes / 4) (given room .draft .stores)
+  grant-inside = heap-stores (h .bytes) es (given room .draft) grant-spared

@@ -2,7 +2,7 @@
 -- (`granted-lies`), and whatever is written into its block, the heap passes and is read as before (`filled`). Assumes nothing.
 use mathlib.Core.Path.{_≡_}
 use mathlib.Core.Logic.{_⊎_}
-use mathlib.Core.Bool.{true, false}
+use mathlib.Core.Bool.{true}
 use mathlib.Core.List.{List, _++_}
 use Prim.Native.Nat.{ℕ, _*_, _%_, _≤_}
 use native.Mathlib.Omega.{arith}
@@ -14,47 +14,40 @@ use Rattle.region.proofs.WordsLaws.{written-append}
 use Rattle.rules.specs.Shape.{Entry, shape, binList}
 use Rattle.rules.specs.Kinds.{live, blockEnd}
 use Rattle.rules.specs.Check.{Passes}
-use Rattle.rules.specs.Draft.{asRead}
-use Rattle.rules.specs.Serve.{nowhere}
-use Rattle.rules.specs.Cut.{Grant}
-use Rattle.rules.specs.Allocate.{sourceOf, grant}
 use Rattle.rules.proofs.SpotLaws.{bounds, inside, apart}
 use Rattle.settling.proofs.FillLaws.{Within, fills}
 use Rattle.settling.proofs.PictureLaws.{Pictured}
-use Rattle.grant.proofs.GrantKept.{grant-kept, granted-there, granted-live, granted-new, live-stays}
+use Rattle.grant.proofs.SourceLaws.{Grantable}
+use Rattle.grant.proofs.GrantKept.{given, grant-kept, granted-there, granted-live, granted-new, live-stays}
 
 -- n bytes are granted
-module _ (ws : List ℕ) (h : Heap) (p : Passes ws h) (n : ℕ) (large : 24 ≤ n) (eight : n % 8 ≡ 0)
-    (some : nowhere (sourceOf n (asRead ws h)) ≡ false) where
-  abbrev pub given : Grant
-  given = grant n (asRead ws h)
-
+module _ {ws : List ℕ} {h : Heap} {n : ℕ} (room : Grantable ws h n) where
   abbrev pub new : Entry
-  new = given .granted
+  new = given room .granted
 
   -- the words and the record then
   abbrev pub grantedWords : List ℕ
-  grantedWords = written ws (given .draft .stores)
+  grantedWords = written ws (given room .draft .stores)
 
   abbrev pub grantedHeap : Heap
-  grantedHeap = given .draft .heap
+  grantedHeap = given room .draft .heap
 
-  pub kept : Pictured ws (given .draft)
-  kept = grant-kept ws h p n large eight some
+  pub kept : Pictured ws (given room .draft)
+  kept = grant-kept room
 
   pub new-there : Mem new (shape grantedWords (grantedHeap .bytes))
-  new-there = rw (kept .chain) (granted-there ws h p n large eight some)
+  new-there = rw (kept .chain) (granted-there room)
 
   pub new-live : live grantedHeap new ≡ true
-  new-live = granted-live ws h p n large eight some
+  new-live = granted-live room
 
   -- a chunk that was live before is there still, and the new one is beside it
   pub old-there : (e : Entry) → Mem e (shape ws (h .bytes)) → live h e ≡ true → Mem e (shape grantedWords (grantedHeap .bytes))
-  old-there e m l = rw (kept .chain) (live-stays ws h p n large eight some e m l .0)
+  old-there e m l = rw (kept .chain) (live-stays room e m l .0)
 
   pub beside : (e : Entry) → Mem e (shape ws (h .bytes)) → live h e ≡ true → (blockEnd e ≤ new .place) ⊎ (blockEnd new ≤ e .place)
   beside e m l =
-      apart grantedWords grantedHeap (kept .passes) e new (old-there e m l) new-there (granted-new ws h p n large eight some e m l)
+      apart grantedWords grantedHeap (kept .passes) e new (old-there e m l) new-there (granted-new room e m l)
 
   -- where the granted chunk lies
   pub record Lies : Type 0 where
@@ -73,10 +66,10 @@ module _ (ws : List ℕ) (h : Heap) (p : Passes ws h) (n : ℕ) (large : 24 ≤ 
   -- its block is written into
   module _ (ss : List Store) (w : Within new ss) where
     abbrev pub filledWords : List ℕ
-    filledWords = written ws (given .draft .stores ++ ss)
+    filledWords = written ws (given room .draft .stores ++ ss)
 
     pub appended : filledWords ≡ written grantedWords ss
-    appended = written-append (given .draft .stores) ss ws
+    appended = written-append (given room .draft .stores) ss ws
 
     pub filled : (shape filledWords (grantedHeap .bytes) ≡ shape grantedWords (grantedHeap .bytes)) × ((i : ℕ) → binList filledWords grantedHeap i ≡ binList grantedWords grantedHeap i) × Passes filledWords grantedHeap
     filled = rw appended (fills grantedWords grantedHeap (kept .passes) new new-there new-live ss w)

@@ -5,9 +5,10 @@ pub mod SourceLaws
 pub mod CutSteps
 pub mod CutLaws
 pub mod CutMeaning
-pub mod ServeSteps
-pub mod ServeMeaning
 pub mod CutKept
+pub mod PartKept
 pub mod GrantKept
 pub mod GrantedChunk
 pub mod GrantSpares
+pub mod ServeSteps
+pub mod ServeMeaning

@@ -15,6 +15,7 @@ need-large z = omega arith
 pub need-eight : (z : ℕ) → need overhead z % 8 ≡ 0
 need-eight z = omega arith
 
+-- the code's need: none of a size that is not permitted, 24 at least, or the size and the header as eights
 module _ (z : ℕ) where
   pub need-none : 65488 < z → 0 ≡ needM z
   unfolding needM
@@ -28,6 +29,7 @@ module _ (z : ℕ) where
   unfolding needM
   need-eights m l = rw (le-leb z 65488 m) (omega arith)
 
+  -- of a permitted size it is the rule's
   pub permitted-need : permitted z ≡ true → needM z ≡ need overhead z
   unfolding needM
   permitted-need q = let b = both (at-most 1 z) (at-most z 65488) .0 q in rw (le-leb z 65488 (b .1))

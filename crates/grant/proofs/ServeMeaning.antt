@@ -10,23 +10,18 @@ use borrow.Author.Tests.{le-leb, lt-leb}
 use Rattle.bins.specs.Books.{books}
 use Rattle.record.specs.declared.heap.Heap.{Heap}
 use Rattle.record.specs.declared.kinds.Kind.{Kind}
-use Rattle.record.specs.declared.sources.Source.{Source}
-use Rattle.record.specs.Heap.{at, tableOf, with}
+use Rattle.record.specs.Heap.{at, tableOf}
 use Rattle.region.specs.Words.{written}
-use Rattle.rules.specs.Allocate.{sourceOf, grant}
-use Rattle.rules.specs.Check.{Passes}
-use Rattle.rules.specs.Cut.{Grant, grantAt, grantFrom}
-use Rattle.rules.specs.Draft.{asRead, Spot, spot}
-use Rattle.rules.specs.Kinds.{isAt, used}
-use Rattle.rules.specs.Serve.{nowhere}
-use Rattle.rules.specs.Shape.{Entry, entry, shape}
+use Rattle.rules.specs.Cut.{Grant, grantAt}
+use Rattle.rules.specs.Draft.{asRead}
+use Rattle.rules.specs.Kinds.{used}
+use Rattle.rules.specs.Shape.{Entry, entry}
 use Rattle.rules.proofs.SpotLaws.{bounds, inside, used-few}
-use Rattle.settling.specs.Settling.{donorAfter, topAfter}
-use Rattle.settling.proofs.DraftLaws.{booksOf}
-use Rattle.grant.specs.Cut.{grantedM, cutM, takeM}
+use Rattle.grant.specs.Cut.{grantedM}
 use Rattle.grant.specs.Serve.{kindIn, Leaves, leaves, takenM, serveM, servedM}
-use Rattle.grant.proofs.SourceLaws.{CanGrant, free-source, source-can}
+use Rattle.grant.proofs.SourceLaws.{Grantable, free-source}
 use Rattle.grant.proofs.CutMeaning.{Serving, Taken, chunk-taken}
+use Rattle.grant.proofs.GrantKept.{source, given, chosen, can, low, high}
 
 -- what is left where the rule's grant was written, with this record and this chunk
 abbrev granting : List ℕ → Grant → Heap → Entry → Leaves
@@ -36,6 +31,7 @@ granting ws g h e = record { words = written ws (g .draft .stores); heap = h; ch
 abbrev pub handed : List ℕ → Grant → Leaves
 handed ws g = granting ws g (g .draft .heap) (g .granted)
 
+-- no more is granted than the chunk has
 granted-few : (n s : ℕ) → n ≤ s → grantedM n s ≤ s
 unfolding grantedM
 granted-few n s l = go (decLt s (n + 24))
@@ -44,64 +40,57 @@ granted-few n s l = go (decLt s (n + 24))
     go (yes k) = rw (lt-leb (n + 24) s k) (omega arith)
     go (no k) = rw (le-leb (n + 24) s (omega arith)) l
 
-module _ (ws : List ℕ) (h : Heap) (p : Passes ws h) (n : ℕ) (large : 24 ≤ n) (eight : n % 8 ≡ 0) where
-  -- m bytes of the chunk e are granted as the rule says
-  taken-is : (k : Kind) (e : Entry) (m : ℕ) (g : Grant) → m + h .used < 2 ^ 32
-      → takeM (books ws (h .heads) (h .tails)) (tableOf h) k (cutM ws (e .place) n) ≡ booksOf ws (g .draft)
-      → cutM ws (e .place) n .rest .0 ≡ e .place + m
-      → g .granted ≡ entry (e .place) m used
-      → g .draft .heap ≡ with h (g .draft .heap .heads) (g .draft .heap .tails) (donorAfter k (e .place + m) (h .donor .0)) (topAfter k (e .place + m) (h .top .0)) (h .merge) (h .used + m)
-      → leaves h (takenM (books ws (h .heads) (h .tails)) (tableOf h) (h .donor .0) (h .top .0) k (e .place) n) ≡ handed ws g
-  unfolding takenM
-  taken-is k e m g few is rest given heap =
-      let z : e .place + m - e .place ≡ m = omega arith in
-      let u : (h .used + m) % 2 ^ 32 ≡ h .used + m = omega arith in
-      rw (is, rest, z, u)
-      (ap (λ (x : Heap). granting ws g x (entry (e .place) m used)) (sym heap) ∙ ap (granting ws g (g .draft .heap)) (sym given))
+-- m bytes of the chunk e, which were taken as the rule says, are handed back as its grant
+taken-is : {ws : List ℕ} {h : Heap} {n : ℕ} {k : Kind} {e : Entry} {m : ℕ} {g : Grant} → m + h .used < 2 ^ 32 → Taken ws h n k e m g
+    → leaves h (takenM (books ws (h .heads) (h .tails)) (tableOf h) (h .donor .0) (h .top .0) k (e .place) n) ≡ handed ws g
+unfolding takenM
+taken-is {ws} {h} {e = e} {m = m} {g = g} few t =
+    let z : e .place + m - e .place ≡ m = omega arith in
+    let u : (h .used + m) % 2 ^ 32 ≡ h .used + m = omega arith in
+    rw (t .is, t .rest, z, u)
+    (ap (λ (x : Heap). granting ws g x (entry (e .place) m used)) (sym (t .heap)) ∙ ap (granting ws g (g .draft .heap)) (sym (t .granted)))
 
-  module _ (source : Source) (s : source ≡ sourceOf n (asRead ws h)) (some : nowhere source ≡ false) where
-    found : (e : Entry) × CanGrant ws h n source e
-    found = rw (sym s) at (source-can ws h p n (rw s at some))
+module _ {ws : List ℕ} {h : Heap} {n : ℕ} (room : Grantable ws h n) where
+  abbrev e : Entry
+  e = chosen room
 
-    abbrev here : Spot
-    here = spot (isAt (found .0 .place)) (shape ws (h .bytes))
+  abbrev kind : Kind
+  kind = kindIn (source room)
 
-    serving : Serving ws h n (kindIn source) (here .low) (found .0) (here .high)
-    serving =
-        let c = found .1 in
-        record {
-          split = c .split;
-          free = c .free;
-          kind = c .kind;
-          isFree = free-source source some;
-          enough = c .enough;
-          spare = c .spare;
-        }
+  -- the chunk that the source names, as the cut wants it
+  serving : Serving ws h n kind (low room) e (high room)
+  serving =
+      let c = can room in
+      record {
+        split = c .split;
+        free = c .free;
+        kind = c .kind;
+        isFree = free-source (source room) (room .some);
+        enough = c .enough;
+        spare = c .spare;
+      }
 
-    -- the rule's grant is of this chunk
-    ruled : grantAt (kindIn source) (record { low = here .low; here = found .0; high = here .high }) n (asRead ws h) ≡ grant n (asRead ws h)
-    ruled =
-        ap (λ (x : Entry). grantAt (kindIn source) (record { low = here .low; here = x; high = here .high }) n (asRead ws h)) (sym (found .1 .here))
-        ∙ sym (found .1 .is)
-        ∙ ap (λ (x : Source). grantFrom x n (asRead ws h)) s
+  -- the rule's grant is of this chunk
+  ruled : grantAt kind (record { low = low room; here = e; high = high room }) n (asRead ws h) ≡ given room
+  ruled =
+      ap (λ (x : Entry). grantAt kind (record { low = low room; here = x; high = high room }) n (asRead ws h)) (sym (can room .here)) ∙ sym (can room .is)
 
-    taken : Taken ws h p n large eight (kindIn source) (here .low) (found .0) (here .high) serving (grantedM n (found .0 .size)) (grant n (asRead ws h))
-    taken = rw ruled at (chunk-taken ws h p n large eight (kindIn source) (here .low) (found .0) (here .high) serving)
+  taken : Taken ws h n kind e (grantedM n (e .size)) (given room)
+  taken = rw ruled at (chunk-taken (room .well) (room .large) (room .eight) serving)
 
-    pub serve-is : servedM ws (tableOf h) h source n ≡ handed ws (grant n (asRead ws h))
-    unfolding servedM serveM
-    serve-is =
-        let c = found .1 in
-        let t = taken in
-        let g = granted-few n (found .0 .size) (c .enough) in
-        let i = inside ws h p (found .0) (c .member) in
-        let b = bounds ws h p in
-        rw (sym (c .place))
-        (taken-is (kindIn source) (found .0) (grantedM n (found .0 .size)) (grant n (asRead ws h)) (omega (arith, used-few ws h p)) (t .is) (t .rest) (t .granted) (t .heap))
+  pub serve-is : servedM ws (tableOf h) h (source room) n ≡ handed ws (given room)
+  unfolding servedM serveM
+  serve-is =
+      let c = can room in
+      let g = granted-few n (e .size) (c .enough) in
+      let i = inside ws h (room .well) e (c .member) in
+      let b = bounds ws h (room .well) in
+      rw (sym (c .place)) (taken-is (omega (arith, used-few ws h (room .well))) taken)
 
-    pub grant-housed : grant n (asRead ws h) .draft .homeless ≡ false
-    grant-housed = taken .housed
+  -- a bin takes what is left
+  pub grant-housed : given room .draft .homeless ≡ false
+  grant-housed = taken .housed
 
-    -- a grant leaves the table
-    pub grant-table : tableOf (grant n (asRead ws h) .draft .heap) ≡ tableOf h
-    grant-table = ap tableOf (taken .heap)
+  -- a grant leaves the table
+  pub grant-table : tableOf (given room .draft .heap) ≡ tableOf h
+  grant-table = ap tableOf (taken .heap)

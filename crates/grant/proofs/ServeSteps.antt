@@ -15,13 +15,13 @@ use Rattle.grant.specs.Cut.{cutM, takeM}
 use Rattle.grant.specs.Serve.{kindIn, placeIn, served, takenM, serveM, servedM}
 
 module _ (b : Books) (table : List ℕ) (donor top : ℕ) (source : Source) (n : ℕ) where
-  pub serves-by : (kind : Kind) → kind ≡ kindIn source → (chunk : Chunk) → chunk .0 ≡ placeIn donor top source
-      → (t : Cut) → t ≡ cutM (b .words) (chunk .0) n → (size : ℕ) → size ≡ t .rest .0 - chunk .0
-      → (after : Books) → after ≡ takeM b table kind t
-      → (donor₁ top₁ : Chunk) → donor₁ .0 ≡ donorAfter kind (t .rest .0) donor → top₁ .0 ≡ topAfter kind (t .rest .0) top
+  pub serves-by : {kind : Kind} → kind ≡ kindIn source → {chunk : Chunk} → chunk .0 ≡ placeIn donor top source
+      → {t : Cut} → t ≡ cutM (b .words) (chunk .0) n → {size : ℕ} → size ≡ t .rest .0 - chunk .0
+      → {after : Books} → after ≡ takeM b table kind t
+      → {donor₁ top₁ : Chunk} → donor₁ .0 ≡ donorAfter kind (t .rest .0) donor → top₁ .0 ≡ topAfter kind (t .rest .0) top
       → served after (record { chunk = chunk; size = size; donor = donor₁; top = top₁ }) ≡ serveM b table donor top source n
   unfolding serveM takenM
-  serves-by kind ek chunk ec t et size es after ea donor₁ top₁ ed etop = rw (sym ek, sym ec, ed, etop, es, sym et, sym ea)
+  serves-by ek ec et es ea ed etop = rw (sym ek, sym ec, ed, etop, es, sym et, sym ea)
 
 -- the record that a caller makes of it
 module _ (ws table : List ℕ) (h : Heap) (source : Source) (n : ℕ) where

@@ -1,9 +1,10 @@
 -- What the chosen source is on a heap that passes: a free chunk of the chain, large enough for the need, and for a need and 24 bytes more
--- if it is the donor or the top; and where the chain is taken apart for the grant (`source-can`). Assumes nothing.
+-- if it is the donor or the top; and where the chain is taken apart for the grant (`source-can`). What the laws of grants
+-- are told is one record, `Grantable`. Assumes nothing.
 use mathlib.Core.Path.{_≡_, refl, subst}
 use mathlib.Core.Bool.{Bool, true, false, cond, not, _&&_, true≢false}
 use mathlib.Core.List.{List, [], _∷_, _++_, List·Memᴰ·head}
-use Prim.Native.Nat.{ℕ, suc, _+_, _-_, _≤_, _<_}
+use Prim.Native.Nat.{ℕ, suc, _+_, _-_, _%_, _≤_, _<_}
 use native.Mathlib.Decide.{ℕ-discrete}
 use native.Mathlib.Omega.{arith}
 use lib.Dec.{eqb, leb}
@@ -22,16 +23,17 @@ use Rattle.record.specs.Heap.{at, tableOf}
 use Rattle.record.specs.Table.{Takes, TakenBy, small, binOf}
 use Rattle.record.proofs.TableLaws.{bin-taken, sizes-grow}
 use Rattle.rules.specs.Shape.{Entry, shape, binList}
-use Rattle.rules.specs.Kinds.{freeKind, ordinaryKind, kindOf, isAt}
+use Rattle.rules.specs.Kinds.{freeKind, ordinaryKind, kindOf, isAt, overhead}
 use Rattle.rules.specs.Check.{Passes}
 use Rattle.rules.specs.Draft.{asRead, spot}
 use Rattle.rules.specs.Cut.{grantAt, grantFrom}
-use Rattle.rules.specs.Serve.{sizeOn, fromBin, ownBin, tryDonor, largerBin, tryTop, firstOf, chosen, nowhere}
+use Rattle.rules.specs.Serve.{sizeOn, fromBin, ownBin, tryDonor, largerBin, tryTop, firstOf, chosen, nowhere, need}
 use Rattle.rules.specs.Allocate.{sourceOf}
 use Rattle.rules.proofs.SpotLaws.{Free, spot-at, top-here, donor-here}
 use Rattle.rules.proofs.KindsLaws.{ordinary-kind}
 use Rattle.bins.proofs.HeapBooks.{member-entry}
 use Rattle.grant.specs.Serve.{placeIn, kindIn}
+use Rattle.grant.proofs.NeedLaws.{need-large, need-eight}
 use Rattle.grant.proofs.ChooseMeaning.{size-on}
 
 -- a source is one of the three free kinds
@@ -62,6 +64,7 @@ abbrev Goods : (Source → Type 0) → List Source → Type 0
 Goods P [] = Unit {0}
 Goods P (s ∷ ss) = Good P s × Goods P ss
 
+-- so has the first that finds something
 first-good : (P : Source → Type 0) (ss : List Source) → Goods P ss → Good P (firstOf ss)
 first-good P [] g some = absurd (true≢false some)
 first-good P (FromBin c ∷ ss) g some = g .0 some
@@ -74,6 +77,7 @@ first-member : (cs : List ℕ) → (headOr 0 cs ≡ 0 → ⊥) → Mem (headOr 0
 first-member [] n = absurd (n refl)
 first-member (c ∷ cs) n = List·Memᴰ·head refl
 
+-- the first of a bin's list has what all its members have, and a test's source what the test shows
 from-bin-good : (P : Source → Type 0) (cs : List ℕ) → ((c : ℕ) → Mem c cs → P (FromBin (at c))) → Good P (fromBin (headOr 0 cs))
 from-bin-good P cs f = go (ℕ-discrete (headOr 0 cs) 0)
   where
@@ -110,6 +114,7 @@ module _ (ws : List ℕ) (h : Heap) (p : Passes ws h) (n : ℕ) where
       can-at (FromBin (at c)) (k .0) (r .member) (r .place) (ordinary-kind (kindOf h (k .0)) (r .kind)) (r .is .free)
       (large (k .0) (r .member) (r .place) (r .takes)) (λ q. absurd (true≢false q)) (λ q. cc) (rw (r .place))
 
+  -- each of the four tries finds a chunk that can
   own-good : (b : Binned) → TakenBy (tableOf h) n b → Good Can (ownBin es (binList ws h) n b)
   own-good (Bin i) k =
       from-bin-good Can (keep (λ c. leb n (sizeOn es c)) (binList ws h i))
@@ -158,3 +163,15 @@ module _ (ws : List ℕ) (h : Heap) (p : Passes ws h) (n : ℕ) where
       let own : Binned = binOf (tableOf h) n in
       first-good Can (ownBin es (binList ws h) n own ∷ tryDonor h es n ∷ largerBin h (binList ws h) own ∷ tryTop h es n ∷ [])
       (own-good own t, (donor-good, (larger-good own t, (top-good, tt))))
+
+-- the heap passes, n is as every need is, and something can serve it
+pub record Grantable (ws : List ℕ) (h : Heap) (n : ℕ) : Type 0 where
+  pub well : Passes ws h
+  pub large : 24 ≤ n
+  pub eight : n % 8 ≡ 0
+  pub some : nowhere (sourceOf n (asRead ws h)) ≡ false
+
+-- so it is with the need of z bytes
+pub need-grantable : {ws : List ℕ} {h : Heap} (z : ℕ) → Passes ws h → nowhere (sourceOf (need overhead z) (asRead ws h)) ≡ false
+    → Grantable ws h (need overhead z)
+need-grantable z p some = record { well = p; large = need-large z; eight = need-eight z; some = some }

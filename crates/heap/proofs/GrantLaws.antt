@@ -30,7 +30,7 @@ use Rattle.rules.proofs.CheckLaws.{passes-iff}
 use Rattle.blocks.proofs.BlocksMeaning.{clear-is}
 use Rattle.grant.specs.Choose.{chooseM}
 use Rattle.grant.specs.Serve.{Leaves, servedM}
-use Rattle.grant.proofs.NeedLaws.{need-large, need-eight}
+use Rattle.grant.proofs.SourceLaws.{need-grantable}
 use Rattle.grant.proofs.ChooseMeaning.{choose-is}
 use Rattle.grant.proofs.ServeMeaning.{handed, serve-is, grant-housed}
 use Rattle.grant.proofs.GrantedChunk.{granted-lies}
@@ -70,7 +70,7 @@ module _ (ws : List ℕ) (h : Heap) (q : passes ws h ≡ true) (z : ℕ) (k : pe
         ≡ written ws (granted .draft .stores ++ filling clears (granted .granted))
     unfolding filledM
     filled-is true =
-        let l = granted-lies ws h well n (need-large z) (need-eight z) some in
+        let l = granted-lies (need-grantable z well some) in
         let b : blockAt (granted .granted .place) ≡ blockOf (granted .granted) = omega arith in
         let e : (granted .granted .place + granted .granted .size) % 2 ^ 32 ≡ blockEnd (granted .granted) = omega arith in
         rw (b, e)
@@ -82,18 +82,18 @@ module _ (ws : List ℕ) (h : Heap) (q : passes ws h ≡ true) (z : ℕ) (k : pe
         ≡ leftBy ws (made (grants 0 (granted .granted)) (alsoWrites (filling clears (granted .granted)) (granted .draft)))
     unfolding grantedM
     code-is clears =
-        let l = granted-lies ws h well n (need-large z) (need-eight z) some in
+        let l = granted-lies (need-grantable z well some) in
         let b : blockAt (granted .granted .place) ≡ blockOf (granted .granted) = omega arith in
         rw (b, change-ruled 0 (granted .granted .size) (omega arith) (omega arith), filled-is clears)
 
     ruled-is : (fill : Entry → List Store) → allocateWith fill ws h z ≡ made (grants 0 (granted .granted)) (alsoWrites (fill (granted .granted)) (granted .draft))
-    ruled-is fill = rw (q, k, some, grant-housed ws h well n (need-large z) (need-eight z) _ refl some)
+    ruled-is fill = rw (q, k, some, grant-housed (need-grantable z well some))
 
     serves : (clears : Bool) → grantBlockM ws (tableOf h) h n clears
         ≡ leftBy ws (made (grants 0 (granted .granted)) (alsoWrites (filling clears (granted .granted)) (granted .draft)))
     unfolding grantBlockM
     serves clears =
-        rw (choose-is ws h well n, some, serve-is ws h well n (need-large z) (need-eight z) (sourceOf n (asRead ws h)) refl some) (code-is clears)
+        rw (choose-is ws h well n, some, serve-is (need-grantable z well some)) (code-is clears)
 
   pub grant-block-is : (clears : Bool) → grantBlockM ws (tableOf h) h n clears ≡ leftBy ws (allocateWith (filling clears) ws h z)
   unfolding grantBlockM

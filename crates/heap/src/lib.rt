@@ -126,7 +126,7 @@ pub fn free(region: &mut [u32], heap: Heap, block: Block) -> Reply
         };
     }
     let sought = find_block(region, heap.bytes, block);
-    let Sought::Found(place) = sought else {
+    let Sought::Found(found) = sought else {
         return refused(heap, Refusal::NotLive);
     };
     let bins = heap.bins as usize;
@@ -142,9 +142,9 @@ pub fn free(region: &mut [u32], heap: Heap, block: Block) -> Reply
         heap.donor,
         heap.top,
         heap.merge,
-        place,
+        found,
     );
-    let size = distance(place.chunk.0, place.end);
+    let size = distance(found.chunk.0, found.end);
     let used = distance(size, heap.used);
     Reply {
         answer: Answer::Returned(change(size, 0)),

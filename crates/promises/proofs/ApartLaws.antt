@@ -9,7 +9,7 @@ use native.Mathlib.Decide.{ℕ-discrete}
 use native.Mathlib.Omega.{arith}
 use lib.IntN.{ℤ}
 use borrow.Author.Tests.{ne-eqb, lt-ltb}
-use Rattle.grant.proofs.NeedLaws.{need-large, need-eight}
+use Rattle.grant.proofs.SourceLaws.{need-grantable}
 use Rattle.record.specs.declared.answers.Answer.{Answer}
 use Rattle.record.specs.declared.answers.Answer.the-variants.{Done, Granted, Returned}
 use Rattle.record.specs.declared.heap.Heap.{Heap}
@@ -20,15 +20,17 @@ use Rattle.region.specs.Words.{Store, written}
 use Rattle.region.proofs.WordsLaws.{off}
 use Rattle.release.proofs.ReleaseKept.{free-kept}
 use Rattle.release.proofs.ReleaseSpares.{shrink-spares, shrink-spares-own}
-use Rattle.release.proofs.ShrinkKept.{shrink-kept, shrink-there, shrink-others-stay, shrink-none-new}
+use Rattle.release.proofs.ShrinkKept.{ShrinkingBlock, shrink-kept, shrink-there, shrink-others-stay, shrink-none-new}
+use Rattle.resize.proofs.MovedLaws.{Moving}
+use Rattle.resize.proofs.WantedLaws.{block-moves, block-shrinks}
 use Rattle.rules.specs.Shape.{Entry, shape}
 use Rattle.rules.specs.Kinds.{live, overhead, blockOf, blockWords}
 use Rattle.rules.specs.Check.{Passes}
 use Rattle.rules.specs.Draft.{asRead, alsoWrites}
-use Rattle.rules.specs.Serve.{need, nowhere}
+use Rattle.rules.specs.Serve.{need}
 use Rattle.rules.specs.Cut.{Grant}
 use Rattle.rules.specs.Outcome.{Outcome, Refusals, judged, heapFails, unchanged, made, grants, changeOf}
-use Rattle.rules.specs.Allocate.{sourceOf, grant, asFound, cleared, allocateWith, allocate, allocateCleared, allocateRefusals}
+use Rattle.rules.specs.Allocate.{grant, asFound, cleared, allocateWith, allocate, allocateCleared, allocateRefusals}
 use Rattle.rules.specs.Free.{isLive, blockSpot, freeBlock, free}
 use Rattle.rules.specs.Reallocate.{shrunk, moved, resized, resize, reallocate, resizeRefusals}
 use Rattle.rules.specs.Merge.{setMerge, check}
@@ -76,14 +78,14 @@ module _ (ws : List ℕ) (h : Heap) (p : Passes ws h) (block : Block) (change : 
     with-apart : NewApart ws h n (block .0) (leftBy ws (allocateWith fill ws h z))
     with-apart =
         rw (taken .1, ← block-is)
-        (new-apart ws h p n (need-large z) (need-eight z) (taken .0 .1 .1 .0) (fill (grant n (asRead ws h) .granted)) (within _) (made-of .answer))
+        (new-apart (need-grantable z p (taken .0 .1 .1 .0)) (fill (grant n (asRead ws h) .granted)) (within _) (made-of .answer))
 
   -- a cleared one
   cleared-clear : (z : ℕ) → allocateWith cleared ws h z .answer ≡ Granted block change → Clear (block .0) (leftBy ws (allocateWith cleared ws h z))
   cleared-clear z q =
       let t = taken cleared cleared-within z q in
       rw (t .1, ← block-is cleared cleared-within z q)
-      (new-clear ws h p (need overhead z) (need-large z) (need-eight z) (t .0 .1 .1 .0))
+      (new-clear (need-grantable z p (t .0 .1 .1 .0)))
 
 -- the live block at b, whose chunk is e
 module _ (ws : List ℕ) (h : Heap) (p : Passes ws h) (b : ℕ) (e : Entry) (k : HoldsBlock ws h b e) where
@@ -141,17 +143,18 @@ module _ (ws : List ℕ) (h : Heap) (p : Passes ws h) (b : ℕ) (e : Entry) (k :
       abbrev left : Left
       left = ours (Reallocate b z) ws h
 
-      room : nowhere (sourceOf wanted (asRead ws h)) ≡ false
-      room =
-          let f = resize-taken .0 .1 .1 .1 .0 in
-          rw (lt-ltb (old .size) wanted (rw old-is less)) at f
+      outgrown : old .size < wanted
+      outgrown = rw old-is less
+
+      moving : Moving ws h wanted old
+      moving = let f = resize-taken .0 .1 .1 .1 .0 in block-moves p b is-live z (rw (lt-ltb (old .size) wanted outgrown) at f) outgrown
 
       abbrev moves : Grant
       moves = moved ws (blockSpot (asRead ws h) b) wanted (asRead ws h)
 
       moved-is : result ≡ moves
       unfolding resized
-      moved-is = rw (lt-ltb (old .size) wanted (rw old-is less)) refl
+      moved-is = rw (lt-ltb (old .size) wanted outgrown) refl
 
       moved-left : leftBy ws (made (grants (old .size) (moves .granted)) (moves .draft)) ≡ left
       moved-left = sym (resized-left ∙ ap (λ (x : Grant). leftBy ws (made (grants (old .size) (x .granted)) (x .draft))) moved-is)
@@ -164,7 +167,7 @@ module _ (ws : List ℕ) (h : Heap) (p : Passes ws h) (b : ℕ) (e : Entry) (k :
       moves-apart =
           let to : ℕ = blockOf (moves .granted) in
           let r : Moved to (blockOf old) old (leftBy ws (made (grants (old .size) (moves .granted)) (moves .draft))) =
-          moved-apart ws h p wanted (need-large z) (need-eight z) room old (old-holds .member) (old-holds .live) (rw old-is less) (grants (old .size) (moves .granted)) in
+          moved-apart moving (grants (old .size) (moves .granted)) in
           subst (λ (d : ℕ). Moved d b e left) (ap (λ (x : Grant). blockOf (x .granted)) (sym moved-is) ∙ resized-block)
           (subst (λ (x : Entry). Moved to b x left) old-is
           (subst (λ (c : ℕ). Moved to c old left) (old-holds .block)
@@ -180,6 +183,9 @@ module _ (ws : List ℕ) (h : Heap) (p : Passes ws h) (b : ℕ) (e : Entry) (k :
 
       -- a tail is split off
       module _ (l : wanted + 24 ≤ old .size) where
+        shrinking : ShrinkingBlock ws h b wanted
+        shrinking = block-shrinks p b is-live z l
+
         abbrev shrinks : Grant
         shrinks = shrunk (blockSpot (asRead ws h) b) wanted (asRead ws h)
 
@@ -187,11 +193,11 @@ module _ (ws : List ℕ) (h : Heap) (p : Passes ws h) (b : ℕ) (e : Entry) (k :
         shrunkWords = written ws (shrinks .draft .stores)
 
         shrunk-chain : shape shrunkWords (shrinks .draft .heap .bytes) ≡ shrinks .draft .chain
-        shrunk-chain = shrink-kept ws h p b is-live wanted (need-large z) (need-eight z) l .chain
+        shrunk-chain = shrink-kept shrinking .chain
 
         shrunk-stays : Stays ws wanted b e shrunkWords (shrinks .draft .heap) (shrinks .granted)
         shrunk-stays =
-            let t = shrink-there ws h p b is-live wanted (need-large z) (need-eight z) l in
+            let t = shrink-there shrinking in
             record {
               held = record { member = rw shrunk-chain (t .0); live = t .1; block = old-holds .block };
               enough = omega arith;
@@ -199,18 +205,18 @@ module _ (ws : List ℕ) (h : Heap) (p : Passes ws h) (b : ℕ) (e : Entry) (k :
               same = λ j r.
                   let i = inside ws h p old (old-holds .member) .place in
                   off (shrinks .draft .stores) ws b j
-                  (shrink-spares-own ws h p b is-live wanted (need-large z) (need-eight z) l _ (omega (arith, old-holds .block)) (omega (arith, old-holds .block)));
+                  (shrink-spares-own shrinking _ (omega (arith, old-holds .block)) (omega (arith, old-holds .block)));
             }
 
         shrunk-keeps : (d : Entry) → OnChain ws h d → live h d ≡ true → blockOf d ≢ b → Keeps ws shrunkWords (shrinks .draft .heap) d
         shrunk-keeps d m v o =
-            let s = shrink-others-stay ws h p b is-live wanted (need-large z) (need-eight z) l d m v o in
+            let s = shrink-others-stay shrinking d m v o in
             record {
               held = record { member = rw shrunk-chain (s .0); live = s .1; block = refl };
               same = λ j r.
                   let i = inside ws h p d m in
                   off (shrinks .draft .stores) ws (blockOf d) j
-                  (shrink-spares ws h p b is-live wanted (need-large z) (need-eight z) l d m v o _ (omega arith) (omega arith));
+                  (shrink-spares shrinking d m v o _ (omega arith) (omega arith));
             }
 
         shrunk-only : (d : Entry) → OnChain shrunkWords (shrinks .draft .heap) d → live (shrinks .draft .heap) d ≡ true
@@ -219,7 +225,7 @@ module _ (ws : List ℕ) (h : Heap) (p : Passes ws h) (b : ℕ) (e : Entry) (k :
           where
             go : Dec (blockOf d ≡ b) → (blockOf d ≡ b) ⊎ (OnChain ws h d × (live h d ≡ true))
             go (yes q) = inl q
-            go (no o) = inr (shrink-none-new ws h p b is-live wanted (need-large z) (need-eight z) l d (rw shrunk-chain at m) v o)
+            go (no o) = inr (shrink-none-new shrinking d (rw shrunk-chain at m) v o)
 
       -- nothing changes
       same-stays : Stay (record { granted = old; draft = asRead ws h })

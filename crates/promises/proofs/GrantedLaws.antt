@@ -2,14 +2,14 @@
 -- (`new-apart`, `others-kept`, `none-others`, `moved-apart`). Assumes nothing.
 use mathlib.Core.Path.{_≡_, refl, sym, ap, _∙_}
 use mathlib.Core.Logic.{_≢_, _⊎_, inl, inr}
-use mathlib.Core.Bool.{true, false, true≢false}
+use mathlib.Core.Bool.{true, true≢false}
 use mathlib.Core.List.{List, _++_, map}
-use Prim.Native.Nat.{ℕ, zero, suc, _+_, _/_, _%_, _≤_, _<_}
+use Prim.Native.Nat.{ℕ, zero, suc, _+_, _/_, _≤_, _<_}
 use native.Mathlib.Decide.{ℕ-discrete}
 use native.Mathlib.Omega.{arith}
 use lib.ListN.{length}
-use Rattle.grant.proofs.SourceLaws.{CanGrant}
-use Rattle.grant.proofs.GrantKept.{chosen, can, source, cutting, grant-is, granted-large, granted-new, live-stays, granted-only}
+use Rattle.grant.proofs.SourceLaws.{CanGrant, Grantable}
+use Rattle.grant.proofs.GrantKept.{given, chosen, can, source, cutting, grant-is, granted-large, granted-new, live-stays, granted-only}
 use Rattle.grant.proofs.GrantedChunk as granting
 use Rattle.grant.proofs.GrantSpares.{grant-spares}
 use Rattle.lists.specs.Lists.{numbersFrom}
@@ -23,6 +23,7 @@ use Rattle.region.proofs.WordsLaws.{Off, off, word-same, length-store}
 use Rattle.release.proofs.ReleaseKept.{free-kept, others-stay, none-new}
 use Rattle.release.proofs.ReleaseSpares.{free-spares}
 use Rattle.resize.proofs.MovedLaws as moving
+use Rattle.resize.proofs.MovedLaws.{Moving}
 use Rattle.rules.specs.Shape.{Entry, shape}
 use Rattle.rules.specs.Kinds.{ordinaryKind, live, blockOf, blockEnd, blockWords}
 use Rattle.rules.specs.Check.{Passes}
@@ -30,7 +31,7 @@ use Rattle.rules.specs.Draft.{Draft, asRead, alsoWrites}
 use Rattle.rules.specs.Serve.{serves, nowhere}
 use Rattle.rules.specs.Cut.{Grant}
 use Rattle.rules.specs.Outcome.{made}
-use Rattle.rules.specs.Allocate.{sourceOf, grant, cleared}
+use Rattle.rules.specs.Allocate.{grant, cleared}
 use Rattle.rules.specs.Free.{isLive, freeBlock}
 use Rattle.rules.specs.Statements.{Left, leftBy}
 use Rattle.rules.proofs.SpotLaws.{inside, is-ordinary, is-donor}
@@ -77,78 +78,77 @@ keeps-on : (ws us vs : List ℕ) (g h : Heap) (e : Entry) → Keeps ws us g e �
 keeps-on ws us vs g h e a b = record { held = b .held; same = λ k l. b .same k l ∙ a .same k l }
 
 -- n bytes are granted
-module _ (ws : List ℕ) (h : Heap) (p : Passes ws h) (n : ℕ) (large : 24 ≤ n) (eight : n % 8 ≡ 0)
-    (some : nowhere (sourceOf n (asRead ws h)) ≡ false) where
+module _ {ws : List ℕ} {h : Heap} {n : ℕ} (room : Grantable ws h n) where
   abbrev new : Entry
-  new = granting.new ws h p n large eight some
+  new = granting.new room
 
   abbrev grantedHeap : Heap
-  grantedHeap = granting.grantedHeap ws h p n large eight some
+  grantedHeap = granting.grantedHeap room
 
   abbrev from : Entry
-  from = chosen ws h p n large eight some
+  from = chosen room
 
   -- the chunk that was chosen can serve
   source-serves : serves (tableOf h) (h .donor .0) (h .top .0) n from ≡ true
-  source-serves = go (source ws h p n large eight some) refl (can ws h p n large eight some)
+  source-serves = go (source room) refl (can room)
     where
-      go : (s : Source) → source ws h p n large eight some ≡ s → CanGrant ws h n s from → serves (tableOf h) (h .donor .0) (h .top .0) n from ≡ true
-      go (FromBin c) q k = ordinary-can ws h p n from (is-ordinary ws h p from (k .member) (ap ordinaryKind (k .kind))) (k .enough)
+      go : (s : Source) → source room ≡ s → CanGrant ws h n s from → serves (tableOf h) (h .donor .0) (h .top .0) n from ≡ true
+      go (FromBin c) q k = ordinary-can ws h (room .well) n from (is-ordinary ws h (room .well) from (k .member) (ap ordinaryKind (k .kind))) (k .enough)
       go FromDonor q k =
           let b = k .free .between in
-          let d = is-donor ws h p from (k .member) (omega (arith, k .place)) (k .place) in
-          donor-can ws h p n from (k .free) (λ t. omega (arith, k .place, d .below)) (k .place) (k .spare refl) (k .little refl)
-      go FromTop q k = top-can ws h p n from (k .free) (k .place) (k .spare refl)
-      go Nowhere q k = absurd (true≢false (sym (ap nowhere q) ∙ some))
+          let d = is-donor ws h (room .well) from (k .member) (omega (arith, k .place)) (k .place) in
+          donor-can ws h (room .well) n from (k .free) (λ t. omega (arith, k .place, d .below)) (k .place) (k .spare refl) (k .little refl)
+      go FromTop q k = top-can ws h (room .well) n from (k .free) (k .place) (k .spare refl)
+      go Nowhere q k = absurd (true≢false (sym (ap nowhere q) ∙ room .some))
 
   -- and the new chunk is cut from it
   cut-from : CutFrom ws h n new from
   cut-from =
-      let c = cutting ws h p n large eight some in
-      let i = ap (λ (x : Grant). x .granted) (grant-is ws h p n large eight some) in
+      let c = cutting room in
+      let i = ap (λ (x : Grant). x .granted) (grant-is room) in
       record {
-        member = can ws h p n large eight some .member;
+        member = can room .member;
         serves = source-serves;
         starts = rw i (omega (arith, c .place));
         ends = rw i (omega (arith, c .place, c .sum));
-        enough = granted-large ws h p n large eight some;
-        apart = granting.beside ws h p n large eight some;
+        enough = granted-large room;
+        apart = granting.beside room;
       }
 
   -- and its block written into
   module _ (ss : List Store) (w : Within new ss) where
     abbrev filledWords : List ℕ
-    filledWords = granting.filledWords ws h p n large eight some ss w
+    filledWords = granting.filledWords room ss w
 
-    abbrev sameChain : shape filledWords (grantedHeap .bytes) ≡ shape (granting.grantedWords ws h p n large eight some) (grantedHeap .bytes)
-    sameChain = granting.filled ws h p n large eight some ss w .0
+    abbrev sameChain : shape filledWords (grantedHeap .bytes) ≡ shape (granting.grantedWords room) (grantedHeap .bytes)
+    sameChain = granting.filled room ss w .0
 
     new-held : HoldsBlock filledWords grantedHeap (blockOf new) new
-    new-held = record { member = rw sameChain (granting.new-there ws h p n large eight some); live = granting.new-live ws h p n large eight some; block = refl }
+    new-held = record { member = rw sameChain (granting.new-there room); live = granting.new-live room; block = refl }
 
     -- no word of a live block is written
     old-off : (e : Entry) → OnChain ws h e → live h e ≡ true → (k : ℕ) → k < blockWords e → Off (blockOf e / 4 + k) ss
-    old-off e m l k r = go (granting.beside ws h p n large eight some e m l)
+    old-off e m l k r = go (granting.beside room e m l)
       where
         go : (blockEnd e ≤ new .place) ⊎ (blockEnd new ≤ e .place) → Off (blockOf e / 4 + k) ss
-        go (inl q) = let i = inside ws h p e m in below-block new ss w _ (omega arith)
+        go (inl q) = let i = inside ws h (room .well) e m in below-block new ss w _ (omega arith)
         go (inr q) = above-block new ss w _ (omega arith)
 
     -- so every live block is kept
     keeps-all : (e : Entry) → OnChain ws h e → live h e ≡ true → Keeps ws filledWords grantedHeap e
     keeps-all e m l =
         record {
-          held = record { member = rw sameChain (granting.old-there ws h p n large eight some e m l); live = live-stays ws h p n large eight some e m l .1; block = refl };
+          held = record { member = rw sameChain (granting.old-there room e m l); live = live-stays room e m l .1; block = refl };
           same = λ k r.
-              let i = inside ws h p e m in
-              rw (granting.appended ws h p n large eight some ss w)
-              (off ss (granting.grantedWords ws h p n large eight some) (blockOf e) k (old-off e m l k r)
-              ∙ off (granting.given ws h p n large eight some .draft .stores) ws (blockOf e) k (grant-spares ws h p n large eight some e m l _ (omega arith) (omega arith)));
+              let i = inside ws h (room .well) e m in
+              rw (granting.appended room ss w)
+              (off ss (granting.grantedWords room) (blockOf e) k (old-off e m l k r)
+              ∙ off (given room .draft .stores) ws (blockOf e) k (grant-spares room e m l _ (omega arith) (omega arith)));
         }
 
     -- no other chunk becomes live
     only-new : (e : Entry) → OnChain filledWords grantedHeap e → live grantedHeap e ≡ true → (blockOf e ≡ blockOf new) ⊎ (OnChain ws h e × (live h e ≡ true))
-    only-new e m l = go (granted-only ws h p n large eight some e (rw (sameChain ∙ granting.kept ws h p n large eight some .chain) at m) l)
+    only-new e m l = go (granted-only room e (rw (sameChain ∙ granting.kept room .chain) at m) l)
       where
         go : (e ≡ new) ⊎ (OnChain ws h e × (live h e ≡ true)) → (blockOf e ≡ blockOf new) ⊎ (OnChain ws h e × (live h e ≡ true))
         go (inl q) = inl (ap blockOf q)
@@ -156,7 +156,7 @@ module _ (ws : List ℕ) (h : Heap) (p : Passes ws h) (n : ℕ) (large : 24 ≤ 
 
     -- it meets the promise of a new block
     pub new-apart : (a : Answer)
-        → NewApart ws h n (blockOf new) (leftBy ws (made a (alsoWrites ss (granting.given ws h p n large eight some .draft))))
+        → NewApart ws h n (blockOf new) (leftBy ws (made a (alsoWrites ss (given room .draft))))
     new-apart a = ((new, from, (new-held, cut-from)), keeps-all, only-new)
 
 -- zeros to the chunk's end fall into its block
@@ -164,18 +164,18 @@ pub cleared-within : (e : Entry) → Within e (cleared e)
 cleared-within e = filled-within e (λ k. 0) (blockWords e) (omega arith)
 
 -- a new block that is cleared reads 0
-pub new-clear : (ws : List ℕ) (h : Heap) (p : Passes ws h) (n : ℕ) (large : 24 ≤ n) (eight : n % 8 ≡ 0) (some : nowhere (sourceOf n (asRead ws h)) ≡ false)
+pub new-clear : {ws : List ℕ} {h : Heap} {n : ℕ} → Grantable ws h n
     → let g = grant n (asRead ws h) in let after = written ws (g .draft .stores ++ cleared (g .granted)) in
     (e : Entry) → HoldsBlock after (g .draft .heap) (blockOf (g .granted)) e → (k : ℕ) → k < blockWords e → word after (blockOf (g .granted)) k ≡ 0
-new-clear ws h p n large eight some e k j r =
-    let x : Entry = new ws h p n large eight some in
+new-clear room e k j r =
+    let x : Entry = new room in
     let w = cleared-within x in
-    let f = granting.filled ws h p n large eight some (cleared x) w in
-    let q = one-block _ (grantedHeap ws h p n large eight some) (f .2) (blockOf x) e x k (new-held ws h p n large eight some (cleared x) w) in
-    let l = granting.granted-lies ws h p n large eight some in
-    let u = granted-large ws h p n large eight some in
-    rw (granting.appended ws h p n large eight some (cleared x) w)
-    (fill-reads (λ i. 0) (blockOf x) (blockWords x) 0 (granting.grantedWords ws h p n large eight some) (omega arith) j (omega arith)
+    let f = granting.filled room (cleared x) w in
+    let q = one-block _ (grantedHeap room) (f .2) (blockOf x) e x k (new-held room (cleared x) w) in
+    let l = granting.granted-lies room in
+    let u = granted-large room in
+    rw (granting.appended room (cleared x) w)
+    (fill-reads (λ i. 0) (blockOf x) (blockWords x) 0 (granting.grantedWords room) (omega arith) j (omega arith)
     (omega (arith, ap blockWords q)))
 
 -- the live block at b is given back
@@ -201,72 +201,71 @@ module _ (ws : List ℕ) (h : Heap) (p : Passes ws h) (b : ℕ) (l : isLive (asR
   none-others e m k = none-new ws h p b l e (rw (free-kept ws h p b l .chain) at m) k
 
 -- the chunk e of a live block, which has less than n bytes, and room for n elsewhere: the block moves
-module _ (ws : List ℕ) (h : Heap) (p : Passes ws h) (n : ℕ) (large : 24 ≤ n) (eight : n % 8 ≡ 0) (some : nowhere (sourceOf n (asRead ws h)) ≡ false)
-    (e : Entry) (m : OnChain ws h e) (l : live h e ≡ true) (less : e .size < n) where
+module _ {ws : List ℕ} {h : Heap} {n : ℕ} {e : Entry} (moves : Moving ws h n e) where
   abbrev to : Entry
-  to = moving.to ws h p n large eight some e m l less
+  to = moving.to moves
 
   -- the words and the record once the old block was copied, and once it was given back
   abbrev copiedWords : List ℕ
-  copiedWords = moving.copiedWords ws h p n large eight some e m l less
+  copiedWords = moving.copiedWords moves
 
   abbrev copiedHeap : Heap
-  copiedHeap = moving.copiedHeap ws h p n large eight some e m l less
+  copiedHeap = moving.copiedHeap moves
 
   abbrev movedWords : List ℕ
-  movedWords = moving.movedWords ws h p n large eight some e m l less
+  movedWords = moving.movedWords moves
 
   abbrev movedHeap : Heap
-  movedHeap = freeBlock (blockOf e) (moving.copiedOver ws h p n large eight some e m l less) .heap
+  movedHeap = freeBlock (blockOf e) (moving.copiedOver moves) .heap
 
   abbrev copies : List Store
-  copies = moving.copies ws h p n large eight some e m l less
+  copies = moving.copies moves
 
   abbrev within : Within to copies
-  within = moving.copies-within ws h p n large eight some e m l less
+  within = moving.copies-within moves
 
   abbrev longer : blockWords e ≤ blockWords to
-  longer = moving.fits ws h p n large eight some e m l less
+  longer = moving.fits moves
 
   -- the copy keeps every live block, and so does the free, but for the old one
   copied-keeps : (d : Entry) → OnChain ws h d → live h d ≡ true → Keeps ws copiedWords copiedHeap d
-  copied-keeps = keeps-all ws h p n large eight some copies within
+  copied-keeps = keeps-all (moves .room) copies within
 
   moved-keeps : (d : Entry) → OnChain copiedWords copiedHeap d → live copiedHeap d ≡ true → blockOf d ≢ blockOf e → Keeps copiedWords movedWords movedHeap d
   moved-keeps d k j o =
-      rw (moving.again-is ws h p n large eight some e m l less .0, moving.moved-words ws h p n large eight some e m l less)
-      (others-kept copiedWords copiedHeap (moving.copied-passes ws h p n large eight some e m l less) (blockOf e) (moving.live-again ws h p n large eight some e m l less) d k j o)
+      rw (moving.again-is moves .0, moving.moved-words moves)
+      (others-kept copiedWords copiedHeap (moving.copied-passes moves) (blockOf e) (moving.live-again moves) d k j o)
 
   -- the new one too
   to-kept : Keeps copiedWords movedWords movedHeap to
   to-kept =
-      let r = new-held ws h p n large eight some copies within in
-      moved-keeps to (r .member) (r .live) (λ q. granted-new ws h p n large eight some e m l (omega arith))
+      let r = new-held (moves .room) copies within in
+      moved-keeps to (r .member) (r .live) (λ q. granted-new (moves .room) e (moves .member) (moves .live) (omega arith))
 
   -- it begins with the old one's words
   copied-reads : SameWords ws (blockOf e) copiedWords (blockOf to) (blockWords e)
   copied-reads k r =
-      let x = granting.granted-lies ws h p n large eight some in
+      let x = granting.granted-lies (moves .room) in
       let y = longer in
-      rw (granting.appended ws h p n large eight some copies within)
-      (fill-reads (λ j. word ws (blockOf e) j) (blockOf to) (blockWords e) 0 (granting.grantedWords ws h p n large eight some) (omega arith) k (omega arith) (omega arith))
+      rw (granting.appended (moves .room) copies within)
+      (fill-reads (λ j. word ws (blockOf e) j) (blockOf to) (blockWords e) 0 (granting.grantedWords (moves .room)) (omega arith) k (omega arith) (omega arith))
 
   -- and no block is live but those of the copy, without the old one
   moved-only : (d : Entry) → OnChain movedWords movedHeap d → live movedHeap d ≡ true
       → OnChain copiedWords copiedHeap d × (live copiedHeap d ≡ true) × (blockOf d ≢ blockOf e)
   moved-only d k j =
-      none-others copiedWords copiedHeap (moving.copied-passes ws h p n large eight some e m l less) (blockOf e) (moving.live-again ws h p n large eight some e m l less) d
-      (rw (moving.again-is ws h p n large eight some e m l less .0, moving.moved-words ws h p n large eight some e m l less) at k)
-      (rw (moving.again-is ws h p n large eight some e m l less .0) at j)
+      none-others copiedWords copiedHeap (moving.copied-passes moves) (blockOf e) (moving.live-again moves) d
+      (rw (moving.again-is moves .0, moving.moved-words moves) at k)
+      (rw (moving.again-is moves .0) at j)
 
   -- it meets the promise of a moved block
-  pub moved-apart : (a : Answer) → let left = leftBy ws (made a (freeBlock (blockOf e) (moving.copiedOver ws h p n large eight some e m l less))) in
+  pub moved-apart : (a : Answer) → let left = leftBy ws (made a (freeBlock (blockOf e) (moving.copiedOver moves))) in
       New ws h n (blockOf to) left × KeepsOthers ws h (blockOf e) left × Gone (blockOf e) left × NoneNewBut ws h (blockOf to) left
       × SameWords ws (blockOf e) movedWords (blockOf to) (blockWords e)
   moved-apart a = (
-    (to, from ws h p n large eight some, (to-kept .held, cut-from ws h p n large eight some)),
+    (to, from (moves .room), (to-kept .held, cut-from (moves .room))),
     (λ d k j o. let r = copied-keeps d k j in keeps-on ws copiedWords movedWords copiedHeap movedHeap d r (moved-keeps d (r .held .member) (r .held .live) o)),
     (λ d k. moved-only d (k .member) (k .live) .2 (k .block)),
-    (λ d k j. let r = moved-only d k j in only-new ws h p n large eight some copies within d (r .0) (r .1)),
+    (λ d k j. let r = moved-only d k j in only-new (moves .room) copies within d (r .0) (r .1)),
     λ k r. to-kept .same k (let y = longer in omega arith) ∙ copied-reads k r,
   )

@@ -4,7 +4,7 @@ use mathlib.Core.Path.{_≡_}
 use mathlib.Core.Logic.{inl, inr}
 use mathlib.Core.Bool.{Bool, true, false, not, cond, _&&_, _||_}
 use mathlib.Core.List.{List, [], _∷_}
-use Prim.Native.Nat.{ℕ, _+_, _/_, _%_, _≤_, _<_, _*_}
+use Prim.Native.Nat.{ℕ, _+_, _/_, _≤_, _<_, _*_}
 use native.Mathlib.Omega.{arith}
 use lib.Dec.{ltb, eqb}
 use lib.ListN.{length}
@@ -36,12 +36,13 @@ use Rattle.rules.proofs.SpotLaws.{inside}
 use Rattle.rules.proofs.OutcomeLaws.{Failed, judged-so}
 use Rattle.opening.proofs.LayoutLaws.{first-below}
 use Rattle.settling.proofs.FillLaws.{Within, filled-within}
+use Rattle.grant.proofs.SourceLaws.{Grantable, need-grantable}
 use Rattle.grant.proofs.GrantedChunk.{grantedWords, kept, new-there}
 use Rattle.grant.proofs.GrantSpares.{grant-inside}
-use Rattle.grant.proofs.NeedLaws.{need-large, need-eight}
 use Rattle.release.proofs.ReleaseSpares.{free-inside, shrink-inside}
+use Rattle.resize.proofs.WantedLaws.{block-moves, block-shrinks}
 use Rattle.resize.proofs.MovedLaws.{fits, copiedOver, copiedWords, copiedHeap, copied-passes, live-again, again-is}
-use Rattle.promises.proofs.ReasonLaws.{Fitting, fitting-iff, length-in, live-holds}
+use Rattle.promises.proofs.ReasonLaws.{Fitting, fitting-iff, length-in}
 use Rattle.promises.proofs.ResizedLaws.{resized-so}
 use Rattle.promises.proofs.GrantedLaws.{fillFrom}
 
@@ -53,63 +54,60 @@ within-below m e ss l w = fall-so _ (λ i. i < m) (λ i b. omega (arith, b .1)) 
 abbrev Inner : Heap → Draft → Type 0
 Inner h d = Below (h .bytes / 4) (d .stores)
 
-module _ (ws : List ℕ) (h : Heap) (p : Passes ws h) (n : ℕ) (large : 24 ≤ n) (eight : n % 8 ≡ 0) where
-  -- a block of n bytes that was granted, and the heap then
-  module _ (some : nowhere (sourceOf n (asRead ws h)) ≡ false) where
-    abbrev given : Grant
-    given = grant n (asRead ws h)
+-- a block of n bytes that was granted, and the heap then
+module _ {ws : List ℕ} {h : Heap} {n : ℕ} (room : Grantable ws h n) where
+  abbrev given : Grant
+  given = grant n (asRead ws h)
 
-    same-bytes : given .draft .heap .bytes ≡ h .bytes
-    same-bytes = omega (arith, kept ws h p n large eight some .passes .fits .bytes, p .fits .bytes, length-written (given .draft .stores) ws)
+  same-bytes : given .draft .heap .bytes ≡ h .bytes
+  same-bytes = omega (arith, kept room .passes .fits .bytes, room .well .fits .bytes, length-written (given .draft .stores) ws)
 
-    granted-ends : blockEnd (given .granted) ≤ h .bytes
-    granted-ends =
-        let i = inside (grantedWords ws h p n large eight some) (given .draft .heap) (kept ws h p n large eight some .passes) (given .granted) (new-there ws h p n large eight some) .ends in
-        omega (arith, same-bytes)
+  granted-ends : blockEnd (given .granted) ≤ h .bytes
+  granted-ends =
+      let i = inside (grantedWords room) (given .draft .heap) (kept room .passes) (given .granted) (new-there room) .ends in
+      omega (arith, same-bytes)
 
-    -- words written into it, as many as fit
-    abbrev filling : (ℕ → ℕ) → ℕ → List Store
-    filling value k = fillFrom (blockOf (given .granted)) 0 value k
+  -- words written into it, as many as fit
+  abbrev filling : (ℕ → ℕ) → ℕ → List Store
+  filling value k = fillFrom (blockOf (given .granted)) 0 value k
 
-    filled-below : (value : ℕ → ℕ) (k : ℕ) → k ≤ blockWords (given .granted) → Inner h (alsoWrites (filling value k) (given .draft))
-    filled-below value k l =
-        let e = granted-ends in
-        below-both (h .bytes / 4) (given .draft .stores) (filling value k) (grant-inside ws h p n large eight some)
-        (within-below (h .bytes / 4) (given .granted) (filling value k) (omega arith) (filled-within (given .granted) value k l))
+  filled-below : (value : ℕ → ℕ) (k : ℕ) → k ≤ blockWords (given .granted) → Inner h (alsoWrites (filling value k) (given .draft))
+  filled-below value k l =
+      let e = granted-ends in
+      below-both (h .bytes / 4) (given .draft .stores) (filling value k) (grant-inside room)
+      (within-below (h .bytes / 4) (given .granted) (filling value k) (omega arith) (filled-within (given .granted) value k l))
 
-    found-below : Inner h (alsoWrites (asFound (given .granted)) (given .draft))
-    found-below = below-both (h .bytes / 4) (given .draft .stores) [] (grant-inside ws h p n large eight some) tt
+  found-below : Inner h (alsoWrites (asFound (given .granted)) (given .draft))
+  found-below = below-both (h .bytes / 4) (given .draft .stores) [] (grant-inside room) tt
 
-    cleared-below : Inner h (alsoWrites (cleared (given .granted)) (given .draft))
-    cleared-below = filled-below (λ i. 0) (blockWords (given .granted)) (omega arith)
+  cleared-below : Inner h (alsoWrites (cleared (given .granted)) (given .draft))
+  cleared-below = filled-below (λ i. 0) (blockWords (given .granted)) (omega arith)
 
-  -- the live block at b
-  module _ (b : ℕ) (l : isLive (asRead ws h) b ≡ true) where
-    abbrev at : Spot
-    at = blockSpot (asRead ws h) b
+-- the live block at b
+module _ (ws : List ℕ) (h : Heap) (p : Passes ws h) (b : ℕ) (l : isLive (asRead ws h) b ≡ true) (z : ℕ) where
+  abbrev at : Spot
+  at = blockSpot (asRead ws h) b
 
-    -- is moved: it is live still when the old words have been copied
-    moved-below : nowhere (sourceOf n (asRead ws h)) ≡ false → at .here .size < n → Inner h (moved ws at n (asRead ws h) .draft)
-    moved-below some less =
-        let e : Entry = at .here in
-        let k = live-holds ws h p b l in
-        let m = k .member in
-        let v = k .live in
-        rw (again-is ws h p n large eight some e m v less .1)
-        (below-both (h .bytes / 4) (copiedOver ws h p n large eight some e m v less .stores)
-        (freeBlock (blockOf e) (asRead (copiedWords ws h p n large eight some e m v less) (copiedHeap ws h p n large eight some e m v less)) .stores)
-        (filled-below some (λ i. word ws (blockOf e) i) (blockWords e) (fits ws h p n large eight some e m v less))
-        (rw (same-bytes some) at
-        (free-inside (copiedWords ws h p n large eight some e m v less) (copiedHeap ws h p n large eight some e m v less) (copied-passes ws h p n large eight some e m v less)
-        (blockOf e) (live-again ws h p n large eight some e m v less))))
+  abbrev n : ℕ
+  n = need overhead z
 
-    -- is resized, and there is room if it has to move
-    resized-below : (ltb (at .here .size) n && nowhere (sourceOf n (asRead ws h)) ≡ false) → Inner h (resized ws at n (asRead ws h) .draft)
-    unfolding asRead
-    resized-below q =
-        resized-so (λ x. Inner h (x .draft)) ws at n (asRead ws h)
-        (λ less. moved-below (rw (lt-ltb (at .here .size) n less) at q) less)
-        (λ spare. shrink-inside ws h p b l n large eight spare) tt
+  -- is moved: it is live still when the old words have been copied
+  moved-below : nowhere (sourceOf n (asRead ws h)) ≡ false → at .here .size < n → Inner h (moved ws at n (asRead ws h) .draft)
+  moved-below some less =
+      let e : Entry = at .here in
+      let moves = block-moves p b l z some less in
+      rw (again-is moves .1)
+      (below-both (h .bytes / 4) (copiedOver moves .stores) (freeBlock (blockOf e) (asRead (copiedWords moves) (copiedHeap moves)) .stores)
+      (filled-below (moves .room) (λ i. word ws (blockOf e) i) (blockWords e) (fits moves))
+      (rw (same-bytes (moves .room)) at (free-inside (copiedWords moves) (copiedHeap moves) (copied-passes moves) (blockOf e) (live-again moves))))
+
+  -- is resized, and there is room if it has to move
+  resized-below : (ltb (at .here .size) n && nowhere (sourceOf n (asRead ws h)) ≡ false) → Inner h (resized ws at n (asRead ws h) .draft)
+  unfolding asRead
+  resized-below q =
+      resized-so (λ x. Inner h (x .draft)) ws at n (asRead ws h)
+      (λ less. moved-below (rw (lt-ltb (at .here .size) n less) at q) less)
+      (λ spare. shrink-inside (block-shrinks p b l z spare)) tt
 
 -- a refusal writes nothing
 judged-below : (m : ℕ) (h : Heap) (o : Outcome) (ts : Refusals) → (Failed ts → Below m (o .stores)) → Below m (judged h ts o .stores)
@@ -138,11 +136,11 @@ module _ (ws : List ℕ) (h : Heap) where
 
   allocate-below : (z : ℕ) → Below even (allocate ws h z .stores)
   unfolding allocate
-  allocate-below z = with-below asFound z (λ p some. found-below ws h p (need overhead z) (need-large z) (need-eight z) some)
+  allocate-below z = with-below asFound z (λ p some. found-below (need-grantable z p some))
 
   cleared-all-below : (count size : ℕ) → Below even (allocateCleared ws h count size .stores)
   unfolding allocateCleared
-  cleared-all-below count size = with-below cleared (count * size) (λ p some. cleared-below ws h p (need overhead (count * size)) (need-large (count * size)) (need-eight (count * size)) some)
+  cleared-all-below count size = with-below cleared (count * size) (λ p some. cleared-below (need-grantable (count * size) p some))
 
   free-all-below : (b : ℕ) → Below even (free ws h b .stores)
   unfolding free asRead
@@ -160,7 +158,7 @@ module _ (ws : List ℕ) (h : Heap) where
       judged-below even h (resizedTo ws (asRead ws h) b z) (resizeRefusals (heapFails ws h) ws (asRead ws h) b z)
       (λ (f, (_, (l, (room, _)))).
       let p = passing f in
-      rw (← heap-even p) (resized-below ws h p (need overhead z) (need-large z) (need-eight z) b (not-false (isLive (asRead ws h) b) l) room))
+      rw (← heap-even p) (resized-below ws h p b (not-false (isLive (asRead ws h) b) l) z room))
 
   reallocate-below : (b z : ℕ) → Below even (reallocate ws h b z .stores)
   unfolding reallocate

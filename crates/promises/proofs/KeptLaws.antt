@@ -3,13 +3,13 @@
 use mathlib.Core.Path.{_≡_, refl}
 use mathlib.Core.Bool.{Bool, true, false, not, cond, _&&_}
 use mathlib.Core.List.{List, [], _∷_}
-use Prim.Native.Nat.{ℕ, _*_, _%_, _≤_, _<_}
+use Prim.Native.Nat.{ℕ, _*_, _<_}
 use native.Mathlib.Omega.{arith}
 use lib.Dec.{eqb, ltb}
 use lib.ListN.{length}
 use borrow.Author.Tests.{lt-ltb, not-false}
+use Rattle.grant.proofs.SourceLaws.{need-grantable}
 use Rattle.grant.proofs.GrantedChunk.{filled}
-use Rattle.grant.proofs.NeedLaws.{need-large, need-eight}
 use Rattle.record.specs.declared.answers.Answer.{Answer}
 use Rattle.record.specs.declared.answers.Answer.the-variants.{Done, Granted, Returned, Told, Counted, Refused}
 use Rattle.record.specs.declared.heap.Heap.{Heap}
@@ -19,6 +19,7 @@ use Rattle.record.proofs.TableLaws.{valid-iff}
 use Rattle.region.specs.Words.{Store, written}
 use Rattle.release.proofs.ReleaseKept.{free-kept}
 use Rattle.release.proofs.ShrinkKept.{shrink-kept}
+use Rattle.resize.proofs.WantedLaws.{block-moves, block-shrinks}
 use Rattle.resize.proofs.MovedLaws.{copiedWords, copiedHeap, copied-passes, live-again, again-is, moved-words}
 use Rattle.rules.specs.Shape.{Entry, shape, heapBytes}
 use Rattle.rules.specs.Kinds.{overhead, blockOf}
@@ -38,7 +39,7 @@ use Rattle.settling.proofs.FillLaws.{Within, fills}
 use Rattle.promises.specs.Ways.{ours}
 use Rattle.promises.specs.Kept.{Passing, Accepted, OnLiveBlocks, afterStores, Keeping}
 use Rattle.promises.proofs.JudgedLaws.{accepted-made}
-use Rattle.promises.proofs.ReasonLaws.{fitting-iff, length-in, live-holds}
+use Rattle.promises.proofs.ReasonLaws.{fitting-iff, length-in}
 use Rattle.promises.proofs.ResizedLaws.{resized-so}
 use Rattle.promises.proofs.GrantedLaws.{cleared-within}
 use Rattle.promises.proofs.FreshLaws.{fresh-passes}
@@ -81,34 +82,33 @@ module _ (ws : List ℕ) (h : Heap) (p : Passes ws h) where
   judged-passes : (came : Heap) (o : Outcome) (ts : Refusals) → (Failed ts → Passing (left ws h o)) → Passing (left ws h (judged came ts o))
   judged-passes came o ts = judged-so (λ x. Passing (left ws h x)) came o ts (λ r. p)
 
-  -- the live block at b, which is to have n bytes, moves, or is resized whichever way
-  module _ (n : ℕ) (large : 24 ≤ n) (eight : n % 8 ≡ 0) (b : ℕ) (l : isLive (asRead ws h) b ≡ true) where
+  -- the live block at b, which is to have z bytes, moves, or is resized whichever way
+  module _ (b : ℕ) (l : isLive (asRead ws h) b ≡ true) (z : ℕ) where
     abbrev at : Spot
     at = blockSpot (asRead ws h) b
 
+    abbrev n : ℕ
+    n = need overhead z
+
     moved-passes : nowhere (sourceOf n (asRead ws h)) ≡ false → at .here .size < n → PassesAfter ws (moved ws at n (asRead ws h) .draft)
     moved-passes some less =
-        let e : Entry = at .here in
-        let k = live-holds ws h p b l in
-        let m = k .member in
-        let v = k .live in
-        rw (again-is ws h p n large eight some e m v less .0, moved-words ws h p n large eight some e m v less)
-        (free-kept (copiedWords ws h p n large eight some e m v less) (copiedHeap ws h p n large eight some e m v less) (copied-passes ws h p n large eight some e m v less) (blockOf e)
-        (live-again ws h p n large eight some e m v less) .passes)
+        let moves = block-moves p b l z some less in
+        rw (again-is moves .0, moved-words moves)
+        (free-kept (copiedWords moves) (copiedHeap moves) (copied-passes moves) (blockOf (at .here)) (live-again moves) .passes)
 
     resized-passes : (ltb (at .here .size) n && nowhere (sourceOf n (asRead ws h))) ≡ false → PassesAfter ws (resized ws at n (asRead ws h) .draft)
     unfolding asRead
     resized-passes q =
         resized-so (λ x. PassesAfter ws (x .draft)) ws at n (asRead ws h)
         (λ less. moved-passes (rw (lt-ltb (at .here .size) n less) at q) less)
-        (λ spare. shrink-kept ws h p b l n large eight spare .passes) p
+        (λ spare. shrink-kept (block-shrinks p b l z spare) .passes) p
 
   -- a block that is granted, whatever is written into it
   with-passes : (fill : Entry → List Store) → ((e : Entry) → Within e (fill e)) → (z : ℕ) → Passing (left ws h (allocateWith fill ws h z))
   with-passes fill within z =
       let e = grant (need overhead z) (asRead ws h) .granted in
       judged-passes h (allocated fill (asRead ws h) z) (allocateRefusals (heapFails ws h) (asRead ws h) z)
-      (λ (_, (_, (some, _))). filled ws h p (need overhead z) (need-large z) (need-eight z) some (fill e) (within e) .2)
+      (λ (_, (_, (some, _))). filled (need-grantable z p some) (fill e) (within e) .2)
 
   allocate-passes : (z : ℕ) → Passing (left ws h (allocate ws h z))
   unfolding allocate
@@ -132,7 +132,7 @@ module _ (ws : List ℕ) (h : Heap) (p : Passes ws h) where
   unfolding resize
   resize-passes b z =
       judged-passes h (resizedTo ws (asRead ws h) b z) (resizeRefusals (heapFails ws h) ws (asRead ws h) b z)
-      (λ (_, (_, (l, (room, _)))). resized-passes (need overhead z) (need-large z) (need-eight z) b (not-false (isLive (asRead ws h) b) l) room)
+      (λ (_, (_, (l, (room, _)))). resized-passes b (not-false (isLive (asRead ws h) b) l) z room)
 
   reallocate-passes : (b z : ℕ) → Passing (left ws h (reallocate ws h b z))
   unfolding reallocate

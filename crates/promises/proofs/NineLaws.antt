@@ -17,10 +17,12 @@ use Rattle.rules.specs.Kinds.{overhead}
 use Rattle.rules.specs.Reallocate.{moved, resized}
 use Rattle.rules.specs.Serve.{need, nowhere}
 use Rattle.rules.specs.Shape.{Entry}
-use Rattle.grant.proofs.NeedLaws.{need-large, need-eight}
+use Rattle.grant.proofs.NeedLaws.{need-large}
+use Rattle.grant.proofs.SourceLaws.{need-grantable}
 use Rattle.grant.proofs.GrantKept.{grant-kept}
 use Rattle.release.proofs.ReleaseKept.{free-kept}
 use Rattle.release.proofs.ShrinkKept.{shrink-kept}
+use Rattle.resize.proofs.WantedLaws.{block-moves, block-shrinks}
 use Rattle.resize.proofs.MoveMeaning.{move-housed}
 use Rattle.promises.specs.Ways.{ours}
 use Rattle.promises.specs.Room.{HoldsBlock, NoneServes}
@@ -49,7 +51,7 @@ module _ (ws : List ℕ) (h : Heap) (p : Passes ws h) where
 
   -- then a bin takes what is put: of a grant, of a move, of any resized block
   granted-housed : (z : ℕ) → (NoneServes ws h (need overhead z) → ⊥) → grant (need overhead z) before .draft .homeless ≡ false
-  granted-housed z f = grant-kept ws h p (need overhead z) (need-large z) (need-eight z) (found z f) .housed
+  granted-housed z f = grant-kept (need-grantable z p (found z f)) .housed
 
   -- a block is live, unless it is none
   is-live : (b : ℕ) → 0 < b → (NoBlock ws h b → ⊥) → isLive before b ≡ true
@@ -67,15 +69,13 @@ module _ (ws : List ℕ) (h : Heap) (p : Passes ws h) where
     s = blockSpot before b
 
     moved-housed : nowhere (sourceOf n before) ≡ false → s .here .size < n → moved ws s n before .draft .homeless ≡ false
-    moved-housed some less =
-        let k = live-holds ws h p b l in
-        move-housed ws h p n (need-large z) (need-eight z) some (s .here) (k .member) (k .live) less
+    moved-housed some less = move-housed (block-moves p b l z some less)
 
     resized-housed : (s .here .size < n → NoneServes ws h n → ⊥) → resized ws s n before .draft .homeless ≡ false
     unfolding asRead
     resized-housed f =
         resized-so (λ x. x .draft .homeless ≡ false) ws s n before (λ less. moved-housed (found z (f less)) less)
-        (λ large. shrink-kept ws h p b l n (need-large z) (need-eight z) large .housed) refl
+        (λ spare. shrink-kept (block-shrinks p b l z spare) .housed) refl
 
 module _ (ws : List ℕ) (h : Heap) where
   -- the heap passes, since the call is not refused for failing

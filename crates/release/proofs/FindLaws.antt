@@ -25,6 +25,7 @@ module _ (ws : List ℕ) (h : Heap) (p : Passes ws h) (b : ℕ) where
   abbrev pub placeOf : isLive (asRead ws h) b ≡ true → Place
   placeOf l = placed (lastOr outside (place ws h p b l .low) .place) (place ws h p b l .here)
 
+  -- a block of which the walk finds no chunk is not live, and one that it finds is
   live-by : (t : Bool) → isLive (asRead ws h) b ≡ t → sought ≡ Nowhere → isLive (asRead ws h) b ≡ false
   live-by true e z = cc (found-is ws h p b e, z)
   live-by false e z = e
@@ -35,6 +36,7 @@ module _ (ws : List ℕ) (h : Heap) (p : Passes ws h) (b : ℕ) where
   found-by false x e z =
       cc (sought-block h b 0 (shape ws (h .bytes)) ∙ sought-none (holdsBlock h b) 0 (shape ws (h .bytes)) e, z)
 
+  -- so says what the code found
   module _ (s : Sought) (e : s ≡ sought) where
     pub not-live : s ≡ Nowhere → isLive (asRead ws h) b ≡ false
     not-live z = live-by _ refl (sym e ∙ z)

@@ -12,7 +12,7 @@ use Rattle.record.specs.declared.heap.Heap.{Heap}
 use Rattle.region.specs.Words.{written}
 use Rattle.rules.specs.Shape.{Entry, entry}
 use Rattle.rules.specs.Kinds.{ordinaryKind, ordinary, live, unused, blockEnd, outside}
-use Rattle.rules.specs.Check.{usedBytes, Passes}
+use Rattle.rules.specs.Check.{usedBytes}
 use Rattle.rules.specs.Draft.{Draft, leaveBin}
 use Rattle.rules.proofs.KindsLaws.{kind-top, kind-donor, ordinary-free, free-not-live}
 use Rattle.rules.proofs.TiledLaws.{Tiled, tiled-empty}
@@ -52,8 +52,20 @@ ordinary-elsewhere h e y o = (not-top, λ q. false≢true (ap ordinaryKind (kind
     not-top : e .place ≢ h .top .0
     not-top q = false≢true (ap ordinaryKind (kind-top (h .bytes) (h .donor .0) (h .top .0) e start end even q) ∙ o)
 
+-- so donor and top stay where it leaves
+posts-stay : (h : Heap) (low : List Entry) (x : Entry) (high : List Entry) → Laid (h .bytes) x → ordinary h x ≡ true → Posts h (low ++ x ∷ [] ++ high) → Posts h (low ++ high)
+posts-stay h low x high y o posts =
+    let n = ordinary-elsewhere h x y o in
+    record {
+      top = let t = posts .top in (t .0, other (t .0) (t .2 .0) (n .0) (t .1), t .2);
+      donor = λ some. let t = posts .donor some in (t .0, other (t .0) (t .2 .0) (n .1) (t .1), t .2);
+    }
+  where
+    other : (t : Entry) {c : ℕ} → t .place ≡ c → x .place ≢ c → Mem t (low ++ x ∷ [] ++ high) → Mem t (low ++ high)
+    other t q n m = all-but low x high m (λ r. n (ap (λ (e : Entry). e .place) (sym r) ∙ q))
+
 -- what is in the making: of the chunks `base` all that are live stay, and `rest` bytes are used
-module _ (ws : List ℕ) (h : Heap) (p : Passes ws h) (base : List Entry) (rest : ℕ) where
+module _ (ws : List ℕ) (h : Heap) (base : List Entry) (rest : ℕ) where
   -- the chain is low, a gap, and high, and the gap is as long as the free chunk that is to fill it
   pub record Gap (low : List Entry) (from to : ℕ) (high : List Entry) (d : Draft) : Type 0 where
     pub layout : Layout (h .bytes) (low ++ filling from to ∷ [] ++ high)
@@ -82,7 +94,8 @@ module _ (ws : List ℕ) (h : Heap) (p : Passes ws h) (base : List Entry) (rest 
     some : (z : Entry) → Mem z (low ++ x ∷ [] ++ high) → Mem z base
     lives : (z : Entry) → Mem z base → live h z ≡ true → Mem z (low ++ x ∷ [] ++ high)
 
-  module _ (low : List Entry) (x : Entry) (two : List Entry) (from to : ℕ) (high : List Entry) (d : Draft) (w : Widens low x two from to high d) where
+module _ {ws : List ℕ} {h : Heap} {base : List Entry} {rest : ℕ} where
+  module _ {low : List Entry} {x : Entry} {two : List Entry} {from to : ℕ} {high : List Entry} {d : Draft} (w : Widens ws h base rest low x two from to high d) where
     pieces : Cuts (h .bytes) low two high (w .layout)
     pieces = cuts (h .bytes) low two high (w .layout)
 
@@ -115,7 +128,7 @@ module _ (ws : List ℕ) (h : Heap) (p : Passes ws h) (base : List Entry) (rest 
         (w .layout .chunks x (middle-in low two high (w .there)) .some)
 
     -- a donor or a top was in no bin
-    widen-kept : ordinary h x ≡ false → Gap low from to high d
+    widen-kept : ordinary h x ≡ false → Gap ws h base rest low from to high d
     widen-kept o =
         record {
           layout = filled;
@@ -134,7 +147,7 @@ module _ (ws : List ℕ) (h : Heap) (p : Passes ws h) (base : List Entry) (rest 
         go (inl k) = outer-in low two high k
         go (inr k) = middle-in low two high (rw (List·Memᴰ·eq-of-singleton k) (w .there))
 
-    widen-left : ordinary h x ≡ true → Gap low from to high (leaveBin x d)
+    widen-left : ordinary h x ≡ true → Gap ws h base rest low from to high (leaveBin x d)
     widen-left o =
         record {
           layout = filled;
@@ -148,7 +161,7 @@ module _ (ws : List ℕ) (h : Heap) (p : Passes ws h) (base : List Entry) (rest 
         }
 
   -- the chunk below the gap
-  module _ (low : List Entry) (x : Entry) (from to : ℕ) (high : List Entry) (d : Draft) (g : Gap (low ++ x ∷ []) from to high d) (free : x .flags ≡ 0) where
+  module _ (low : List Entry) (x : Entry) {from to : ℕ} {high : List Entry} {d : Draft} (g : Gap ws h base rest (low ++ x ∷ []) from to high d) (free : x .flags ≡ 0) where
     under-laid : Layout (h .bytes) (low ++ x ∷ filling from to ∷ [] ++ high)
     under-laid = subst (λ (l : List Entry). Layout (h .bytes) (l ++ high)) (append-assoc low (x ∷ []) (filling from to ∷ [])) (g .layout)
 
@@ -163,7 +176,7 @@ module _ (ws : List ℕ) (h : Heap) (p : Passes ws h) (base : List Entry) (rest 
         let k = under-laid .chunks (filling from to) (middle-in low (x ∷ filling from to ∷ []) high (List·Memᴰ·tail (List·Memᴰ·head refl))) .free refl in
         laid-between (h .bytes) (filling (x .place) to) (l .eight) (omega arith) (f .0) (omega (arith, f .1, k .1)) (omega (arith, f .1, k .1, k .2))
 
-    widens-down : Widens low x (x ∷ filling from to ∷ []) (x .place) to high d
+    widens-down : Widens ws h base rest low x (x ∷ filling from to ∷ []) (x .place) to high d
     widens-down =
         record {
           layout = under-laid;
@@ -187,7 +200,7 @@ module _ (ws : List ℕ) (h : Heap) (p : Passes ws h) (base : List Entry) (rest 
         }
 
   -- the chunk above it
-  module _ (low : List Entry) (from to : ℕ) (x : Entry) (high : List Entry) (d : Draft) (g : Gap low from to (x ∷ high) d) (free : x .flags ≡ 0) where
+  module _ {low : List Entry} {from to : ℕ} {x : Entry} {high : List Entry} {d : Draft} (g : Gap ws h base rest low from to (x ∷ high) d) (free : x .flags ≡ 0) where
     over-chain : low ++ filling from to ∷ [] ++ x ∷ high ≡ low ++ filling from to ∷ x ∷ [] ++ high
     over-chain =
         sym (append-assoc (low ++ filling from to ∷ []) (x ∷ []) high)
@@ -210,7 +223,7 @@ module _ (ws : List ℕ) (h : Heap) (p : Passes ws h) (base : List Entry) (rest 
     over-stay : low ++ x ∷ high ≡ low ++ x ∷ [] ++ high
     over-stay = sym (append-assoc low (x ∷ []) high)
 
-    widens-up : Widens low x (filling from to ∷ x ∷ []) from (blockEnd x) high d
+    widens-up : Widens ws h base rest low x (filling from to ∷ x ∷ []) from (blockEnd x) high d
     widens-up =
         record {
           layout = over-laid;
@@ -231,55 +244,43 @@ module _ (ws : List ℕ) (h : Heap) (p : Passes ws h) (base : List Entry) (rest 
           lives = λ z m l. subst (λ (k : List Entry). Mem z k) over-stay (g .lives z m l);
         }
 
-  -- donor and top are others than the chunk x
-  posts-stay : (low : List Entry) (x : Entry) (high : List Entry) → Laid (h .bytes) x → ordinary h x ≡ true → Posts h (low ++ x ∷ [] ++ high) → Posts h (low ++ high)
-  posts-stay low x high y o posts =
-      let n = ordinary-elsewhere h x y o in
-      record {
-        top = let t = posts .top in (t .0, other (t .0) (t .2 .0) (n .0) (t .1), t .2);
-        donor = λ some. let t = posts .donor some in (t .0, other (t .0) (t .2 .0) (n .1) (t .1), t .2);
-      }
-    where
-      other : (t : Entry) {c : ℕ} → t .place ≡ c → x .place ≢ c → Mem t (low ++ x ∷ [] ++ high) → Mem t (low ++ high)
-      other t q n m = all-but low x high m (λ r. n (ap (λ (e : Entry). e .place) (sym r) ∙ q))
-
   -- an ordinary chunk below the gap joins
-  pub below-joins : (low : List Entry) (x : Entry) (from to : ℕ) (high : List Entry) (d : Draft) → Gap (low ++ x ∷ []) from to high d → ordinary h x ≡ true
-      → Posts h (low ++ x ∷ [] ++ high) → Gap low (x .place) to high (leaveBin x d) × Posts h (low ++ high)
-  below-joins low x from to high d g o posts =
+  pub below-joins : (low : List Entry) (x : Entry) {from to : ℕ} {high : List Entry} {d : Draft} → Gap ws h base rest (low ++ x ∷ []) from to high d → ordinary h x ≡ true
+      → Posts h (low ++ x ∷ [] ++ high) → Gap ws h base rest low (x .place) to high (leaveBin x d) × Posts h (low ++ high)
+  below-joins low x {from} {to} {high} g o posts =
       let m : Mem x (low ++ x ∷ [] ++ filling from to ∷ [] ++ high) = Memᴰ·append-left high (middle-in low (x ∷ []) (filling from to ∷ []) (List·Memᴰ·head refl)) in
       let y = g .layout .chunks x m in
       let f = ordinary-free h x o (y .flags) in
-      (widen-left low x (x ∷ filling from to ∷ []) (x .place) to high d (widens-down low x from to high d g f) o, posts-stay low x high y o posts)
+      (widen-left (widens-down low x g f) o, posts-stay h low x high y o posts)
 
   -- the chunk x above the gap
-  module _ (low : List Entry) (from to : ℕ) (x : Entry) (high : List Entry) (d : Draft) (g : Gap low from to (x ∷ high) d) where
+  module _ {low : List Entry} {from to : ℕ} {x : Entry} {high : List Entry} {d : Draft} (g : Gap ws h base rest low from to (x ∷ high) d) where
     pub above-laid : Laid (h .bytes) x
     above-laid = g .layout .chunks x (Memᴰ·append-right (low ++ filling from to ∷ []) (List·Memᴰ·head refl))
 
     -- joins if it is ordinary
-    pub above-joins : ordinary h x ≡ true → Posts h (low ++ x ∷ high) → Gap low from (blockEnd x) high (leaveBin x d) × Posts h (low ++ high)
+    pub above-joins : ordinary h x ≡ true → Posts h (low ++ x ∷ high) → Gap ws h base rest low from (blockEnd x) high (leaveBin x d) × Posts h (low ++ high)
     above-joins o posts =
         let f = ordinary-free h x o (above-laid .flags) in (
-          widen-left low x (filling from to ∷ x ∷ []) from (blockEnd x) high d (widens-up low from to x high d g f) o,
-          posts-stay low x high above-laid o (subst (λ (l : List Entry). Posts h l) (over-stay low from to x high d g f) posts),
+          widen-left (widens-up g f) o,
+          posts-stay h low x high above-laid o (subst (λ (l : List Entry). Posts h l) (over-stay g f) posts),
         )
 
     -- and if it is the donor or the top
     module _ (f : x .flags ≡ 0) where
-      pub above-widens : ordinary h x ≡ false → Gap low from (blockEnd x) high d
-      above-widens o = widen-kept low x (filling from to ∷ x ∷ []) from (blockEnd x) high d (widens-up low from to x high d g f) o
+      pub above-widens : ordinary h x ≡ false → Gap ws h base rest low from (blockEnd x) high d
+      above-widens o = widen-kept (widens-up g f) o
 
       pub above-apart : (z : Entry) → Mem z (low ++ high) → z .place ≢ x .place
-      above-apart = elsewhere low x (filling from to ∷ x ∷ []) from (blockEnd x) high d (widens-up low from to x high d g f)
+      above-apart = elsewhere (widens-up g f)
 
       pub above-higher : from < x .place
       above-higher =
           let k = g .layout .chunks (filling from to) (middle-in low (filling from to ∷ []) (x ∷ high) (List·Memᴰ·head refl)) .free refl in
-          omega (arith, k .1, over-next low from to x high d g f)
+          omega (arith, k .1, over-next g f)
 
       pub above-else : (z : Entry) → Mem z (low ++ x ∷ high) → Mem z (low ++ high) ⊎ (z ≡ x)
-      above-else z m = go (among low (x ∷ []) high (subst (λ (l : List Entry). Mem z l) (over-stay low from to x high d g f) m))
+      above-else z m = go (among low (x ∷ []) high (subst (λ (l : List Entry). Mem z l) (over-stay g f) m))
         where
           go : Mem z (low ++ high) ⊎ Mem z (x ∷ []) → Mem z (low ++ high) ⊎ (z ≡ x)
           go (inl k) = inl k

@@ -2,10 +2,9 @@
 -- shrinking says (`give-up-tail-is`). Assumes nothing.
 use mathlib.Core.Path.{_≡_, ap}
 use mathlib.Core.Bool.{true}
-use mathlib.Core.List.{List, [], _∷_, _++_}
-use Prim.Native.Nat.{ℕ, _+_, _-_, _%_, _≤_}
+use mathlib.Core.List.{List, [], _∷_}
+use Prim.Native.Nat.{ℕ, _+_, _-_}
 use native.Mathlib.Omega.{arith}
-use Rattle.lists.specs.Lists.{lastOr}
 use Rattle.record.specs.declared.heap.Heap.{Heap}
 use Rattle.record.specs.Heap.{at, tableOf, with, withUsed}
 use Rattle.region.specs.Words.{written, put, forward}
@@ -13,39 +12,37 @@ use Rattle.rules.specs.Calls.{State}
 use Rattle.rules.specs.Check.{Passes}
 use Rattle.rules.specs.Draft.{Draft, asRead}
 use Rattle.rules.specs.Free.{isLive, freeBlock}
-use Rattle.rules.specs.Kinds.{live, blockEnd, outside}
+use Rattle.rules.specs.Kinds.{blockEnd}
 use Rattle.rules.specs.Reallocate.{shrunk}
-use Rattle.rules.specs.Shape.{Entry, shape}
-use Rattle.seek.specs.Seek.{placed}
+use Rattle.rules.specs.Shape.{Entry}
 use Rattle.release.specs.Give.{state, giveUpM, givenUpM}
 use Rattle.release.proofs.ReleaseMeaning.{place, after, give-back-is, after-heap}
-use Rattle.release.proofs.TailMeaning.{tailAfter, tail-back-is, tail-heap}
+use Rattle.release.proofs.FindLaws.{placeOf}
+use Rattle.release.proofs.TailMeaning.{ShrinkingChunk, tailAfter, tail-back-is, tail-heap}
 
+-- the words and the record that a draft leaves
 abbrev pub drawn : List ℕ → Draft → State
 drawn ws d = state (written ws (d .stores)) (d .heap)
 
 -- a record that says fewer bytes are used
-fewer-used : (h after : Heap) (heads tails : List ℕ) (donor top gone before left : ℕ) → after ≡ with h heads tails donor top (h .merge) (h .used)
+fewer-used : (h : Heap) {after : Heap} {heads tails : List ℕ} {donor top : ℕ} (gone before left : ℕ) → after ≡ with h heads tails donor top (h .merge) (h .used)
     → gone + left ≡ before → with h heads tails donor top (h .merge) (h .used - gone) ≡ withUsed after (after .used + left - before)
-fewer-used h after heads tails donor top gone before left e s =
+fewer-used h {heads = heads} {tails} {donor} {top} gone before left e s =
     rw e (ap (λ (u : ℕ). with h heads tails donor top (h .merge) u) (omega arith))
 
 -- the chunk of the live block at b
 module _ (ws : List ℕ) (h : Heap) (p : Passes ws h) (b : ℕ) (l : isLive (asRead ws h) b ≡ true) where
-  pub give-up-is : givenUpM ws (tableOf h) h (placed (lastOr outside (place ws h p b l .low) .place) (place ws h p b l .here))
-      ≡ drawn ws (freeBlock b (asRead ws h))
+  pub give-up-is : givenUpM ws (tableOf h) h (placeOf ws h p b l) ≡ drawn ws (freeBlock b (asRead ws h))
   unfolding givenUpM giveUpM freeBlock
   give-up-is =
       let e : Entry = place ws h p b l .here in
       let size-is : blockEnd e - e .place ≡ e .size = omega arith in
       rw (size-is, give-back-is ws h p b l)
       (ap (state (written ws (after ws h p b l .stores)))
-      (fewer-used h (after ws h p b l .heap) _ _ _ _ (e .size) (e .size) 0 (after-heap ws h p b l) (omega arith)))
+      (fewer-used h (e .size) (e .size) 0 (after-heap ws h p b l) (omega arith)))
 
 -- the tail of the chunk e of a live block, above n bytes that are kept
-module _ (ws : List ℕ) (h : Heap) (p : Passes ws h) (low : List Entry) (e : Entry) (high : List Entry)
-    (split : shape ws (h .bytes) ≡ low ++ e ∷ high) (l : live h e ≡ true)
-    (n : ℕ) (some : 24 ≤ n) (eights : n % 8 ≡ 0) (less : n + 24 ≤ e .size) where
+module _ {ws : List ℕ} {h : Heap} {low : List Entry} {e : Entry} {high : List Entry} {n : ℕ} (shrinks : ShrinkingChunk ws h low e high n) where
   abbrev pub ruled : Draft
   ruled = shrunk (record { low = low; here = e; high = high }) n (asRead ws h) .draft
 
@@ -54,8 +51,8 @@ module _ (ws : List ℕ) (h : Heap) (p : Passes ws h) (low : List Entry) (e : En
       ≡ drawn ws ruled
   unfolding givenUpM giveUpM
   give-up-tail-is f =
-      let d : Draft = tailAfter ws h p low e high split l n some eights less in
+      let d : Draft = tailAfter shrinks in
       let size-is : blockEnd e - (e .place + n) ≡ e .size - n = omega arith in
-      rw (size-is, tail-back-is ws h p low e high split l n some eights less)
+      rw (size-is, tail-back-is shrinks)
       (ap (state (written ws (d .stores)))
-      (fewer-used h (d .heap) _ _ _ _ (e .size - n) (e .size) n (tail-heap ws h p low e high split l n some eights less) (omega arith)))
+      (fewer-used h (e .size - n) (e .size) n (tail-heap shrinks) (omega arith)))

@@ -15,12 +15,12 @@ use Rattle.release.specs.declared.give.Reserve.{Reserve}
 use Rattle.release.specs.Give.{given, giveUpM, state, givenUpM}
 
 module _ (b : Books) (table : List ℕ) (bytes donor top : ℕ) (merge : Bool) (p : Place) where
-  pub gives-up : (j : Joined) → j ≡ joinM (b .words) bytes donor top merge (p .before .0) (p .chunk .0) (p .end)
-      → (after : Books) → after ≡ giveBackM b table j (p .before .0) (p .end)
-      → (donor₁ top₁ : Chunk) → donor₁ .0 ≡ donorAfter (j .becomes) (j .chunk .0) donor → top₁ .0 ≡ topAfter (j .becomes) (j .chunk .0) top
+  pub gives-up : {j : Joined} → j ≡ joinM (b .words) bytes donor top merge (p .before .0) (p .chunk .0) (p .end)
+      → {after : Books} → after ≡ giveBackM b table j (p .before .0) (p .end)
+      → {donor₁ top₁ : Chunk} → donor₁ .0 ≡ donorAfter (j .becomes) (j .chunk .0) donor → top₁ .0 ≡ topAfter (j .becomes) (j .chunk .0) top
       → given after (record { donor = donor₁; top = top₁ }) ≡ giveUpM b table bytes donor top merge p
   unfolding giveUpM
-  gives-up j ej after ea donor₁ top₁ ed et = rw (ed, et, sym ej, sym ea)
+  gives-up ej ea ed et = rw (ed, et, sym ej, sym ea)
 
 -- the record that a caller makes of it
 module _ (ws table : List ℕ) (h : Heap) (p : Place) where

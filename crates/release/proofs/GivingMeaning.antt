@@ -9,17 +9,17 @@ use native.Mathlib.Omega.{arith}
 use Rattle.lists.specs.Lists.{Mem, headOr}
 use Rattle.record.specs.declared.heap.Heap.{Heap}
 use Rattle.record.specs.Heap.{tableOf, with}
-use Rattle.rules.specs.Shape.{Entry, entry, binList}
-use Rattle.rules.specs.Kinds.{unused, outside}
+use Rattle.rules.specs.Shape.{Entry, entry, shape, binList}
+use Rattle.rules.specs.Kinds.{ordinary, unused, outside}
 use Rattle.rules.specs.Check.{Passes}
-use Rattle.rules.specs.Draft.{Draft, relink, settle}
+use Rattle.rules.specs.Draft.{Draft, leaveBin, relink, settle}
 use Rattle.rules.specs.Join.{Joined, joinedAs, leaveBins}
 use Rattle.rules.proofs.SpotLaws.{bounds, inside}
 use Rattle.bins.specs.Books.{Books, leaveM}
 use Rattle.bins.proofs.BooksLaws.{Far}
 use Rattle.bins.proofs.HeapBooks.{member-below, ordinary-listed}
 use Rattle.settling.specs.Settling.{leaveBinM, settleM, donorAfter, topAfter}
-use Rattle.settling.proofs.DraftLaws.{booksOf, Follows, Settled, leave-step, link-step, link-follows, settle-step}
+use Rattle.settling.proofs.DraftLaws.{booksOf, Follows, Gone, Settled, leave-step, link-step, link-follows, settle-step}
 use Rattle.release.specs.declared.Joined.{Joined as Union}
 use Rattle.release.specs.Release.{giveBackM}
 use Rattle.release.proofs.JoinMeaning.{Agrees, Lies}
@@ -49,9 +49,14 @@ record Bottom (ws : List ℕ) (h : Heap) (c b : ℕ) : Type 0 where
   clear : (j x : ℕ) → j < h .bins → Mem x (binList ws h j) → x < b → x + 24 ≤ b
 
 -- no chunk has left its bin on the way to the draft d
-module _ (ws : List ℕ) (h : Heap) (p : Passes ws h) (d : Draft) (follows : Follows ws h d)
+module _ {ws : List ℕ} {h : Heap} (p : Passes ws h) {d : Draft} (follows : Follows ws h d)
     (has : (i x : ℕ) → Mem x (binList ws h i) → Mem x (d .lists i))
-    (c : ℕ) (lower upper : Entry) (u : Union) (lies : Lies ws h c lower upper u) where
+    {c : ℕ} {lower upper : Entry} {u : Union} (lies : Lies ws h c lower upper u) where
+  leaves : (x : Entry) → Mem x (shape ws (h .bytes)) → ordinary h x ≡ true → Gone ws h d x (leaveBin x d)
+  leaves x m o =
+      let b = ordinary-listed ws h p x m o in
+      leave-step ws h d follows x (b .0) (b .1) (b .2) (has (b .0) (x .place) (b .3))
+
   -- those that join leave their bins, the lower one first
   out : (t s : Bool) → u .lower ≡ t → u .upper ≡ s
       → Out ws h (cond t (lower .place) c) (leaveBinM (leaveBinM (booksOf ws d) t (lower .place)) s (upper .place))
@@ -61,18 +66,15 @@ module _ (ws : List ℕ) (h : Heap) (p : Passes ws h) (d : Draft) (follows : Fol
       record { is = refl; follows = follows; far = λ j x lj m. lies .far j x lj (follows .from j x lj m) }
   out false true q r =
       let o = lies .over r in
-      let b = ordinary-listed ws h p upper (o .0) (o .1) in
-      let g = leave-step ws h d follows upper (b .0) (b .1) (b .2) (has (b .0) (upper .place) (b .3)) in
+      let g = leaves upper (o .0) (o .1) in
       record { is = g .is; follows = g .follows; far = λ j x lj m. lies .far j x lj (g .follows .from j x lj m) }
   out true false q r =
       let o = lies .under q in
-      let b = ordinary-listed ws h p lower (o .0) (o .1) in
-      let g = leave-step ws h d follows lower (b .0) (b .1) (b .2) (has (b .0) (lower .place) (b .3)) in
+      let g = leaves lower (o .0) (o .1) in
       record { is = g .is; follows = g .follows; far = g .far }
   out true true q r =
       let o = lies .under q in
-      let b = ordinary-listed ws h p lower (o .0) (o .1) in
-      let g = leave-step ws h d follows lower (b .0) (b .1) (b .2) (has (b .0) (lower .place) (b .3)) in
+      let g = leaves lower (o .0) (o .1) in
       let v = lies .over r in
       let a = ordinary-listed ws h p upper (v .0) (v .1) in
       let ne : upper .place ≢ lower .place = λ z. omega (arith, o .2, v .2) in
@@ -117,7 +119,7 @@ module _ (ws : List ℕ) (h : Heap) (p : Passes ws h) (d : Draft) (follows : Fol
   bottom : Bottom ws h c from
   bottom = rw (lies .chunk) (bottom-by _ refl)
 
-  module _ (j : Joined) (agrees : Agrees j lower upper u) where
+  module _ {j : Joined} (agrees : Agrees j lower upper u) where
     abbrev new : Entry
     new = entry from (u .end - from) unused
 
@@ -170,7 +172,7 @@ module _ (ws : List ℕ) (h : Heap) (p : Passes ws h) (d : Draft) (follows : Fol
     given-is = rw (agrees .here, agrees .becomes, agrees .leaving)
 
     -- the chunk above the one that is given back is at `end`
-    pub given-back : (end : ℕ) → upper .place ≡ end → Released ws h (booksOf ws d) u (lower .place) end (givenBack j d)
-    given-back end q =
+    pub given-back : {end : ℕ} → upper .place ≡ end → Released ws h (booksOf ws d) u (lower .place) end (givenBack j d)
+    given-back q =
         rw (given-is, ← q)
         (record { is = gives ∙ rw (lies .becomes .1) (settles .is); housed = rw (lies .becomes .1) (settles .housed); heap = rw (lies .becomes .1) (settles .heap) })

@@ -120,8 +120,16 @@ pub record Summit (es : List Entry) (e : Entry) (to named : ℕ) (y : Entry) : T
   pub up : blockEnd e ≤ to
   pub link : named ≡ to
 
-module _ (ws : List ℕ) (h : Heap) (p : Passes ws h) (low : List Entry) (e : Entry) (high : List Entry)
-    (split : shape ws (h .bytes) ≡ low ++ e ∷ high) (l : live h e ≡ true) where
+-- the chunk e of a live block, at which the chain is taken apart
+pub record LiveChunk (ws : List ℕ) (h : Heap) (low : List Entry) (e : Entry) (high : List Entry) : Type 0 where
+  pub well : Passes ws h
+  pub split : shape ws (h .bytes) ≡ low ++ e ∷ high
+  pub live : live h e ≡ true
+
+module _ {ws : List ℕ} {h : Heap} {low : List Entry} {e : Entry} {high : List Entry} (chunk : LiveChunk ws h low e high) where
+  abbrev well : Passes ws h
+  well = chunk .well
+
   abbrev pub es : List Entry
   es = shape ws (h .bytes)
 
@@ -132,31 +140,31 @@ module _ (ws : List ℕ) (h : Heap) (p : Passes ws h) (low : List Entry) (e : En
   above = headOr outside high
 
   pub here : Mem e es
-  here = in-split low e high split
+  here = in-split low e high (chunk .split)
 
   pub own : (e .flags ≡ 1) × Between h e
-  own = live-between ws h p e here l
+  own = live-between ws h well e here (chunk .live)
 
   pub sides : Around ws es low e high
-  sides = let b = own .1 in around ws h p low e high split (omega arith) (omega arith)
+  sides = let b = own .1 in around ws h well low e high (chunk .split) (omega arith) (omega arith)
 
   -- the chain at the chunk below, and at the chunk above
   split-low : es ≡ butLast low ++ below ∷ e ∷ high
   split-low =
-      split ∙ ap (λ (x : List Entry). x ++ e ∷ high) (sides .lows) ∙ append-assoc (butLast low) (below ∷ []) (e ∷ high)
+      chunk .split ∙ ap (λ (x : List Entry). x ++ e ∷ high) (sides .lows) ∙ append-assoc (butLast low) (below ∷ []) (e ∷ high)
 
   split-high : es ≡ (low ++ e ∷ []) ++ above ∷ drop 1 high
   split-high =
-      split ∙ ap (λ (x : List Entry). low ++ e ∷ x) (sides .highs) ∙ sym (append-assoc low (e ∷ []) (above ∷ drop 1 high))
+      chunk .split ∙ ap (λ (x : List Entry). low ++ e ∷ x) (sides .highs) ∙ sym (append-assoc low (e ∷ []) (above ∷ drop 1 high))
 
   -- if the chunk below joins, its link names the one that is then below
   named-below : (t : Bool) → (t ≡ true → ordinary h below ≡ true)
       → cond t (word ws (below .place) backward) (below .place) ≡ lastOr outside (cond t (butLast low) low) .place
   named-below false o = refl
   named-below true o =
-      let f = is-ordinary ws h p below (sides .below) (o refl) .free in
+      let f = is-ordinary ws h well below (sides .below) (o refl) .free in
       let b = f .between in
-      let a = around ws h p (butLast low) below (e ∷ high) split-low (omega arith) (omega arith) in
+      let a = around ws h well (butLast low) below (e ∷ high) split-low (omega arith) (omega arith) in
       omega (arith, a .ownBackward, f .flags)
 
   pub summit : (u : Bool) → (u ≡ true → isFree h above ≡ true)
@@ -164,10 +172,10 @@ module _ (ws : List ℕ) (h : Heap) (p : Passes ws h) (low : List Entry) (e : En
   summit false o =
       record { member = sides .above; place = sides .abovePlace; up = omega arith; link = refl }
   summit true o =
-      let f = kind-free ws h p above (sides .above) (o refl) in
+      let f = kind-free ws h well above (sides .above) (o refl) in
       let b = f .between in
       let s = sides .abovePlace in
-      let a = around ws h p (low ++ e ∷ []) above (drop 1 high) split-high (omega arith) (omega arith) in
+      let a = around ws h well (low ++ e ∷ []) above (drop 1 high) split-high (omega arith) (omega arith) in
       record {
         member = a .above;
         place = a .abovePlace;
@@ -187,13 +195,13 @@ module _ (ws : List ℕ) (h : Heap) (p : Passes ws h) (low : List Entry) (e : En
 
   flags-above : {to named : ℕ} {y : Entry} → Summit es e to named y → flagsAt ws named ≡ y .flags
   flags-above {to} {named} {y} s =
-      ap (flagsAt ws) (s .link ∙ sym (s .place)) ∙ sym (inside ws h p y (s .member) .stands)
+      ap (flagsAt ws) (s .link ∙ sym (s .place)) ∙ sym (inside ws h well y (s .member) .stands)
 
   join-sees : joinM ws (h .bytes) (h .donor .0) (h .top .0) (h .merge) (below .place) (e .place) (blockEnd e)
       ≡ joinedM ws (sees h below) (sees h above) (below .place) (e .place) (blockEnd e)
   unfolding joinM
   join-sees =
-      rw (neighbour-is ws h p (below .place) below (sides .below) refl, neighbour-is ws h p (blockEnd e) above (sides .above) (sides .abovePlace))
+      rw (neighbour-is ws h well (below .place) below (sides .below) refl, neighbour-is ws h well (blockEnd e) above (sides .above) (sides .abovePlace))
 
   -- what is freed, `part`, ends where the chunk of the block does, and has `under` below it as the last of `lows`
   pub part-joins : (lows : List Entry) (part : Entry) (under over : Kind) → blockEnd part ≡ blockEnd e
@@ -217,12 +225,12 @@ module _ (ws : List ℕ) (h : Heap) (p : Passes ws h) (low : List Entry) (e : En
   -- a chunk in a bin has no byte in common with that of a live block
   pub part-far : (c : ℕ) → e .place ≤ c → c + 24 ≤ blockEnd e → (j x : ℕ) → j < h .bins → Mem x (binList ws h j) → Far c x
   part-far c lo hi j x lj m =
-      let k = member-entry ws h p j x lj m in
+      let k = member-entry ws h well j x lj m in
       let r = k .1 in
       let b = r .is .free .between in
       let ne : e .place ≡ k .0 .place → ⊥ =
-      λ s. let g = ap (λ (y : Entry). y .flags) (one-chunk ws h p e (k .0) here (r .member) s) in omega (arith, r .is .free .flags, own .0) in
-      go (k .0) (r .place) (b .some) (apart ws h p e (k .0) here (r .member) ne)
+      λ s. let g = ap (λ (y : Entry). y .flags) (one-chunk ws h well e (k .0) here (r .member) s) in omega (arith, r .is .free .flags, own .0) in
+      go (k .0) (r .place) (b .some) (apart ws h well e (k .0) here (r .member) ne)
     where
       go : (d : Entry) → d .place ≡ x → 24 ≤ d .size → (blockEnd e ≤ d .place) ⊎ (blockEnd d ≤ e .place) → Far c x
       go d q s (inl k) = omega arith
@@ -261,11 +269,11 @@ module _ (ws : List ℕ) (h : Heap) (p : Passes ws h) (low : List Entry) (e : En
 
   pub chunk-lies : Lies ws h (e .place) below above chunkJoined
   chunk-lies =
-      let i = inside ws h p e here in
+      let i = inside ws h well e here in
       let b = own .1 in
       rw join-sees (part-lies (e .place) below (sees h below) (sees h above) (i .place) (omega arith) (omega arith) lower seen-free seen-above)
     where
       lower : ordinaryKind (sees h below) ≡ true → Mem below es × (ordinary h below ≡ true) × (below .place < e .place)
       lower q =
-          let b = is-ordinary ws h p below (sides .below) (seen-below q) .free .between in
+          let b = is-ordinary ws h well below (sides .below) (seen-below q) .free .between in
           (sides .below, seen-below q, omega (arith, sides .belowEnd))

@@ -8,6 +8,7 @@ pub mod TailMeaning
 pub mod GiveMeaning
 pub mod AgainLaws
 pub mod GapLaws
+pub mod GapFilled
 pub mod GapKept
 pub mod ReleaseKept
 pub mod ShrinkKept

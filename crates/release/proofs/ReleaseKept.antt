@@ -23,39 +23,42 @@ use Rattle.settling.proofs.HeaderLaws.{headed-below}
 use Rattle.settling.proofs.HalfwayLaws.{Opened}
 use Rattle.settling.proofs.OpenLaws as opened
 use Rattle.settling.proofs.PictureLaws.{Pictured, Posts, used-replaced}
-use Rattle.release.proofs.JoinMeaning.{here, own}
-use Rattle.release.proofs.ReleaseMeaning.{splits}
+use Rattle.release.proofs.JoinMeaning.{LiveChunk, here, own}
+use Rattle.release.proofs.ReleaseMeaning.{splits, live-chunk}
 use Rattle.release.proofs.GapLaws.{filling, none-used, Gap}
-use Rattle.release.proofs.GapKept.{Given, gap-given}
+use Rattle.release.proofs.GapFilled.{Given}
+use Rattle.release.proofs.GapKept.{gap-given}
 
 -- the chunk e of a live block, at which the chain is taken apart
-module _ (ws : List ℕ) (h : Heap) (p : Passes ws h) (low : List Entry) (e : Entry) (high : List Entry)
-    (split : shape ws (h .bytes) ≡ low ++ e ∷ high) (l : live h e ≡ true) where
+module _ {ws : List ℕ} {h : Heap} {low : List Entry} {e : Entry} {high : List Entry} (chunk : LiveChunk ws h low e high) where
+  abbrev well : Passes ws h
+  well = chunk .well
+
   between : Between h e
-  between = own ws h p low e high split l .1
+  between = own chunk .1
 
   pub laid-out : Layout (h .bytes) (low ++ e ∷ [] ++ high)
-  laid-out = opened.laid-out ws h p low e high split between
+  laid-out = opened.laid-out ws h well low e high (chunk .split) between
 
   -- it is in no bin, and neither the donor nor the top
   pub opens : Opened ws h low e e high (asRead ws h)
-  opens = opened.opens-kept ws h p low e high split between (ap ordinaryKind (live-kind (kindOf h e) l))
+  opens = opened.opens-kept ws h well low e high (chunk .split) between (ap ordinaryKind (live-kind (kindOf h e) (chunk .live)))
 
   pub posts : Posts h (low ++ high)
   posts =
-      let f = own ws h p low e high split l .0 in
-      let m = here ws h p low e high split l in
+      let f = own chunk .0 in
+      let m = here chunk in
       record {
-        top = opened.top-outer ws h p low e high split between (λ q. let t = is-top ws h p e m q .free .flags in omega arith);
-        donor = λ some. opened.donor-outer ws h p low e high split between (λ q. let t = is-donor ws h p e m some q .free .flags in omega arith) some;
+        top = opened.top-outer ws h well low e high (chunk .split) between (λ q. let t = is-top ws h well e m q .free .flags in omega arith);
+        donor = λ some. opened.donor-outer ws h well low e high (chunk .split) between (λ q. let t = is-donor ws h well e m some q .free .flags in omega arith) some;
       }
 
   -- it counts among the used bytes
   pub used-with : h .used ≡ usedBytes h (low ++ e ∷ [] ++ high)
-  used-with = p .used ∙ ap (usedBytes h) (opened.whole ws h p low e high split between)
+  used-with = well .used ∙ ap (usedBytes h) (opened.whole ws h well low e high (chunk .split) between)
 
   pub own-used : usedBytes h (e ∷ []) ≡ e .size
-  own-used = rw l (add-zero (e .size))
+  own-used = rw (chunk .live) (add-zero (e .size))
 
   -- given back, it leaves a gap
   fill-laid : Laid (h .bytes) (filling (e .place) (blockEnd e))
@@ -67,10 +70,10 @@ module _ (ws : List ℕ) (h : Heap) (p : Passes ws h) (low : List Entry) (e : En
   pub filled : Layout (h .bytes) (low ++ filling (e .place) (blockEnd e) ∷ [] ++ high)
   filled =
       layout-replaced (h .bytes) low (e ∷ []) (filling (e .place) (blockEnd e) ∷ []) high laid-out
-      (opened.lows ws h p low e high split between) (opened.highs ws h p low e high split between)
+      (opened.lows ws h well low e high (chunk .split) between) (opened.highs ws h well low e high (chunk .split) between)
       (λ a b t. (t .0, omega (arith, t .1), omega (arith, t .2))) (λ x m. rw (List·Memᴰ·eq-of-singleton m) fill-laid)
 
-  chunk-gap : Gap ws h p (low ++ high) (h .used - e .size) low (e .place) (blockEnd e) high (asRead ws h)
+  chunk-gap : Gap ws h (low ++ high) (h .used - e .size) low (e .place) (blockEnd e) high (asRead ws h)
   chunk-gap =
       record {
         layout = filled;
@@ -94,37 +97,34 @@ module _ (ws : List ℕ) (h : Heap) (p : Passes ws h) (low : List Entry) (e : En
         lives = λ x m k. m;
       }
 
-  chunk-given : Given ws h p (low ++ high) (h .used - e .size) (nowUses (e .size) 0 (release low e high (asRead ws h)))
+  chunk-given : Given ws h (low ++ high) (nowUses (e .size) 0 (release low e high (asRead ws h)))
   unfolding asRead
-  chunk-given = gap-given ws h p (low ++ high) (h .used - e .size) (e .size) 0 (omega arith) low e high (asRead ws h) refl chunk-gap posts
+  chunk-given = gap-given well (e .size) 0 (omega arith) low e high (asRead ws h) refl chunk-gap posts
 
 -- the live block at b is given back
 module _ (ws : List ℕ) (h : Heap) (p : Passes ws h) (b : ℕ) (l : isLive (asRead ws h) b ≡ true) where
   abbrev s : Spot
   s = blockSpot (asRead ws h) b
 
-  split : shape ws (h .bytes) ≡ s .low ++ s .here ∷ s .high
-  split = splits ws h p b l .0
-
-  is-live : live h (s .here) ≡ true
-  is-live = splits ws h p b l .1
+  abbrev chunk : LiveChunk ws h (s .low) (s .here) (s .high)
+  chunk = live-chunk ws h p b l
 
   -- chunks of other blocks
   pub others-outer : (e : Entry) → Mem e (shape ws (h .bytes)) → blockOf e ≢ b → Mem e (s .low ++ s .high)
   others-outer e m n =
-      opened.outer ws h p (s .low) (s .here) (s .high) split (between ws h p (s .low) (s .here) (s .high) split is-live) e m
+      opened.outer ws h p (s .low) (s .here) (s .high) (chunk .split) (between chunk) e m
       (λ q. n (ap (λ (c : ℕ). c + 8) q ∙ splits ws h p b l .2))
 
   pub outer-others : (e : Entry) → Mem e (s .low ++ s .high) → Mem e (shape ws (h .bytes)) × (blockOf e ≢ b)
   outer-others e m =
-      let k = between ws h p (s .low) (s .here) (s .high) split is-live in (
-        subst (λ (es : List Entry). Mem e es) (sym (opened.whole ws h p (s .low) (s .here) (s .high) split k)) (outer-in (s .low) (s .here ∷ []) (s .high) m),
-        λ q. opened.elsewhere ws h p (s .low) (s .here) (s .high) split k e m (omega (arith, splits ws h p b l .2)),
+      let k = between chunk in (
+        subst (λ (es : List Entry). Mem e es) (sym (opened.whole ws h p (s .low) (s .here) (s .high) (chunk .split) k)) (outer-in (s .low) (s .here ∷ []) (s .high) m),
+        λ q. opened.elsewhere ws h p (s .low) (s .here) (s .high) (chunk .split) k e m (omega (arith, splits ws h p b l .2)),
       )
 
-  free-given : Given ws h p (s .low ++ s .high) (h .used - s .here .size) (freeBlock b (asRead ws h))
+  free-given : Given ws h (s .low ++ s .high) (freeBlock b (asRead ws h))
   unfolding freeBlock
-  free-given = chunk-given ws h p (s .low) (s .here) (s .high) split is-live
+  free-given = chunk-given chunk
 
   pub free-kept : Pictured ws (freeBlock b (asRead ws h))
   free-kept = free-given .pictured

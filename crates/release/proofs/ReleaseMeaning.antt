@@ -6,15 +6,14 @@ use mathlib.Core.List.{List, [], _∷_, _++_}
 use Prim.Native.Nat.{ℕ}
 use lib.Dec.{eqb}
 use borrow.Author.Tests.{eqb-true}
-use Rattle.lists.specs.Lists.{headOr, lastOr}
+use Rattle.lists.specs.Lists.{lastOr}
 use Rattle.record.specs.declared.heap.Heap.{Heap}
 use Rattle.record.specs.Heap.{tableOf, with}
-use Rattle.region.specs.Words.{written}
 use Rattle.rules.specs.Shape.{Entry, entry, shape}
 use Rattle.rules.specs.Kinds.{live, blockOf, blockEnd, holdsBlock, outside}
 use Rattle.rules.specs.Check.{Passes}
 use Rattle.rules.specs.Draft.{Draft, asRead, Spot}
-use Rattle.rules.specs.Join.{joining, release}
+use Rattle.rules.specs.Join.{release}
 use Rattle.rules.specs.Free.{isLive, blockSpot}
 use Rattle.rules.proofs.SpotLaws.{spot-splits}
 use Rattle.bins.specs.Books.{books}
@@ -24,25 +23,24 @@ use Rattle.seek.proofs.SeekLaws.{sought-spot, sought-block}
 use Rattle.release.specs.declared.Joined.{Joined}
 use Rattle.release.specs.Release.{joinM, giveBackM}
 use Rattle.settling.specs.Settling.{donorAfter, topAfter}
-use Rattle.settling.proofs.DraftLaws.{begins}
-use Rattle.release.proofs.JoinMeaning.{Agrees, chunkJoined, sides, chunk-joins, chunk-lies}
+use Rattle.settling.proofs.DraftLaws.{booksOf, begins}
+use Rattle.release.proofs.JoinMeaning.{LiveChunk, chunkJoined, sides, chunk-joins, chunk-lies}
 use Rattle.release.proofs.GivingMeaning.{Released, given-back}
 
 -- by the chain taken apart at the chunk
-module _ (ws : List ℕ) (h : Heap) (p : Passes ws h) (low : List Entry) (e : Entry) (high : List Entry)
-    (split : shape ws (h .bytes) ≡ low ++ e ∷ high) (l : live h e ≡ true) where
-  pub chunk-given-back : Released ws h (books ws (h .heads) (h .tails)) (chunkJoined ws h p low e high split l) (lastOr outside low .place) (blockEnd e)
+module _ {ws : List ℕ} {h : Heap} {low : List Entry} {e : Entry} {high : List Entry} (chunk : LiveChunk ws h low e high) where
+  pub chunk-given-back : Released ws h (books ws (h .heads) (h .tails)) (chunkJoined chunk) (lastOr outside low .place) (blockEnd e)
       (release low e high (asRead ws h))
   unfolding release asRead
   chunk-given-back =
-      given-back ws h p (asRead ws h) (begins ws h p) (λ i x m. m) (e .place) (lastOr outside low) (headOr outside high)
-      (chunkJoined ws h p low e high split l) (chunk-lies ws h p low e high split l) (joining h low e high) (chunk-joins ws h p low e high split l)
-      (blockEnd e) (sides ws h p low e high split l .abovePlace)
+      given-back (chunk .well) (begins ws h (chunk .well)) (λ i x m. m) (chunk-lies chunk) (chunk-joins chunk) (sides chunk .abovePlace)
 
+-- below the first chunk is nothing, at 0, for the walk as for the rules
 last-place : (low : List Entry) → lastOr (entry 0 0 0) low .place ≡ lastOr outside low .place
 last-place [] = refl
 last-place (x ∷ xs) = refl
 
+-- both tests of a live block have held
 is-live : (t u : Bool) → cond t u false ≡ true → (t ≡ true) × (u ≡ true)
 is-live true u q = (refl, q)
 is-live false u q = absurd (false≢true q)
@@ -60,6 +58,7 @@ module _ (ws : List ℕ) (h : Heap) (p : Passes ws h) (b : ℕ) (l : isLive (asR
   abbrev pub after : Draft
   after = release (place .low) (place .here) (place .high) (asRead ws h)
 
+  -- where the chain is taken apart: at the chunk of the block
   pub splits : (shape ws (h .bytes) ≡ place .low ++ place .here ∷ place .high) × (live h (place .here) ≡ true) × (blockOf (place .here) ≡ b)
   unfolding asRead
   splits =
@@ -74,24 +73,20 @@ module _ (ws : List ℕ) (h : Heap) (p : Passes ws h) (b : ℕ) (l : isLive (asR
       sought-block h b 0 (shape ws (h .bytes)) ∙ sought-spot (holdsBlock h b) 0 (shape ws (h .bytes)) l
       ∙ ap (λ (c : ℕ). Found (placed c (place .here))) (last-place (place .low))
 
-  pub join-is : Agrees (joining h (place .low) (place .here) (place .high)) (lastOr outside (place .low)) (headOr outside (place .high)) joined
-  join-is = chunk-joins ws h p (place .low) (place .here) (place .high) (splits .0) (splits .1)
+  pub live-chunk : LiveChunk ws h (place .low) (place .here) (place .high)
+  live-chunk = record { well = p; split = splits .0; live = splits .1 }
 
   released : Released ws h (books ws (h .heads) (h .tails)) joined (lastOr outside (place .low) .place) (blockEnd (place .here)) after
-  released = chunk-given-back ws h p (place .low) (place .here) (place .high) (splits .0) (splits .1)
+  released = chunk-given-back live-chunk
 
   pub give-back-is : giveBackM (books ws (h .heads) (h .tails)) (tableOf h) joined (lastOr outside (place .low) .place) (blockEnd (place .here))
-      ≡ books (written ws (after .stores)) (after .heap .heads) (after .heap .tails)
+      ≡ booksOf ws after
   give-back-is = released .is
 
   -- of the record only the bins' ends, the donor and the top change
   pub after-heap : after .heap
       ≡ with h (after .heap .heads) (after .heap .tails) (donorAfter (joined .becomes) (joined .chunk .0) (h .donor .0)) (topAfter (joined .becomes) (joined .chunk .0) (h .top .0)) (h .merge) (h .used)
   after-heap = released .heap
-
-  pub after-ends : (after .heap .donor .0 ≡ donorAfter (joined .becomes) (joined .chunk .0) (h .donor .0))
-      × (after .heap .top .0 ≡ topAfter (joined .becomes) (joined .chunk .0) (h .top .0))
-  after-ends = (ap (λ (x : Heap). x .donor .0) after-heap, ap (λ (x : Heap). x .top .0) after-heap)
 
   pub housed : after .homeless ≡ false
   housed = released .housed

@@ -1,10 +1,10 @@
--- Giving back and shrinking write no word of another live block, shrinking none of the kept part (`free-spares`, `shrink-spares`, `shrink-spares-own`),
+-- Giving back and chunk-shrinks write no word of another live block, chunk-shrinks none of the kept part (`free-spares`, `shrink-spares`, `shrink-spares-own`),
 -- and neither writes past the heap bytes. Assumes nothing.
 use mathlib.Core.Path.{_≡_, refl, ap}
 use mathlib.Core.Logic.{_≢_}
 use mathlib.Core.Bool.{Bool, true, false, cond, false≢true}
 use mathlib.Core.List.{List, [], _∷_, _++_, List·Memᴰ·head, List·Memᴰ·eq-of-singleton, Memᴰ·append-left}
-use Prim.Native.Nat.{ℕ, _+_, _*_, _/_, _%_, _≤_, _<_}
+use Prim.Native.Nat.{ℕ, _+_, _*_, _/_, _≤_, _<_}
 use native.Mathlib.Omega.{arith}
 use lib.ListN.{drop}
 use Rattle.lists.specs.Lists.{Mem, headOr, lastOr}
@@ -20,20 +20,20 @@ use Rattle.rules.specs.Check.{Passes}
 use Rattle.rules.specs.Draft.{Draft, Spot, asRead, leaveBin}
 use Rattle.rules.specs.Join.{Joined, leaveBins, release}
 use Rattle.rules.specs.Free.{isLive, blockSpot, freeBlock}
-use Rattle.rules.specs.Reallocate.{shrunk}
 use Rattle.rules.proofs.SpotLaws.{one-chunk, live-between}
 use Rattle.rules.proofs.KindsLaws.{ordinary-free}
 use Rattle.settling.proofs.LayoutLaws.{Layout}
 use Rattle.settling.proofs.OpenLaws as opened
 use Rattle.settling.proofs.SparesLaws.{Outside, link-word, free-word, Spared, read-spared, writes-spared, leave-spared, relink-spared, settle-spared, uses-spared, blocks-spared, heap-stores}
-use Rattle.release.proofs.JoinMeaning.{sees, joinedBy, sees-ordinary, here, own, seen-free, summit}
-use Rattle.release.proofs.ReleaseMeaning.{splits}
+use Rattle.release.proofs.JoinMeaning.{LiveChunk, sees, joinedBy, sees-ordinary, here, own, seen-free, summit}
+use Rattle.release.proofs.ReleaseMeaning.{splits, live-chunk}
 use Rattle.release.proofs.TailMeaning.{keptChunk, tailChunk, splitDraft}
 use Rattle.release.proofs.GapLaws.{filling}
 use Rattle.release.proofs.GapKept.{release-is}
 use Rattle.release.proofs.ReleaseKept.{filled, others-outer}
-use Rattle.release.proofs.ShrinkKept.{split-laid}
+use Rattle.release.proofs.ShrinkKept.{ShrinkingBlock, shrunken, chunk-shrinks, split-laid}
 
+-- chunks that leave their bins one after the other
 leaves-spared : (P : ℕ → Type 0) (es : List Entry) (d : Draft) → Spared P d → Spared P (leaveBins es d)
 leaves-spared P [] d s = s
 leaves-spared P (e ∷ es) d s = leaves-spared P es (leaveBin e d) (leave-spared P e d s)
@@ -45,9 +45,11 @@ last-there h [] o = absurd (false≢true o)
 last-there h (x ∷ xs) o = last-member x xs
 
 -- the chunk e of a live block, at which the chain is taken apart; `part`, above the chunks `lows`, is given back of it
-module _ (ws : List ℕ) (h : Heap) (p : Passes ws h) (low : List Entry) (e : Entry) (high : List Entry)
-    (split : shape ws (h .bytes) ≡ low ++ e ∷ high) (l : live h e ≡ true) (lows : List Entry) (part : Entry)
+module _ {ws : List ℕ} {h : Heap} {low : List Entry} {e : Entry} {high : List Entry} (chunk : LiveChunk ws h low e high) (lows : List Entry) (part : Entry)
     (y : Layout (h .bytes) (lows ++ filling (part .place) (blockEnd part) ∷ [] ++ high)) (sub : (x : Entry) → Mem x (low ++ high) → Mem x (lows ++ high)) where
+  abbrev well : Passes ws h
+  well = chunk .well
+
   abbrev fill : Entry
   fill = filling (part .place) (blockEnd part)
 
@@ -72,19 +74,19 @@ module _ (ws : List ℕ) (h : Heap) (p : Passes ws h) (low : List Entry) (e : En
       free-word (h .bytes) all y x m f (x .place) k z (omega arith) (omega (arith, i .free f .1))
 
   other : (x : Entry) → Mem x (shape ws (h .bytes)) → x .place ≢ e .place → Mem x all
-  other x m n = stays x (opened.outer ws h p low e high split (own ws h p low e high split l .1) x m n)
+  other x m n = stays x (opened.outer ws h well low e high (chunk .split) (own chunk .1) x m n)
 
   read-free : Spared Open (asRead ws h)
   read-free =
-      read-spared Open ws h p
+      read-spared Open ws h well
       (λ x m f.
       let k = other x m (λ q. away x m f q) in
       (free-words x k f 3 (omega arith), free-words x k f 4 (omega arith)))
     where
       away : (x : Entry) → Mem x (shape ws (h .bytes)) → x .flags ≡ 0 → x .place ≡ e .place → ⊥
       away x m f q =
-          let s = ap (λ (d : Entry). d .flags) (one-chunk ws h p x e m (here ws h p low e high split l) q) in
-          omega (arith, own ws h p low e high split l .0)
+          let s = ap (λ (d : Entry). d .flags) (one-chunk ws h well x e m (here chunk) q) in
+          omega (arith, own chunk .0)
 
   -- where the result begins, and the chunk above it
   from-words : (t : Bool) → (t ≡ true → ordinary h below ≡ true) → (k : ℕ) → k < 6 → Open (cond t (below .place) (part .place) / 4 + k)
@@ -95,8 +97,8 @@ module _ (ws : List ℕ) (h : Heap) (p : Passes ws h) (low : List Entry) (e : En
 
   end-link : (t : Bool) → (t ≡ true → isFree h (headOr outside high) ≡ true) → Open (headOr outside (cond t (drop 1 high) high) .place / 4 + backward)
   end-link t f =
-      let s = summit ws h p low e high split l t f in
-      let b = own ws h p low e high split l .1 in
+      let s = summit chunk t f in
+      let b = own chunk .1 in
       link-word (h .bytes) all y _ (other _ (s .member) (λ q. omega (arith, s .place, s .up))) 1 (omega arith)
 
   abbrev joined : Joined
@@ -109,7 +111,7 @@ module _ (ws : List ℕ) (h : Heap) (p : Passes ws h) (low : List Entry) (e : En
       (settle-spared Open (joined .here) _
       (relink-spared Open (joined .low) (joined .here ∷ []) (joined .high) _ (leaves-spared Open (joined .leaving) d s)
       (λ x m. rw (List·Memᴰ·eq-of-singleton m) (words 0 (omega arith), words 1 (omega arith), λ f. words 2 (omega arith)))
-      (end-link (freeKind (sees h (headOr outside high))) (seen-free ws h p low e high split l)))
+      (end-link (freeKind (sees h (headOr outside high))) (seen-free chunk)))
       (words 3 (omega arith), words 4 (omega arith), words 5 (omega arith)) (joined .becomes))
 
 -- the live block at b is given back
@@ -117,11 +119,8 @@ module _ (ws : List ℕ) (h : Heap) (p : Passes ws h) (b : ℕ) (l : isLive (asR
   abbrev s : Spot
   s = blockSpot (asRead ws h) b
 
-  split : shape ws (h .bytes) ≡ s .low ++ s .here ∷ s .high
-  split = splits ws h p b l .0
-
-  is-live : live h (s .here) ≡ true
-  is-live = splits ws h p b l .1
+  abbrev chunk : LiveChunk ws h (s .low) (s .here) (s .high)
+  chunk = live-chunk ws h p b l
 
   abbrev freed : List Entry
   freed = s .low ++ filling (s .here .place) (blockEnd (s .here)) ∷ [] ++ s .high
@@ -130,10 +129,10 @@ module _ (ws : List ℕ) (h : Heap) (p : Passes ws h) (b : ℕ) (l : isLive (asR
   unfolding freeBlock asRead
   free-spared =
       uses-spared (Outside (h .bytes) freed) (s .here .size) 0 (release (s .low) (s .here) (s .high) (asRead ws h))
-      (released-spared ws h p (s .low) (s .here) (s .high) split is-live (s .low) (s .here)
-      (filled ws h p (s .low) (s .here) (s .high) split is-live) (λ x m. m) (asRead ws h) refl
-      (read-free ws h p (s .low) (s .here) (s .high) split is-live (s .low) (s .here)
-      (filled ws h p (s .low) (s .here) (s .high) split is-live) (λ x m. m)))
+      (released-spared chunk (s .low) (s .here)
+      (filled chunk) (λ x m. m) (asRead ws h) refl
+      (read-free chunk (s .low) (s .here)
+      (filled chunk) (λ x m. m)))
 
   -- the word at index i is inside the live block of e
   pub free-spares : (e : Entry) → Mem e (shape ws (h .bytes)) → live h e ≡ true → blockOf e ≢ b → (i : ℕ) → blockOf e ≤ 4 * i → 4 * i < blockEnd e
@@ -145,46 +144,49 @@ module _ (ws : List ℕ) (h : Heap) (p : Passes ws h) (b : ℕ) (l : isLive (asR
   pub free-inside : Below (h .bytes / 4) (freeBlock b (asRead ws h) .stores)
   free-inside = heap-stores (h .bytes) freed (freeBlock b (asRead ws h)) free-spared
 
-  -- the block keeps n bytes of its chunk
-  module _ (n : ℕ) (some : 24 ≤ n) (eights : n % 8 ≡ 0) (less : n + 24 ≤ blockSpot (asRead ws h) b .here .size) where
-    abbrev whole : Entry
-    whole = keptChunk ws h p (s .low) (s .here) (s .high) split is-live n some eights less
+-- the live block at b keeps n bytes of its chunk
+module _ {ws : List ℕ} {h : Heap} {b n : ℕ} (shrinks : ShrinkingBlock ws h b n) where
+  abbrev old : Spot
+  old = blockSpot (asRead ws h) b
 
-    abbrev part : Entry
-    part = tailChunk ws h p (s .low) (s .here) (s .high) split is-live n some eights less
+  abbrev kept : Entry
+  kept = keptChunk (chunk-shrinks shrinks)
 
-    abbrev parted : List Entry
-    parted = s .low ++ whole ∷ [] ++ filling (part .place) (blockEnd part) ∷ [] ++ s .high
+  abbrev part : Entry
+  part = tailChunk (chunk-shrinks shrinks)
 
-    laid : Layout (h .bytes) parted
-    laid = split-laid ws h p (s .low) (s .here) (s .high) split is-live n some eights less
+  abbrev parted : List Entry
+  parted = old .low ++ kept ∷ [] ++ filling (part .place) (blockEnd part) ∷ [] ++ old .high
 
-    whole-in : Mem whole parted
-    whole-in = Memᴰ·append-left (s .high) (middle-in (s .low) (whole ∷ []) (filling (part .place) (blockEnd part) ∷ []) (List·Memᴰ·head refl))
+  laid : Layout (h .bytes) parted
+  laid = split-laid (chunk-shrinks shrinks)
 
-    shrink-spared : Spared (Outside (h .bytes) parted) (shrunk s n (asRead ws h) .draft)
-    unfolding asRead
-    shrink-spared =
-        uses-spared (Outside (h .bytes) parted) (s .here .size) n (release (s .low ++ whole ∷ []) part (s .high) _)
-        (released-spared ws h p (s .low) (s .here) (s .high) split is-live (s .low ++ whole ∷ []) part
-        laid (λ x m. outer-in (s .low) (whole ∷ []) (s .high) m) (splitDraft ws h p (s .low) (s .here) (s .high) split is-live n some eights less) refl
-        (writes-spared (Outside (h .bytes) parted) _ (asRead ws h)
-        (read-free ws h p (s .low) (s .here) (s .high) split is-live (s .low ++ whole ∷ []) part
-        laid (λ x m. outer-in (s .low) (whole ∷ []) (s .high) m))
-        (link-word (h .bytes) parted laid whole whole-in 0 (omega arith), tt)))
+  kept-in : Mem kept parted
+  kept-in = Memᴰ·append-left (old .high) (middle-in (old .low) (kept ∷ []) (filling (part .place) (blockEnd part) ∷ []) (List·Memᴰ·head refl))
 
-    pub shrink-spares : (e : Entry) → Mem e (shape ws (h .bytes)) → live h e ≡ true → blockOf e ≢ b → (i : ℕ) → blockOf e ≤ 4 * i → 4 * i < blockEnd e
-        → Off i (shrunk (blockSpot (asRead ws h) b) n (asRead ws h) .draft .stores)
-    shrink-spares e m k o =
-        blocks-spared (h .bytes) parted (shrunk s n (asRead ws h) .draft) shrink-spared e
-        (outer-in (s .low ++ whole ∷ []) (filling (part .place) (blockEnd part) ∷ []) (s .high) (outer-in (s .low) (whole ∷ []) (s .high) (others-outer ws h p b l e m o)))
-        (live-between ws h p e m k .0)
+  shrink-spared : Spared (Outside (h .bytes) parted) (shrunken shrinks .draft)
+  unfolding asRead
+  shrink-spared =
+      uses-spared (Outside (h .bytes) parted) (old .here .size) n (release (old .low ++ kept ∷ []) part (old .high) _)
+      (released-spared (chunk-shrinks shrinks .chunk) (old .low ++ kept ∷ []) part
+      laid (λ x m. outer-in (old .low) (kept ∷ []) (old .high) m) (splitDraft (chunk-shrinks shrinks)) refl
+      (writes-spared (Outside (h .bytes) parted) _ (asRead ws h)
+      (read-free (chunk-shrinks shrinks .chunk) (old .low ++ kept ∷ []) part
+      laid (λ x m. outer-in (old .low) (kept ∷ []) (old .high) m))
+      (link-word (h .bytes) parted laid kept kept-in 0 (omega arith), tt)))
 
-    -- nor is a word of the kept part written
-    pub shrink-spares-own : (i : ℕ) → b ≤ 4 * i → 4 * i < blockSpot (asRead ws h) b .here .place + n
-        → Off i (shrunk (blockSpot (asRead ws h) b) n (asRead ws h) .draft .stores)
-    shrink-spares-own i lo hi =
-        blocks-spared (h .bytes) parted (shrunk s n (asRead ws h) .draft) shrink-spared whole whole-in refl i (omega (arith, splits ws h p b l .2)) hi
+  pub shrink-spares : (e : Entry) → Mem e (shape ws (h .bytes)) → live h e ≡ true → blockOf e ≢ b → (i : ℕ) → blockOf e ≤ 4 * i → 4 * i < blockEnd e
+      → Off i (shrunken shrinks .draft .stores)
+  shrink-spares e m k o =
+      blocks-spared (h .bytes) parted (shrunken shrinks .draft) shrink-spared e
+      (outer-in (old .low ++ kept ∷ []) (filling (part .place) (blockEnd part) ∷ []) (old .high) (outer-in (old .low) (kept ∷ []) (old .high) (others-outer ws h (shrinks .well) b (shrinks .live) e m o)))
+      (live-between ws h (shrinks .well) e m k .0)
 
-    pub shrink-inside : Below (h .bytes / 4) (shrunk (blockSpot (asRead ws h) b) n (asRead ws h) .draft .stores)
-    shrink-inside = heap-stores (h .bytes) parted (shrunk s n (asRead ws h) .draft) shrink-spared
+  -- nor is a word of the kept part written
+  pub shrink-spares-own : (i : ℕ) → b ≤ 4 * i → 4 * i < blockSpot (asRead ws h) b .here .place + n
+      → Off i (shrunken shrinks .draft .stores)
+  shrink-spares-own i lo hi =
+      blocks-spared (h .bytes) parted (shrunken shrinks .draft) shrink-spared kept kept-in refl i (omega (arith, splits ws h (shrinks .well) b (shrinks .live) .2)) hi
+
+  pub shrink-inside : Below (h .bytes / 4) (shrunken shrinks .draft .stores)
+  shrink-inside = heap-stores (h .bytes) parted (shrunken shrinks .draft) shrink-spared

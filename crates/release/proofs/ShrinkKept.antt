@@ -28,22 +28,27 @@ use Rattle.settling.proofs.HalfwayLaws.{now, Halfway, Passing, halfway-fewer, w
 use Rattle.settling.proofs.SettleLaws.{settles-all}
 use Rattle.settling.proofs.OpenLaws as opened
 use Rattle.settling.proofs.PictureLaws.{Pictured, Posts, posts-in, used-replaced}
-use Rattle.release.proofs.JoinMeaning.{own}
-use Rattle.release.proofs.ReleaseMeaning.{splits}
-use Rattle.release.proofs.TailMeaning.{keptChunk, tailChunk, splitDraft}
+use Rattle.release.proofs.JoinMeaning.{LiveChunk, own}
+use Rattle.release.proofs.ReleaseMeaning.{splits, live-chunk}
+use Rattle.release.proofs.TailMeaning.{ShrinkingChunk, keptChunk, tailChunk, splitDraft}
 use Rattle.release.proofs.GapLaws.{filling, Gap}
-use Rattle.release.proofs.GapKept.{Given, gap-given}
+use Rattle.release.proofs.GapFilled.{Given}
+use Rattle.release.proofs.GapKept.{gap-given}
 use Rattle.release.proofs.ReleaseKept.{laid-out, opens, posts, used-with, own-used, others-outer, outer-others}
 
 -- the chunk e of a live block, at which the chain is taken apart, keeps n bytes
-module _ (ws : List ℕ) (h : Heap) (p : Passes ws h) (low : List Entry) (e : Entry) (high : List Entry)
-    (split : shape ws (h .bytes) ≡ low ++ e ∷ high) (l : live h e ≡ true)
-    (n : ℕ) (some : 24 ≤ n) (eights : n % 8 ≡ 0) (less : n + 24 ≤ e .size) where
+module _ {ws : List ℕ} {h : Heap} {low : List Entry} {e : Entry} {high : List Entry} {n : ℕ} (shrinks : ShrinkingChunk ws h low e high n) where
+  abbrev chunk : LiveChunk ws h low e high
+  chunk = shrinks .chunk
+
+  abbrev well : Passes ws h
+  well = chunk .well
+
   abbrev kept : Entry
-  kept = keptChunk ws h p low e high split l n some eights less
+  kept = keptChunk shrinks
 
   abbrev tail : Entry
-  tail = tailChunk ws h p low e high split l n some eights less
+  tail = tailChunk shrinks
 
   abbrev fill : Entry
   fill = filling (tail .place) (blockEnd tail)
@@ -53,16 +58,16 @@ module _ (ws : List ℕ) (h : Heap) (p : Passes ws h) (low : List Entry) (e : En
   splitStores = put (kept .place) forward (blockEnd kept) ∷ []
 
   abbrev begun : Draft
-  begun = splitDraft ws h p low e high split l n some eights less
+  begun = splitDraft shrinks
 
   between : Between h e
-  between = own ws h p low e high split l .1
+  between = own chunk .1
 
   in-use : e .flags ≡ 1
-  in-use = own ws h p low e high split l .0
+  in-use = own chunk .0
 
   all-laid : Layout (h .bytes) (low ++ e ∷ [] ++ high)
-  all-laid = laid-out ws h p low e high split l
+  all-laid = laid-out chunk
 
   own-laid : Laid (h .bytes) e
   own-laid = all-laid .chunks e (middle-in low (e ∷ []) high (List·Memᴰ·head refl))
@@ -71,7 +76,7 @@ module _ (ws : List ℕ) (h : Heap) (p : Passes ws h) (low : List Entry) (e : En
   kept-laid =
       let b = between in
       let z = own-laid .eight in
-      laid-between (h .bytes) kept z (omega arith) (omega arith) some (omega arith)
+      laid-between (h .bytes) kept z (omega arith) (omega arith) (shrinks .large) (omega arith)
 
   -- what is above the kept chunk, in use or free
   rest-laid : (s f : ℕ) → s ≡ e .size - n → f ≤ 1 → Laid (h .bytes) (entry (e .place + n) s f)
@@ -83,7 +88,7 @@ module _ (ws : List ℕ) (h : Heap) (p : Passes ws h) (low : List Entry) (e : En
   parted : (s f : ℕ) → s ≡ e .size - n → f ≤ 1 → Layout (h .bytes) (low ++ kept ∷ entry (e .place + n) s f ∷ [] ++ high)
   parted s f q u =
       layout-replaced (h .bytes) low (e ∷ []) (kept ∷ entry (e .place + n) s f ∷ []) high all-laid
-      (opened.lows ws h p low e high split between) (opened.highs ws h p low e high split between)
+      (opened.lows ws h well low e high (chunk .split) between) (opened.highs ws h well low e high (chunk .split) between)
       (λ a b t. (t .0, omega arith, (refl, omega arith, omega (arith, t .2)))) laid
     where
       laid : (x : Entry) → Mem x (kept ∷ entry (e .place + n) s f ∷ []) → Laid (h .bytes) x
@@ -92,7 +97,7 @@ module _ (ws : List ℕ) (h : Heap) (p : Passes ws h) (low : List Entry) (e : En
 
   -- the stored word is none of another chunk's header
   beside : (x : Entry) → Mem x (low ++ high) → Beside x e
-  beside = opened.beside ws h p low e high split between
+  beside = opened.beside ws h well low e high (chunk .split) between
 
   outer-laid : (x : Entry) → Mem x (low ++ high) → Laid (h .bytes) x
   outer-laid x m = all-laid .chunks x (outer-in low (e ∷ []) high m)
@@ -118,7 +123,7 @@ module _ (ws : List ℕ) (h : Heap) (p : Passes ws h) (low : List Entry) (e : En
   split-halfway : Halfway ws h (low ++ high) begun
   unfolding asRead
   split-halfway =
-      writes-halfway ws h (low ++ high) (shape ws (h .bytes)) (asRead ws h) splitStores splitStores (opens ws h p low e high split l .halfway) refl
+      writes-halfway ws h (low ++ high) (shape ws (h .bytes)) (asRead ws h) splitStores splitStores (opens chunk .halfway) refl
       outer-laid outer-passed
 
   both-halfway : Halfway ws h (low ++ kept ∷ tail ∷ [] ++ high) begun
@@ -151,9 +156,9 @@ module _ (ws : List ℕ) (h : Heap) (p : Passes ws h) (low : List Entry) (e : En
   -- the kept chunk's header reaches up to the tail
   kept-header : Header (written ws splitStores) (lastOr outside low) kept fill
   kept-header =
-      let r = opened.headers-read ws h p low e high split between .1 in
+      let r = opened.headers-read ws h well low e high (chunk .split) between .1 in
       let b = between in
-      let f = bounds ws h p .fits in
+      let f = bounds ws h well .fits in
       let u = in-use in
       record {
         back = word-other ws (e .place) forward (e .place + n) (e .place) backward (omega arith) ∙ r .back ∙ ap (λ (v : ℕ). lastOr outside low .place + v) u;
@@ -165,12 +170,12 @@ module _ (ws : List ℕ) (h : Heap) (p : Passes ws h) (low : List Entry) (e : En
   split-lower =
       headed-joined (written ws splitStores) outside low (kept ∷ []) fill
       (headed-below (written ws splitStores) outside low e kept refl
-      (headed-keeps splitStores ws outside low e (λ x m. outer-spared x (Memᴰ·append-left high m)) (opened.headers-read ws h p low e high split between .0)))
+      (headed-keeps splitStores ws outside low e (λ x m. outer-spared x (Memᴰ·append-left high m)) (opened.headers-read ws h well low e high (chunk .split) between .0)))
       (kept-header, tt)
 
   split-upper : Headed (written ws splitStores) e high outside
   split-upper =
-      headed-keeps splitStores ws e high outside (λ x m. outer-spared x (Memᴰ·append-right low m)) (opened.headers-read ws h p low e high split between .2)
+      headed-keeps splitStores ws e high outside (λ x m. outer-spared x (Memᴰ·append-right low m)) (opened.headers-read ws h well low e high (chunk .split) between .2)
 
   split-opened : Opened ws h (low ++ kept ∷ []) fill e high begun
   unfolding asRead
@@ -191,55 +196,64 @@ module _ (ws : List ℕ) (h : Heap) (p : Passes ws h) (low : List Entry) (e : En
   split-used =
       let r = used-replaced h h low (e ∷ []) (kept ∷ fill ∷ []) high (λ x m. refl) in
       let a : usedBytes h (kept ∷ fill ∷ []) ≡ n = rw (kept-live, free-not-live h fill refl) (add-zero n) in
-      let b = own-used ws h p low e high split l in
-      let c = used-with ws h p low e high split l in
+      let b = own-used chunk in
+      let c = used-with chunk in
       let s : usedBytes h (low ++ kept ∷ fill ∷ [] ++ high) ≡ h .used + n - e .size = omega arith in
       ap (λ (es : List Entry). usedBytes h (es ++ high)) (append-assoc low (kept ∷ []) (fill ∷ [])) ∙ s
 
-  tail-gap : Gap ws h p (low ++ kept ∷ [] ++ high) (h .used + n - e .size) (low ++ kept ∷ []) (tail .place) (blockEnd tail) high begun
+  tail-gap : Gap ws h (low ++ kept ∷ [] ++ high) (h .used + n - e .size) (low ++ kept ∷ []) (tail .place) (blockEnd tail) high begun
   tail-gap =
       record { layout = split-laid; last = e; opened = split-opened; used = split-used; some = λ x m. m; lives = λ x m k. m }
 
   split-posts : Posts h (low ++ kept ∷ [] ++ high)
-  split-posts = posts-in h (low ++ high) (low ++ kept ∷ [] ++ high) (λ x m. outer-in low (kept ∷ []) high m) (posts ws h p low e high split l)
+  split-posts = posts-in h (low ++ high) (low ++ kept ∷ [] ++ high) (λ x m. outer-in low (kept ∷ []) high m) (posts chunk)
 
-  tail-given : Given ws h p (low ++ kept ∷ [] ++ high) (h .used + n - e .size) (nowUses (e .size) n (release (low ++ kept ∷ []) tail high begun))
+  tail-given : Given ws h (low ++ kept ∷ [] ++ high) (nowUses (e .size) n (release (low ++ kept ∷ []) tail high begun))
   unfolding asRead
   tail-given =
-      gap-given ws h p (low ++ kept ∷ [] ++ high) (h .used + n - e .size) (e .size) n refl (low ++ kept ∷ []) tail high begun refl tail-gap split-posts
+      gap-given well (e .size) n refl (low ++ kept ∷ []) tail high begun refl tail-gap split-posts
 
 -- the live block at b keeps n bytes of its chunk
-module _ (ws : List ℕ) (h : Heap) (p : Passes ws h) (b : ℕ) (l : isLive (asRead ws h) b ≡ true)
-    (n : ℕ) (some : 24 ≤ n) (eights : n % 8 ≡ 0) (less : n + 24 ≤ blockSpot (asRead ws h) b .here .size) where
+pub record ShrinkingBlock (ws : List ℕ) (h : Heap) (b n : ℕ) : Type 0 where
+  pub well : Passes ws h
+  pub live : isLive (asRead ws h) b ≡ true
+  pub large : 24 ≤ n
+  pub eight : n % 8 ≡ 0
+  pub less : n + 24 ≤ blockSpot (asRead ws h) b .here .size
+
+module _ {ws : List ℕ} {h : Heap} {b n : ℕ} (shrinks : ShrinkingBlock ws h b n) where
   abbrev s : Spot
   s = blockSpot (asRead ws h) b
 
-  abbrev shrunken : Grant
+  pub chunk-shrinks : ShrinkingChunk ws h (s .low) (s .here) (s .high) n
+  chunk-shrinks = record { chunk = live-chunk ws h (shrinks .well) b (shrinks .live); large = shrinks .large; eight = shrinks .eight; less = shrinks .less }
+
+  abbrev pub shrunken : Grant
   shrunken = shrunk s n (asRead ws h)
 
-  given : Given ws h p (s .low ++ shrunken .granted ∷ [] ++ s .high) (h .used + n - s .here .size) (shrunken .draft)
-  given = tail-given ws h p (s .low) (s .here) (s .high) (splits ws h p b l .0) (splits ws h p b l .1) n some eights less
+  given : Given ws h (s .low ++ shrunken .granted ∷ [] ++ s .high) (shrunken .draft)
+  given = tail-given chunk-shrinks
 
-  pub shrink-kept : Pictured ws (shrunk (blockSpot (asRead ws h) b) n (asRead ws h) .draft)
+  pub shrink-kept : Pictured ws (shrunken .draft)
   shrink-kept = given .pictured
 
   -- the kept chunk is a live one of the new chain
-  pub shrink-there : Mem (shrunk (blockSpot (asRead ws h) b) n (asRead ws h) .granted) (shrunk (blockSpot (asRead ws h) b) n (asRead ws h) .draft .chain)
-      × (live (shrunk (blockSpot (asRead ws h) b) n (asRead ws h) .draft .heap) (shrunk (blockSpot (asRead ws h) b) n (asRead ws h) .granted) ≡ true)
+  pub shrink-there : Mem (shrunken .granted) (shrunken .draft .chain)
+      × (live (shrunken .draft .heap) (shrunken .granted) ≡ true)
   shrink-there =
       given .stays (shrunken .granted) (middle-in (s .low) (shrunken .granted ∷ []) (s .high) (List·Memᴰ·head refl))
-      (kept-live ws h p (s .low) (s .here) (s .high) (splits ws h p b l .0) (splits ws h p b l .1) n some eights less)
+      (kept-live chunk-shrinks)
 
   -- every other live chunk stays, and no other is live then
   pub shrink-others-stay : (e : Entry) → Mem e (shape ws (h .bytes)) → live h e ≡ true → blockOf e ≢ b
-      → Mem e (shrunk (blockSpot (asRead ws h) b) n (asRead ws h) .draft .chain) × (live (shrunk (blockSpot (asRead ws h) b) n (asRead ws h) .draft .heap) e ≡ true)
+      → Mem e (shrunken .draft .chain) × (live (shrunken .draft .heap) e ≡ true)
   shrink-others-stay e m k o =
-      given .stays e (outer-in (s .low) (shrunken .granted ∷ []) (s .high) (others-outer ws h p b l e m o)) k
+      given .stays e (outer-in (s .low) (shrunken .granted ∷ []) (s .high) (others-outer ws h (shrinks .well) b (shrinks .live) e m o)) k
 
-  pub shrink-none-new : (e : Entry) → Mem e (shrunk (blockSpot (asRead ws h) b) n (asRead ws h) .draft .chain)
-      → live (shrunk (blockSpot (asRead ws h) b) n (asRead ws h) .draft .heap) e ≡ true → blockOf e ≢ b → Mem e (shape ws (h .bytes)) × (live h e ≡ true)
+  pub shrink-none-new : (e : Entry) → Mem e (shrunken .draft .chain)
+      → live (shrunken .draft .heap) e ≡ true → blockOf e ≢ b → Mem e (shape ws (h .bytes)) × (live h e ≡ true)
   shrink-none-new e m k o = let r = given .only e m k in (go (among (s .low) (shrunken .granted ∷ []) (s .high) (r .0)), r .1)
     where
       go : Mem e (s .low ++ s .high) ⊎ Mem e (shrunken .granted ∷ []) → Mem e (shape ws (h .bytes))
-      go (inl q) = outer-others ws h p b l e q .0
-      go (inr q) = absurd (o (ap blockOf (List·Memᴰ·eq-of-singleton q) ∙ splits ws h p b l .2))
+      go (inl q) = outer-others ws h (shrinks .well) b (shrinks .live) e q .0
+      go (inr q) = absurd (o (ap blockOf (List·Memᴰ·eq-of-singleton q) ∙ splits ws h (shrinks .well) b (shrinks .live) .2))

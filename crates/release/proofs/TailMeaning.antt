@@ -13,8 +13,8 @@ use Rattle.record.specs.declared.kinds.Kind.the-variants.{InUse}
 use Rattle.record.specs.Heap.{tableOf, with}
 use Rattle.region.specs.Words.{Store, put, word, written, forward, backward, nextInBin, previousInBin, bin}
 use Rattle.region.proofs.WordsLaws.{Off, off}
-use Rattle.rules.specs.Shape.{Entry, entry, flagsAt, shape, binList}
-use Rattle.rules.specs.Kinds.{freeKind, live, used, blockEnd, outside}
+use Rattle.rules.specs.Shape.{Entry, entry, flagsAt, binList}
+use Rattle.rules.specs.Kinds.{freeKind, used, blockEnd, outside}
 use Rattle.rules.specs.Check.{Passes}
 use Rattle.rules.specs.Draft.{Draft, asRead, alsoWrites}
 use Rattle.rules.specs.Join.{joining, release}
@@ -23,19 +23,31 @@ use Rattle.rules.proofs.SpotLaws.{inside}
 use Rattle.bins.specs.Books.{books}
 use Rattle.bins.proofs.WayLaws.{way-keeps}
 use Rattle.settling.specs.Settling.{donorAfter, topAfter}
-use Rattle.settling.proofs.DraftLaws.{Follows, begins}
+use Rattle.settling.proofs.DraftLaws.{booksOf, Follows, begins}
 use Rattle.release.specs.declared.Joined.{Joined}
 use Rattle.release.specs.Release.{neighbourM, joinedM, joinM, giveBackM}
-use Rattle.release.proofs.JoinMeaning.{Agrees, Lies, sees, joining-sees, here, own, sides, neighbour-is, seen-free, seen-above, part-far, part-joins, part-lies}
+use Rattle.release.proofs.JoinMeaning.{Agrees, Lies, LiveChunk, sees, joining-sees, here, own, sides, neighbour-is, seen-free, seen-above, part-far, part-joins, part-lies}
 use Rattle.release.proofs.GivingMeaning.{Released, given-back}
 
+-- a chunk in use is seen as one, with merging or without
 in-use-seen : (t : Bool) → cond t InUse InUse ≡ InUse
 in-use-seen true = refl
 in-use-seen false = refl
 
-module _ (ws : List ℕ) (h : Heap) (p : Passes ws h) (low : List Entry) (e : Entry) (high : List Entry)
-    (split : shape ws (h .bytes) ≡ low ++ e ∷ high) (l : live h e ≡ true)
-    (n : ℕ) (some : 24 ≤ n) (eights : n % 8 ≡ 0) (less : n + 24 ≤ e .size) where
+-- the chunk e of a live block keeps n bytes, and its tail is large enough for a chunk
+pub record ShrinkingChunk (ws : List ℕ) (h : Heap) (low : List Entry) (e : Entry) (high : List Entry) (n : ℕ) : Type 0 where
+  pub chunk : LiveChunk ws h low e high
+  pub large : 24 ≤ n
+  pub eight : n % 8 ≡ 0
+  pub less : n + 24 ≤ e .size
+
+module _ {ws : List ℕ} {h : Heap} {low : List Entry} {e : Entry} {high : List Entry} {n : ℕ} (shrinks : ShrinkingChunk ws h low e high n) where
+  abbrev chunk : LiveChunk ws h low e high
+  chunk = shrinks .chunk
+
+  abbrev well : Passes ws h
+  well = chunk .well
+
   abbrev pub keptChunk : Entry
   keptChunk = entry (e .place) n used
 
@@ -63,7 +75,7 @@ module _ (ws : List ℕ) (h : Heap) (p : Passes ws h) (low : List Entry) (e : En
   above = headOr outside high
 
   place-eight : e .place % 8 ≡ 0
-  place-eight = inside ws h p e (here ws h p low e high split l) .place
+  place-eight = inside ws h well e (here chunk) .place
 
   -- no chunk's flags stand in the word that was stored
   flags-stand : (c : ℕ) → c % 8 ≡ 0 → flagsAt splitWords c ≡ flagsAt ws c
@@ -72,7 +84,7 @@ module _ (ws : List ℕ) (h : Heap) (p : Passes ws h) (low : List Entry) (e : En
       ap (λ (v : ℕ). v % 8) (off splitStores ws c backward (omega arith))
 
   end-eight : blockEnd e % 8 ≡ 0
-  end-eight = let i = inside ws h p e (here ws h p low e high split l) in omega arith
+  end-eight = let i = inside ws h well e (here chunk) in omega arith
 
   neighbour-stands : (c : ℕ) → c % 8 ≡ 0 → neighbourM splitWords (h .bytes) (h .donor .0) (h .top .0) (h .merge) c
       ≡ neighbourM ws (h .bytes) (h .donor .0) (h .top .0) (h .merge) c
@@ -82,15 +94,15 @@ module _ (ws : List ℕ) (h : Heap) (p : Passes ws h) (low : List Entry) (e : En
   -- a chunk in use where the block's chunk is, which joins nothing
   used-seen : (d : Entry) → d .place ≡ e .place → d .flags ≡ used → sees h d ≡ InUse
   used-seen d q f =
-      let b = own ws h p low e high split l .1 in
+      let b = own chunk .1 in
       ap (λ (k : Kind). cond (h .merge) k InUse) (sym (kind-in-use (h .bytes) (h .donor .0) (h .top .0) d (λ z. omega arith) (λ z. omega arith) (omega arith)))
       ∙ in-use-seen (h .merge)
 
   tail-lies-by : Lies ws h (e .place + n) keptChunk above (joinedM ws InUse (sees h above) (e .place) (e .place + n) (blockEnd e))
   tail-lies-by =
       let z = place-eight in
-      part-lies ws h p low e high split l (e .place + n) keptChunk InUse (sees h above) (omega arith) (omega arith) (omega arith)
-      (λ q. absurd (false≢true q)) (seen-free ws h p low e high split l) (seen-above ws h p low e high split l)
+      part-lies chunk (e .place + n) keptChunk InUse (sees h above) (omega arith) (omega arith) (omega arith)
+      (λ q. absurd (false≢true q)) (seen-free chunk) (seen-above chunk)
 
   -- what the code joins in the words so changed is what it would have joined before
   joined-stands : joinedM splitWords InUse (sees h above) (e .place) (e .place + n) (blockEnd e)
@@ -98,7 +110,7 @@ module _ (ws : List ℕ) (h : Heap) (p : Passes ws h) (low : List Entry) (e : En
   unfolding joinedM
   joined-stands =
       let t = tail-lies-by .top in
-      let i = inside ws h p (t .0) (t .1) in
+      let i = inside ws h well (t .0) (t .1) in
       let z = place-eight in
       let y = end-eight in
       let to : ℕ = cond (freeKind (sees h above)) (word ws (blockEnd e) forward) (blockEnd e) in
@@ -110,9 +122,9 @@ module _ (ws : List ℕ) (h : Heap) (p : Passes ws h) (low : List Entry) (e : En
       rw (
         neighbour-stands (e .place) place-eight,
         neighbour-stands (blockEnd e) end-eight,
-        neighbour-is ws h p (e .place) e (here ws h p low e high split l) refl,
-        neighbour-is ws h p (blockEnd e) above (sides ws h p low e high split l .above) (sides ws h p low e high split l .abovePlace),
-        used-seen e refl (own ws h p low e high split l .0),
+        neighbour-is ws h well (e .place) e (here chunk) refl,
+        neighbour-is ws h well (blockEnd e) above (sides chunk .above) (sides chunk .abovePlace),
+        used-seen e refl (own chunk .0),
       )
       joined-stands
 
@@ -123,13 +135,13 @@ module _ (ws : List ℕ) (h : Heap) (p : Passes ws h) (low : List Entry) (e : En
   tail-joins =
       rw (joining-sees (low ++ keptChunk ∷ []) tailChunk high h, join-sees, last-append outside low (keptChunk ∷ []), used-seen keptChunk refl refl)
       (rw (last-append outside low (keptChunk ∷ [])) at
-      (part-joins ws h p low e high split l (low ++ keptChunk ∷ []) tailChunk InUse (sees h above) (omega arith) refl (seen-free ws h p low e high split l)))
+      (part-joins chunk (low ++ keptChunk ∷ []) tailChunk InUse (sees h above) (omega arith) refl (seen-free chunk)))
 
   -- the stored word is none of a chunk that is in a bin
   follows : Follows ws h splitDraft
   unfolding asRead
   follows =
-      let f = begins ws h p in
+      let f = begins ws h well in
       record {
         way = way-keeps _ _ _ (f .way) splitStores clear;
         from = f .from;
@@ -141,18 +153,17 @@ module _ (ws : List ℕ) (h : Heap) (p : Passes ws h) (low : List Entry) (e : En
       clear : (j x : ℕ) → j < h .bins → Mem x (binList ws h j)
           → Off (x / 4 + nextInBin) splitStores × Off (x / 4 + previousInBin) splitStores × Off (x / 4 + bin) splitStores
       clear j x lj m =
-          let a = part-far ws h p low e high split l (e .place) (omega arith) (omega arith) j x lj m in
+          let a = part-far chunk (e .place) (omega arith) (omega arith) j x lj m in
           let z = place-eight in
           omega arith
 
   tail-released : Released ws h (books splitWords (h .heads) (h .tails)) tailJoined (e .place) (blockEnd e) tailAfter
   unfolding release asRead
   tail-released =
-      given-back ws h p splitDraft follows (λ i x m. m) (e .place + n) keptChunk above tailJoined tail-lies
-      (joining h (low ++ keptChunk ∷ []) tailChunk high) tail-joins (blockEnd e) (sides ws h p low e high split l .abovePlace)
+      given-back well follows (λ i x m. m) tail-lies tail-joins (sides chunk .abovePlace)
 
   pub tail-back-is : giveBackM (books splitWords (h .heads) (h .tails)) (tableOf h) tailJoined (e .place) (blockEnd e)
-      ≡ books (written ws (tailAfter .stores)) (tailAfter .heap .heads) (tailAfter .heap .tails)
+      ≡ booksOf ws tailAfter
   tail-back-is = tail-released .is
 
   -- of the record only the bins' ends, the donor and the top change

@@ -4,7 +4,7 @@ use mathlib.Core.Path.{_≡_, refl, sym, ap, _∙_}
 use mathlib.Core.Logic.{_⊎_, inl, inr}
 use mathlib.Core.Bool.{true, false}
 use mathlib.Core.List.{List, _∷_, _++_}
-use Prim.Native.Nat.{ℕ, _-_, _/_, _%_, _≤_, _<_}
+use Prim.Native.Nat.{ℕ, _-_, _/_, _%_, _≤_}
 use native.Mathlib.Omega.{arith}
 use Rattle.lists.specs.Lists.{Mem, lastOr}
 use Rattle.lists.proofs.SplitLaws.{in-split}
@@ -12,109 +12,106 @@ use Rattle.record.specs.declared.heap.Heap.{Heap}
 use Rattle.record.specs.Heap.{at, tableOf}
 use Rattle.region.specs.Words.{word, backward}
 use Rattle.region.proofs.WordsLaws.{off}
-use Rattle.rules.specs.Allocate.{sourceOf, grant}
 use Rattle.rules.specs.Check.{Passes}
 use Rattle.rules.specs.Draft.{Draft, asRead, Spot}
 use Rattle.rules.specs.Free.{isLive, freeBlock}
 use Rattle.rules.specs.Kinds.{live, blockOf, blockEnd, blockWords, outside}
-use Rattle.rules.specs.Serve.{nowhere}
 use Rattle.rules.specs.Shape.{Entry, shape}
 use Rattle.rules.proofs.SpotLaws.{around, inside, live-between, one-chunk}
 use Rattle.seek.specs.Seek.{placed}
 use Rattle.blocks.specs.Blocks.{copiedM}
 use Rattle.blocks.proofs.BlocksMeaning.{Disjoint, copy-is}
 use Rattle.grant.proofs.ServeMeaning.{grant-table}
-use Rattle.grant.proofs.GrantKept.{granted-large}
+use Rattle.grant.proofs.GrantKept.{given, granted-large}
 use Rattle.grant.proofs.GrantedChunk.{grantedWords, beside, granted-lies, appended}
 use Rattle.grant.proofs.GrantSpares.{grant-spares}
 use Rattle.release.specs.Give.{givenUpM}
 use Rattle.release.proofs.GiveMeaning.{drawn, give-up-is}
 use Rattle.release.proofs.ReleaseMeaning.{place, splits, housed}
-use Rattle.resize.proofs.MovedLaws.{to, copies, copies-within, copiedOver, copiedWords, copiedHeap, copied-passes, there-again, old-live, live-again, again-is, moved-words}
+use Rattle.resize.proofs.MovedLaws.{Moving, to, copies, copies-within, copiedOver, copiedWords, copiedHeap, copied-passes, there-again, old-live, live-again, again-is, moved-words}
 
 -- the chunk e of a live block, which has less than n bytes, and room for n elsewhere
-module _ (ws : List ℕ) (h : Heap) (p : Passes ws h) (n : ℕ) (large : 24 ≤ n) (eight : n % 8 ≡ 0) (some : nowhere (sourceOf n (asRead ws h)) ≡ false)
-    (e : Entry) (m : Mem e (shape ws (h .bytes))) (l : live h e ≡ true) (less : e .size < n) where
+module _ {ws : List ℕ} {h : Heap} {n : ℕ} {e : Entry} (moves : Moving ws h n e) where
   abbrev new : Entry
-  new = to ws h p n large eight some e m l less
+  new = to moves
 
-  -- the words after the grant, those after the copy, and the record
-  abbrev W : List ℕ
-  W = grantedWords ws h p n large eight some
+  -- the words before the copy, those after it, and the record
+  abbrev uncopied : List ℕ
+  uncopied = grantedWords (moves .room)
 
-  abbrev W₁ : List ℕ
-  W₁ = copiedWords ws h p n large eight some e m l less
+  abbrev words : List ℕ
+  words = copiedWords moves
 
-  abbrev H : Heap
-  H = copiedHeap ws h p n large eight some e m l less
+  abbrev heap : Heap
+  heap = copiedHeap moves
 
   abbrev freedAfter : Draft
-  freedAfter = freeBlock (blockOf e) (copiedOver ws h p n large eight some e m l less)
+  freedAfter = freeBlock (blockOf e) (copiedOver moves)
 
   disjoint : Disjoint (e .place) (new .place) (blockWords e)
   disjoint =
-      let i = inside ws h p e m in
-      let k = granted-lies ws h p n large eight some in
-      let b = live-between ws h p e m l .1 in
-      go (granted-large ws h p n large eight some) (i .place) (k .place) (i .size) (k .size) (b .some) (beside ws h p n large eight some e m l)
+      let i = inside ws h (moves .room .well) e (moves .member) in
+      let k = granted-lies (moves .room) in
+      let b = live-between ws h (moves .room .well) e (moves .member) (moves .live) .1 in
+      go (granted-large (moves .room)) (i .place) (k .place) (i .size) (k .size) (b .some) (beside (moves .room) e (moves .member) (moves .live))
     where
       go : n ≤ new .size → e .place % 8 ≡ 0 → new .place % 8 ≡ 0 → e .size % 8 ≡ 0 → new .size % 8 ≡ 0 → 24 ≤ e .size
           → (blockEnd e ≤ new .place) ⊎ (blockEnd new ≤ e .place) → Disjoint (e .place) (new .place) (blockWords e)
       go u ze zn se sn w (inl a) j k jl kl q = omega arith
       go u ze zn se sn w (inr a) j k jl kl q = omega arith
 
-  pub copy-written : copiedM (e .size / 4 - 2) W (e .place) (new .place) 2 ≡ W₁
+  pub copy-written : copiedM (e .size / 4 - 2) uncopied (e .place) (new .place) 2 ≡ words
   copy-written =
-      let b = live-between ws h p e m l .1 in
-      let i = inside ws h p e m in
-      copy-is ws W e new (omega arith) disjoint
-      (λ j k. off (grant n (asRead ws h) .draft .stores) ws (blockOf e) j (grant-spares ws h p n large eight some e m l _ (omega arith) (omega arith)))
-      ∙ sym (appended ws h p n large eight some (copies ws h p n large eight some e m l less) (copies-within ws h p n large eight some e m l less))
+      let b = live-between ws h (moves .room .well) e (moves .member) (moves .live) .1 in
+      let i = inside ws h (moves .room .well) e (moves .member) in
+      copy-is ws uncopied e new (omega arith) disjoint
+      (λ j k. off (given (moves .room) .draft .stores) ws (blockOf e) j (grant-spares (moves .room) e (moves .member) (moves .live) _ (omega arith) (omega arith)))
+      ∙ sym (appended (moves .room) (copies moves) (copies-within moves))
 
-  abbrev passesAgain : Passes W₁ H
-  passesAgain = copied-passes ws h p n large eight some e m l less
+  abbrev passesAgain : Passes words heap
+  passesAgain = copied-passes moves
 
-  abbrev liveAgain : isLive (asRead W₁ H) (blockOf e) ≡ true
-  liveAgain = live-again ws h p n large eight some e m l less
+  abbrev liveAgain : isLive (asRead words heap) (blockOf e) ≡ true
+  liveAgain = live-again moves
 
-  abbrev thereAgain : Mem e (shape W₁ (H .bytes))
-  thereAgain = there-again ws h p n large eight some e m l less
+  abbrev thereAgain : Mem e (shape words (heap .bytes))
+  thereAgain = there-again moves
 
   abbrev spotAgain : Spot
-  spotAgain = place W₁ H passesAgain (blockOf e) liveAgain
+  spotAgain = place words heap passesAgain (blockOf e) liveAgain
 
-  split-again : (shape W₁ (H .bytes) ≡ spotAgain .low ++ spotAgain .here ∷ spotAgain .high) × (live H (spotAgain .here) ≡ true) × (blockOf (spotAgain .here) ≡ blockOf e)
-  split-again = splits W₁ H passesAgain (blockOf e) liveAgain
+  split-again : (shape words (heap .bytes) ≡ spotAgain .low ++ spotAgain .here ∷ spotAgain .high) × (live heap (spotAgain .here) ≡ true) × (blockOf (spotAgain .here) ≡ blockOf e)
+  split-again = splits words heap passesAgain (blockOf e) liveAgain
 
   -- it is the old chunk that is found there
   here-again : spotAgain .here ≡ e
   here-again =
       let b = split-again .2 in
-      one-chunk W₁ H passesAgain (spotAgain .here) e (in-split (spotAgain .low) (spotAgain .here) (spotAgain .high) (split-again .0)) thereAgain (omega arith)
+      one-chunk words heap passesAgain (spotAgain .here) e (in-split (spotAgain .low) (spotAgain .here) (spotAgain .high) (split-again .0)) thereAgain (omega arith)
 
-  split-at : shape W₁ (H .bytes) ≡ spotAgain .low ++ e ∷ spotAgain .high
+  split-at : shape words (heap .bytes) ≡ spotAgain .low ++ e ∷ spotAgain .high
   split-at = split-again .0 ∙ ap (λ (x : Entry). spotAgain .low ++ x ∷ spotAgain .high) here-again
 
   -- the chunk below it, as its link names it
-  below-again : word W₁ (e .place) backward - word W₁ (e .place) backward % 8 ≡ lastOr outside (spotAgain .low) .place
+  below-again : word words (e .place) backward - word words (e .place) backward % 8 ≡ lastOr outside (spotAgain .low) .place
   below-again =
-      let o = live-between W₁ H passesAgain e thereAgain (old-live ws h p n large eight some e m l less) in
+      let o = live-between words heap passesAgain e thereAgain (old-live moves) in
       let b = o .1 in
-      let a = around W₁ H passesAgain (spotAgain .low) e (spotAgain .high) split-at (omega arith) (omega arith) in
-      let i = inside W₁ H passesAgain (lastOr outside (spotAgain .low)) (a .below) in
+      let a = around words heap passesAgain (spotAgain .low) e (spotAgain .high) split-at (omega arith) (omega arith) in
+      let i = inside words heap passesAgain (lastOr outside (spotAgain .low)) (a .below) in
       omega (arith, a .ownBackward, o .0, i .place)
 
-  drawn-again : drawn W₁ (freeBlock (blockOf e) (asRead W₁ H)) ≡ drawn ws freedAfter
-  drawn-again = rw (again-is ws h p n large eight some e m l less .0, moved-words ws h p n large eight some e m l less) refl
+  drawn-again : drawn words (freeBlock (blockOf e) (asRead words heap)) ≡ drawn ws freedAfter
+  drawn-again = rw (again-is moves .0, moved-words moves) refl
 
-  pub move-is : givenUpM W₁ (tableOf h) H (record { before = at (word W₁ (e .place) backward - word W₁ (e .place) backward % 8); chunk = at (e .place); end = blockEnd e; flags = e .flags })
+  pub move-is : givenUpM words (tableOf h) heap (record { before = at (word words (e .place) backward - word words (e .place) backward % 8); chunk = at (e .place); end = blockEnd e; flags = e .flags })
       ≡ drawn ws freedAfter
   move-is =
-      rw (below-again, ← grant-table ws h p n large eight (sourceOf n (asRead ws h)) refl some)
-      (ap (λ (x : Entry). givenUpM W₁ (tableOf H) H (placed (lastOr outside (spotAgain .low) .place) x)) (sym here-again)
-      ∙ give-up-is W₁ H passesAgain (blockOf e) liveAgain
+      rw (below-again, ← grant-table (moves .room))
+      (ap (λ (x : Entry). givenUpM words (tableOf heap) heap (placed (lastOr outside (spotAgain .low) .place) x)) (sym here-again)
+      ∙ give-up-is words heap passesAgain (blockOf e) liveAgain
       ∙ drawn-again)
 
   pub move-housed : freedAfter .homeless ≡ false
   unfolding freeBlock
-  move-housed = again-is ws h p n large eight some e m l less .2 ∙ housed W₁ H passesAgain (blockOf e) liveAgain
+  move-housed = again-is moves .2 ∙ housed words heap passesAgain (blockOf e) liveAgain

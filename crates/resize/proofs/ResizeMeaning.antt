@@ -16,7 +16,7 @@ use Rattle.rules.specs.Check.{Passes, passes}
 use Rattle.rules.specs.Cut.{Grant}
 use Rattle.rules.specs.Draft.{Draft, asRead}
 use Rattle.rules.specs.Free.{isLive, freeBlock}
-use Rattle.rules.specs.Kinds.{overhead, blockOf, blockEnd, live}
+use Rattle.rules.specs.Kinds.{overhead, blockOf, blockEnd}
 use Rattle.rules.specs.Outcome.{made, grants}
 use Rattle.rules.specs.Reallocate.{resize, resized}
 use Rattle.rules.specs.Serve.{need, permitted, nowhere}
@@ -25,17 +25,18 @@ use Rattle.rules.specs.Statements.{leftBy}
 use Rattle.rules.proofs.CheckLaws.{passes-iff}
 use Rattle.rules.proofs.SpotLaws.{bounds, inside}
 use Rattle.seek.specs.declared.Place.{Place}
-use Rattle.grant.proofs.NeedLaws.{need-large, need-eight}
 use Rattle.grant.proofs.ChooseMeaning.{choose-is}
 use Rattle.grant.proofs.ServeMeaning.{serve-is}
 use Rattle.grant.proofs.GrantedChunk.{granted-lies}
 use Rattle.release.proofs.FindLaws.{placeOf}
 use Rattle.release.proofs.GiveMeaning.{give-up-tail-is}
 use Rattle.release.proofs.ReleaseMeaning.{place, splits}
+use Rattle.release.proofs.ShrinkKept.{chunk-shrinks}
 use Rattle.release.proofs.TailMeaning.{tail-housed}
 use Rattle.replies.proofs.ChangeLaws.{change-ruled}
 use Rattle.resize.specs.Resize.{againM, shrinkM, movedM, moveM, resizeM}
-use Rattle.resize.proofs.MovedLaws.{copiedOver}
+use Rattle.resize.proofs.MovedLaws.{Moving, copiedOver}
+use Rattle.resize.proofs.WantedLaws.{block-moves, block-shrinks}
 use Rattle.resize.proofs.MoveMeaning.{copy-written, move-is, move-housed}
 
 -- the live block at b, in a heap that passes
@@ -55,9 +56,6 @@ module _ (ws : List ℕ) (h : Heap) (q : passes ws h ≡ true) (z : ℕ) (k : pe
   member : Mem e (shape ws (h .bytes))
   member = in-split (place ws h well b l .low) e (place ws h well b l .high) (splits ws h well b l .0)
 
-  is-live : live h e ≡ true
-  is-live = splits ws h well b l .1
-
   -- where the chunk lies
   record Lies : Type 0 where
     pub size : blockEnd e - e .place ≡ e .size
@@ -70,38 +68,41 @@ module _ (ws : List ℕ) (h : Heap) (q : passes ws h ≡ true) (z : ℕ) (k : pe
       let w = bounds ws h well in
       record { size = omega arith; block = omega arith; few = omega arith }
 
+  -- what the code leaves is what the rule says
+  abbrev AsRuled : Type 0
+  AsRuled = resizeM ws (tableOf h) h p n ≡ leftBy ws (resize ws h b z)
+
   -- the chunk has the need, and nothing to give back
-  stays : n ≤ e .size → e .size < n + 24 → resizeM ws (tableOf h) h p n ≡ leftBy ws (resize ws h b z)
+  stays : n ≤ e .size → e .size < n + 24 → AsRuled
   unfolding resizeM resize resized asRead
   stays m u =
       let i = lies in
       rw (i .size, le-ltb (e .size) n m, lt-leb (n + 24) (e .size) u, i .block, change-ruled (e .size) (e .size) (omega arith) (omega arith), q, k, l)
 
   -- the tail is given back
-  shrinks : n + 24 ≤ e .size → resizeM ws (tableOf h) h p n ≡ leftBy ws (resize ws h b z)
+  shrinks : n + 24 ≤ e .size → AsRuled
   unfolding resizeM shrinkM resize resized
   shrinks u =
       let i = lies in
-      let s = place ws h well b l in
+      let c = chunk-shrinks (block-shrinks well b l z u) in
       let r : (e .place + n) % 2 ^ 32 ≡ e .place + n = omega arith in
-      let housed = tail-housed ws h well (s .low) e (s .high) (splits ws h well b l .0) is-live n (need-large z) (need-eight z) u in
       rw (
         i .size,
         le-ltb (e .size) n (omega arith),
         le-leb (n + 24) (e .size) u,
         r,
-        give-up-tail-is ws h well (s .low) e (s .high) (splits ws h well b l .0) is-live n (need-large z) (need-eight z) u (e .flags),
+        give-up-tail-is c (e .flags),
         i .block,
         change-ruled (e .size) n (omega arith) (omega arith),
         q,
         k,
         l,
-        housed,
+        tail-housed c,
       )
 
   -- the block moves, if something can serve
   module _ (less : e .size < n) where
-    refuses : nowhere (sourceOf n (asRead ws h)) ≡ true → resizeM ws (tableOf h) h p n ≡ leftBy ws (resize ws h b z)
+    refuses : nowhere (sourceOf n (asRead ws h)) ≡ true → AsRuled
     unfolding resizeM moveM resize
     refuses none =
         let i = lies in
@@ -111,23 +112,26 @@ module _ (ws : List ℕ) (h : Heap) (q : passes ws h ≡ true) (z : ℕ) (k : pe
       abbrev g : Grant
       g = grant n (asRead ws h)
 
+      moving : Moving ws h n e
+      moving = block-moves well b l z some less
+
       abbrev after : Draft
-      after = copiedOver ws h well n (need-large z) (need-eight z) some e member is-live less
+      after = copiedOver moving
 
       code-moves : resizeM ws (tableOf h) h p n ≡ leftBy ws (made (grants (e .size) (g .granted)) (freeBlock (blockOf e) after))
       unfolding resizeM moveM movedM againM
       code-moves =
           let i = lies in
-          let o = granted-lies ws h well n (need-large z) (need-eight z) some in
+          let o = granted-lies (moving .room) in
           let block : blockAt (g .granted .place) ≡ blockOf (g .granted) = omega arith in
           rw (
             i .size,
             lt-ltb (e .size) n less,
             choose-is ws h well n,
             some,
-            serve-is ws h well n (need-large z) (need-eight z) (sourceOf n (asRead ws h)) refl some,
-            copy-written ws h well n (need-large z) (need-eight z) some e member is-live less,
-            move-is ws h well n (need-large z) (need-eight z) some e member is-live less,
+            serve-is (moving .room),
+            copy-written moving,
+            move-is moving,
             block,
             change-ruled (e .size) (g .granted .size) (omega arith) (omega arith),
           )
@@ -135,16 +139,16 @@ module _ (ws : List ℕ) (h : Heap) (q : passes ws h ≡ true) (z : ℕ) (k : pe
       rule-moves : resize ws h b z ≡ made (grants (e .size) (g .granted)) (freeBlock (blockOf e) after)
       unfolding resize resized
       rule-moves =
-          rw (q, k, l, lt-ltb (e .size) n less, some, move-housed ws h well n (need-large z) (need-eight z) some e member is-live less)
+          rw (q, k, l, lt-ltb (e .size) n less, some, move-housed moving)
 
-      moves : resizeM ws (tableOf h) h p n ≡ leftBy ws (resize ws h b z)
+      moves : AsRuled
       moves = code-moves ∙ sym (ap (leftBy ws) rule-moves)
 
   pub resize-is : resizeM ws (tableOf h) h p n ≡ leftBy ws (resize ws h b z)
   resize-is = by (decLt (e .size) n) (decLt (e .size) (n + 24)) (nowhere (sourceOf n (asRead ws h))) refl
     where
       by : Dec (e .size < n) → Dec (e .size < n + 24) → (t : Bool) → nowhere (sourceOf n (asRead ws h)) ≡ t
-          → resizeM ws (tableOf h) h p n ≡ leftBy ws (resize ws h b z)
+          → AsRuled
       by (yes u) d true t = refuses u t
       by (yes u) d false t = moves u t
       by (no u) (yes v) t s = stays (omega arith) v

@@ -28,35 +28,35 @@ use Rattle.resize.specs.Resize.{againM, shrinkM, movedM, moveM, resizeM}
 use Rattle.replies.proofs.ChangeLaws.{change-kept}
 
 -- the old chunk, read again, has its size
-pub again-sized : (ws : List ℕ) (p old : Place) → old ≡ againM ws p → {size : ℕ} → size ≡ p .end - p .chunk .0 → size ≡ old .end - old .chunk .0
+pub again-sized : (ws : List ℕ) (p : Place) {old : Place} → old ≡ againM ws p → {size : ℕ} → size ≡ p .end - p .chunk .0 → size ≡ old .end - old .chunk .0
 unfolding againM
-again-sized ws p old e s = rw e s
+again-sized ws p e s = rw e s
 
 module _ (ws table : List ℕ) (h : Heap) (p : Place) (n : ℕ) where
-  pub shrinks : (rest : ℕ) → rest ≡ (p .chunk .0 + n) % 2 ^ 32 → (split : List ℕ) → split ≡ store ws (p .chunk .0) forward rest
-      → (after : Heap) (words : List ℕ) → state words after ≡ givenUpM split table h (record { before = p .chunk; chunk = at rest; end = p .end; flags = p .flags })
-      → (size : ℕ) → size ≡ p .end - p .chunk .0 → (block : Block) → block .0 ≡ blockAt (p .chunk .0) → (change : ℤ) → change ≡ changeM size n
+  pub shrinks : {rest : ℕ} → rest ≡ (p .chunk .0 + n) % 2 ^ 32 → {split : List ℕ} → split ≡ store ws (p .chunk .0) forward rest
+      → {after : Heap} {words : List ℕ} → state words after ≡ givenUpM split table h (record { before = p .chunk; chunk = at rest; end = p .end; flags = p .flags })
+      → {size : ℕ} → size ≡ p .end - p .chunk .0 → {block : Block} → block .0 ≡ blockAt (p .chunk .0) → {change : ℤ} → change ≡ changeM size n
       → replied (reply after (Granted block (toZ w32 (ofZ w32 change)))) words ≡ shrinkM ws table h p n
   unfolding shrinkM
-  shrinks rest er split es after words eg size ez block eb change ec =
+  shrinks er es eg {size} ez eb ec =
       rw (ec, change-kept size n, ez, eb, sym er, sym es, sym eg)
 
-  module _ (source : Source) (e : source ≡ chooseM ws table (h .heads) (h .donor .0) (h .top .0) n) {t : Bool} (et : t ≡ nowhere source) where
-    pub moves-not : t ≡ true → (r : Reply) → r ≡ refusing h NoRoom → replied r ws ≡ moveM ws table h p n
+  module _ {source : Source} (e : source ≡ chooseM ws table (h .heads) (h .donor .0) (h .top .0) n) {t : Bool} (et : t ≡ nowhere source) where
+    pub moves-not : t ≡ true → {r : Reply} → r ≡ refusing h NoRoom → replied r ws ≡ moveM ws table h p n
     unfolding moveM
-    moves-not q r er = rw (er, sym e, sym et, q)
+    moves-not q er = rw (er, sym e, sym et, q)
 
-    pub moves : t ≡ false → (l : Leaves) → l ≡ servedM ws table h source n
-        → (size : ℕ) → size ≡ p .end - p .chunk .0 → (copied : List ℕ) → copied ≡ copiedM (size / 4 - 2) (l .words) (p .chunk .0) (l .chunk .0) 2
-        → (old : Place) → old ≡ againM copied p
-        → (after : Heap) (words : List ℕ) → state words after ≡ givenUpM copied table (l .heap) old
-        → (block : Block) → block .0 ≡ blockAt (l .chunk .0) → (change : ℤ) → change ≡ changeM size (l .size)
+    pub moves : t ≡ false → {l : Leaves} → l ≡ servedM ws table h source n
+        → {size : ℕ} → size ≡ p .end - p .chunk .0 → {copied : List ℕ} → copied ≡ copiedM (size / 4 - 2) (l .words) (p .chunk .0) (l .chunk .0) 2
+        → {old : Place} → old ≡ againM copied p
+        → {after : Heap} {words : List ℕ} → state words after ≡ givenUpM copied table (l .heap) old
+        → {block : Block} → block .0 ≡ blockAt (l .chunk .0) → {change : ℤ} → change ≡ changeM size (l .size)
         → replied (reply after (Granted block (toZ w32 (ofZ w32 change)))) words ≡ moveM ws table h p n
     unfolding moveM movedM
-    moves q l el size ez copied e₁ old eo after words ea block eb change ec =
+    moves q {l} el {size} ez e₁ eo ea eb ec =
         rw (sym e, sym et, q, sym el, ec, change-kept size (l .size), sym ez, eb, sym e₁, sym eo, sym ea)
 
-  module _ (size : ℕ) (ez : size ≡ p .end - p .chunk .0) where
+  module _ {size : ℕ} (ez : size ≡ p .end - p .chunk .0) where
     pub resizes-up : size < n → {l : Left} → l ≡ moveM ws table h p n → l ≡ resizeM ws table h p n
     unfolding resizeM
     resizes-up l g = rw (sym ez, lt-ltb size n l) g
@@ -65,8 +65,8 @@ module _ (ws table : List ℕ) (h : Heap) (p : Place) (n : ℕ) where
     unfolding resizeM
     resizes-down m l g = rw (sym ez, le-ltb size n m, le-leb (n + 24) size l) g
 
-    pub resizes-not : n ≤ size → size < n + 24 → (block : Block) → block .0 ≡ blockAt (p .chunk .0) → (change : ℤ) → change ≡ changeM size size
+    pub resizes-not : n ≤ size → size < n + 24 → {block : Block} → block .0 ≡ blockAt (p .chunk .0) → {change : ℤ} → change ≡ changeM size size
         → replied (reply h (Granted block (toZ w32 (ofZ w32 change)))) ws ≡ resizeM ws table h p n
     unfolding resizeM
-    resizes-not m l block eb change ec =
+    resizes-not m l eb ec =
         rw (sym ez, le-ltb size n m, lt-leb (n + 24) size l, ec, change-kept size size, eb)

@@ -1,7 +1,6 @@
 -- `resize::again` reads the chunk below from the old chunk's link. Assumes nothing.
-use mathlib.Core.Path.{_≡_, refl}
+use mathlib.Core.Path.{refl}
 use borrow.Author.Needs.{needs}
-use Rattle.region.specs.Words.{word}
 use Rattle.resize.specs.Resize.{againM}
 use Rattle.resize.proofs.again.Statement.{statement}
 use Rattle.resize.proofs.again.Tie as tie

@@ -30,8 +30,8 @@ module _ (c : tie.After-with-books) where
 returns : tie.Need-returns
 returns c =
     let nowhere = c .before in
-    moves-not _ _ _ _ _ _ (nowhere .before .before .choose .ensures) (nowhere .before .is-nowhere .ensures) (nowhere .if1 .taken)
-    _ (c .refused .ensures)
+    moves-not _ _ _ _ _ (nowhere .before .before .choose .ensures) (nowhere .before .is-nowhere .ensures) (nowhere .if1 .taken)
+    (c .refused .ensures)
 
 same-length : tie.Need-same-length-2
 same-length c =
@@ -45,10 +45,10 @@ returns-2 c =
     let served = served c in
     let somewhere = served .before .before .before .before in
     let granted = served-recorded _ _ _ _ _ _ _ (served .serve .ensures) _ (used c .wrapping-add-u32 .ensures) _ refl in
-    let after = given-recorded _ _ _ _ _ _ (given-up c .give-up .ensures) _ (again-sized _ _ _ (read c .again .ensures) (sized c .distance .ensures)) _ (c .before .before .before .distance2 .ensures) _ (c .with-books .ensures) in
-    moves _ _ _ _ _ _ (somewhere .before .before .choose .ensures) (somewhere .before .is-nowhere .ensures) (somewhere .if1 .left)
-    _ granted _ (sized c .distance .ensures) _ (copied c .copy-block .ensures) _ (read c .again .ensures)
-    _ _ after _ (c .before .before .block-of .ensures) _ (c .before .change .ensures)
+    let after = given-recorded _ _ _ _ _ _ (given-up c .give-up .ensures) _ (again-sized _ _ (read c .again .ensures) (sized c .distance .ensures)) _ (c .before .before .before .distance2 .ensures) _ (c .with-books .ensures) in
+    moves _ _ _ _ _ (somewhere .before .before .choose .ensures) (somewhere .before .is-nowhere .ensures) (somewhere .if1 .left)
+    granted (sized c .distance .ensures) (copied c .copy-block .ensures) (read c .again .ensures)
+    after (c .before .before .block-of .ensures) (c .before .change .ensures)
 
 pub move-block-spec : {M : Type 1} → statement M
 move-block-spec =

@@ -29,8 +29,8 @@ returns c =
     let given-up = given-up gone in
     let stored = stored given-up in
     let after = given-recorded _ _ _ _ _ _ (given-up .give-up .ensures) _ (gone .distance .ensures) _ (c .before .before .before .before .distance2 .ensures) _ (c .with-books .ensures) in
-    shrinks _ _ _ _ _ _ (stored .before .before .wrapping-add-u32 .ensures) _ (stored .store .ensures) _ _ after
-    _ (c .before .before .before .distance3 .ensures) _ (c .before .before .block-of .ensures) _ (c .before .change .ensures)
+    shrinks _ _ _ _ _ (stored .before .before .wrapping-add-u32 .ensures) (stored .store .ensures) after
+    (c .before .before .before .distance3 .ensures) (c .before .before .block-of .ensures) (c .before .change .ensures)
 
 pub shrink-spec : {M : Type 1} → statement M
 shrink-spec =

@@ -7,13 +7,15 @@ use Rattle.grant.proofs.cut.cut_of.Tie as tie
 returns : tie.Need-returns
 unfolding cutM
 returns c =
+    let granted = c .before .before .before in
+    let sized = granted .before in
     rw (
       c .wrapping-add-u32 .ensures,
-      c .before .before .before .granted .ensures,
-      c .before .before .before .before .word2 .ensures,
+      granted .granted .ensures,
+      sized .word2 .ensures,
       c .before .word4 .ensures,
       c .before .before .word3 .ensures,
-      c .before .before .before .before .before .word .ensures,
+      sized .before .word .ensures,
     )
 
 pub cut-of-spec : {M : Type 1} → statement M

@@ -14,8 +14,8 @@ returns c =
     let sized = taken .before .before .before .before in
     let read = sized .before .before in
     let placed = read .before .before in
-    serves-by _ _ _ _ _ _ _ (placed .before .kind-in .ensures) _ (placed .place-in .ensures) _ (read .cut-of .ensures) _ (sized .distance .ensures)
-    _ (taken .take .ensures) _ _ (c .before .donor-after .ensures) (c .top-after .ensures)
+    serves-by _ _ _ _ _ _ (placed .before .kind-in .ensures) (placed .place-in .ensures) (read .cut-of .ensures) (sized .distance .ensures)
+    (taken .take .ensures) (c .before .donor-after .ensures) (c .top-after .ensures)
 
 pub serve-spec : {M : Type 1} → statement M
 serve-spec =

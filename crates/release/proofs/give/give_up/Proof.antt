@@ -12,8 +12,8 @@ returns : tie.Need-returns
 returns c =
     let given = given (c .before) in
     let joined = given .before .before .before .before .before in
-    gives-up _ _ _ _ _ _ _ _ (joined .join .ensures) _ (given .give-back .ensures)
-    _ _ (c .before .donor-after .ensures) (c .top-after .ensures)
+    gives-up _ _ _ _ _ _ _ (joined .join .ensures) (given .give-back .ensures)
+    (c .before .donor-after .ensures) (c .top-after .ensures)
 
 pub give-up-spec : {M : Type 1} → statement M
 give-up-spec =
