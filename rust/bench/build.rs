@@ -12,8 +12,8 @@ fn run(command: &mut Command) {
     assert!(status.success(), "{command:?} failed");
 }
 
-fn compile(out: &Path, source: &Path, words: &[String]) -> PathBuf {
-    let object = out.join(source.with_extension("o").file_name().expect("a name"));
+fn compile(out: &Path, name: &str, source: &Path, words: &[String]) -> PathBuf {
+    let object = out.join(name).with_extension("o");
     let fixed = ["-O3", "-fPIC", "-w", "-c", "-include", "c/arena.h"];
     run(Command::new("cc").args(fixed).args(words).arg(source).arg("-o").arg(&object));
     object
@@ -36,9 +36,9 @@ fn newlib(out: &Path) -> Vec<PathBuf> {
     let parts = ["DEFINE_MALLOC", "DEFINE_FREE", "DEFINE_REALLOC", "DEFINE_CALLOC", "DEFINE_MALLOC_USABLE_SIZE"];
     let of_nano = [&["_sbrk_r=nano_sbrk"], &parts[..]].concat();
     vec![
-        compile(out, &out.join(full), &words("full", &of_full)),
-        compile(out, &out.join(nano), &words("nano", &of_nano)),
-        compile(out, Path::new("c/arena.c"), &[]),
+        compile(out, "full", &out.join(full), &words("full", &of_full)),
+        compile(out, "nano", &out.join(nano), &words("nano", &of_nano)),
+        compile(out, "arena", Path::new("c/arena.c"), &[]),
     ]
 }
 
@@ -47,7 +47,9 @@ fn main() {
     println!("cargo:rerun-if-changed={NEWLIB}");
     println!("cargo:rustc-check-cfg=cfg(newlib)");
     let out = PathBuf::from(env::var_os("OUT_DIR").expect("a folder for what is made"));
-    let mut objects = vec![compile(&out, Path::new("c/limit.c"), &[])];
+    let limit = Path::new("c/limit.c");
+    let tested = ["-DTESTED".to_string()];
+    let mut objects = vec![compile(&out, "limit", limit, &[]), compile(&out, "tested", limit, &tested)];
     if Path::new(NEWLIB).is_file() {
         objects.extend(newlib(&out));
         println!("cargo:rustc-cfg=newlib");

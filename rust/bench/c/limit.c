@@ -1,5 +1,7 @@
 /* The limit for the check: a walk by hand that reads the same words and keeps the same marks, in C, with nothing between it and
-   the words. It answers the four counts, or 0 where the heap fails. */
+   the words. It answers the four counts, or 0 where the heap fails.
+   With TESTED each word and each mark is reached behind a test that it is there, as in the proved check, which relies on no walk
+   before: so it is measured what these tests cost. */
 #include <stdbool.h>
 #include <stddef.h>
 #include <stdint.h>
@@ -8,9 +10,41 @@
 enum { FORWARD, BACKWARD, SIZE, NEXT_IN_BIN, PREVIOUS_IN_BIN, BIN };
 enum { BYTES, BINS, DONOR, TOP, MERGE, USED, SIZES, HEADS = SIZES + 32, TAILS = HEADS + 32 };
 
+enum { MARKS = 256 };
+
+#ifdef TESTED
+#define CHECK tested_check
+#define THERE(i, count) ((i) < (count))
+#else
+#define CHECK limit_check
+#define THERE(i, count) 1
+#endif
+
 typedef struct {
     uint32_t chunks, ordinary, used, free;
 } Counts;
+
+typedef struct {
+    const uint32_t *words;
+    size_t count;
+} Region;
+
+static inline uint32_t word(Region region, uint32_t chunk, uint32_t number)
+{
+    size_t i = (size_t)(chunk / 4) + number;
+    return THERE(i, region.count) ? region.words[i] : 0;
+}
+
+static inline bool is_marked(const uint32_t *marks, uint32_t chunk)
+{
+    return THERE(chunk / 256, MARKS) && (marks[chunk / 256] >> (chunk / 8 % 32) & 1) == 1;
+}
+
+static inline void flip(uint32_t *marks, uint32_t chunk)
+{
+    if (THERE(chunk / 256, MARKS))
+        marks[chunk / 256] ^= 1u << (chunk / 8 % 32);
+}
 
 static bool table_valid(const uint32_t *record)
 {
@@ -26,14 +60,13 @@ static bool table_valid(const uint32_t *record)
     return true;
 }
 
-static bool walk_chain(const uint32_t *region, const uint32_t *record, uint32_t *marks, Counts *counts)
+static bool walk_chain(Region region, const uint32_t *record, uint32_t *marks, Counts *counts)
 {
     uint32_t end = record[BYTES] - 8, donor = record[DONOR], top = record[TOP];
     uint32_t at = 0, before = 0;
     bool donor_seen = donor == 0;
     for (;;) {
-        const uint32_t *chunk = region + at / 4;
-        uint32_t next = chunk[FORWARD], back = chunk[BACKWARD];
+        uint32_t next = word(region, at, FORWARD), back = word(region, at, BACKWARD);
         counts->chunks++;
         if ((back & ~1u) != before)
             return false;
@@ -50,15 +83,15 @@ static bool walk_chain(const uint32_t *region, const uint32_t *record, uint32_t 
         } else if ((back & 1) == 1) {
             counts->used += size;
         } else {
-            if (chunk[SIZE] != size)
+            if (word(region, at, SIZE) != size)
                 return false;
             counts->free += size;
             if (at == donor || at == top) {
                 donor_seen |= at == donor;
-                if ((chunk[NEXT_IN_BIN] | chunk[PREVIOUS_IN_BIN] | chunk[BIN]) != 0)
+                if ((word(region, at, NEXT_IN_BIN) | word(region, at, PREVIOUS_IN_BIN) | word(region, at, BIN)) != 0)
                     return false;
             } else {
-                marks[at / 256] |= 1u << (at / 8 % 32);
+                flip(marks, at);
                 counts->ordinary++;
             }
         }
@@ -67,7 +100,7 @@ static bool walk_chain(const uint32_t *region, const uint32_t *record, uint32_t 
     }
 }
 
-static bool walk_lists(const uint32_t *region, const uint32_t *record, uint32_t *marks, uint32_t ordinary)
+static bool walk_lists(Region region, const uint32_t *record, uint32_t *marks, uint32_t ordinary)
 {
     uint32_t met = 0;
     for (uint32_t bin = 0; bin < record[BINS]; bin++) {
@@ -77,16 +110,15 @@ static bool walk_lists(const uint32_t *region, const uint32_t *record, uint32_t 
         for (uint32_t at = record[HEADS + bin]; at != 0;) {
             if (at % 8 != 0 || at >= record[BYTES])
                 return false;
-            uint32_t mark = 1u << (at / 8 % 32);
-            if ((marks[at / 256] & mark) == 0)
+            if (!is_marked(marks, at))
                 return false;
-            marks[at / 256] &= ~mark;
-            const uint32_t *chunk = region + at / 4;
-            if (chunk[PREVIOUS_IN_BIN] != before || chunk[BIN] != bin * 8 || chunk[SIZE] < least || chunk[SIZE] >= limit)
+            flip(marks, at);
+            uint32_t size = word(region, at, SIZE);
+            if (word(region, at, PREVIOUS_IN_BIN) != before || word(region, at, BIN) != bin * 8 || size < least || size >= limit)
                 return false;
             met++;
             before = at;
-            at = chunk[NEXT_IN_BIN];
+            at = word(region, at, NEXT_IN_BIN);
         }
         if (record[TAILS + bin] != before)
             return false;
@@ -94,12 +126,13 @@ static bool walk_lists(const uint32_t *region, const uint32_t *record, uint32_t 
     return met == ordinary;
 }
 
-bool limit_check(const uint32_t *region, size_t words, const uint32_t *record, uint32_t *answer)
+bool CHECK(const uint32_t *words, size_t count, const uint32_t *record, uint32_t *answer)
 {
-    uint32_t marks[256];
+    Region region = {words, count / 2 * 2};
+    uint32_t marks[MARKS];
     Counts counts = {0, 0, 0, 0};
     memset(answer, 0, 5 * sizeof *answer);
-    if (words < 10 || words > 16384 || record[BYTES] != words / 2 * 8 || record[MERGE] > 1 || !table_valid(record))
+    if (count < 10 || count > 16384 || record[BYTES] != count / 2 * 8 || record[MERGE] > 1 || !table_valid(record))
         return false;
     if (record[DONOR] >= record[TOP])
         return false;

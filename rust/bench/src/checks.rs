@@ -1,12 +1,15 @@
-//! The check against its limit: a walk by hand in C over the same heaps.
+//! The check against its limit: a walk by hand in C over the same heaps, and the same walk with a test before each word.
 
 use crate::clock::{interleaved, Work};
 use crate::peers::{Allocator, Kruzhvela};
 use kruzhvela::flat::{self, ANSWER_WORDS};
 use std::hint::black_box;
 
+type Walk = unsafe extern "C" fn(*const u32, usize, *const u32, *mut u32) -> bool;
+
 extern "C" {
     fn limit_check(region: *const u32, words: usize, record: *const u32, answer: *mut u32) -> bool;
+    fn tested_check(region: *const u32, words: usize, record: *const u32, answer: *mut u32) -> bool;
 }
 
 #[derive(Clone, Copy, Debug, PartialEq, Eq)]
@@ -18,12 +21,13 @@ pub enum Fill {
 
 pub const FILLS: [(Fill, &str); 3] = [(Fill::AllFree, "all free"), (Fill::AllUsed, "all used"), (Fill::Mixed, "mixed")];
 
-/// A row of the table: the heap, nanoseconds of the check and of the limit.
+/// A row of the table: the heap, nanoseconds of the check, of the limit, and of the limit with tests.
 pub struct Row {
     pub fill: Fill,
     pub chunks: u32,
     pub ours: f64,
     pub limit: f64,
+    pub tested: f64,
 }
 
 /// Chunks of a few sizes, without joining, so that they stay; then all, none or every second of them are given back.
@@ -41,18 +45,28 @@ fn heap(chunks: u32, fill: Fill) -> Kruzhvela {
     heap
 }
 
-fn limit(heap: &Kruzhvela) -> [u32; ANSWER_WORDS] {
+fn by_hand(walk: Walk, heap: &Kruzhvela) -> [u32; ANSWER_WORDS] {
     let mut answer = [0; ANSWER_WORDS];
     // SAFETY: the pointers are to as many words as are said.
-    unsafe { limit_check(heap.region.as_ptr(), heap.region.len(), heap.record.as_ptr(), answer.as_mut_ptr()) };
+    unsafe { walk(heap.region.as_ptr(), heap.region.len(), heap.record.as_ptr(), answer.as_mut_ptr()) };
     answer
+}
+
+fn often<'a>(times: u64, walk: Walk, heap: &'a Kruzhvela) -> Work<'a> {
+    Box::new(move || {
+        for _ in 0..times {
+            black_box(by_hand(walk, black_box(heap)));
+        }
+        times
+    })
 }
 
 fn measure(chunks: u32, fill: Fill) -> Row {
     let mut one = heap(chunks, fill);
     let other = heap(chunks, fill);
     let answer = flat::check(&mut one.region, &mut one.record);
-    assert_eq!(answer, limit(&other), "both count alike");
+    assert_eq!(answer, by_hand(limit_check, &other), "both count alike");
+    assert_eq!(answer, by_hand(tested_check, &other), "both count alike");
     assert_eq!((answer[0], answer[1]), (0, chunks));
     let times = 2_000_000 / u64::from(chunks + 40);
     let ours = move || {
@@ -61,15 +75,9 @@ fn measure(chunks: u32, fill: Fill) -> Row {
         }
         times
     };
-    let by_hand = move || {
-        for _ in 0..times {
-            black_box(limit(black_box(&other)));
-        }
-        times
-    };
-    let works: Vec<Work> = vec![Box::new(ours), Box::new(by_hand)];
+    let works = vec![Box::new(ours), often(times, limit_check, &other), often(times, tested_check, &other)];
     let medians = interleaved(works);
-    Row { fill, chunks, ours: medians[0], limit: medians[1] }
+    Row { fill, chunks, ours: medians[0], limit: medians[1], tested: medians[2] }
 }
 
 pub const CHUNKS: [u32; 3] = [20, 200, 2_500];

@@ -35,13 +35,14 @@ fn exponent(rows: &[&checks::Row]) -> f64 {
     (more.ours / less.ours).ln() / (f64::from(more.chunks) / f64::from(less.chunks)).ln()
 }
 
-pub fn checks(rows: &[checks::Row]) -> String {
+/// The check's times to another walk's, which `peer` names.
+fn checks(rows: &[checks::Row], peer: fn(&checks::Row) -> f64) -> String {
     let mut text = String::from(
         "| Heap | 20 chunks | 200 chunks | 2,500 chunks | growth from 200 to 2,500 |\n|---|---|---|---|---|\n",
     );
     for (fill, name) in FILLS {
         let of: Vec<&checks::Row> = rows.iter().filter(|row| row.fill == fill).collect();
-        let cell = |row: &&checks::Row| format!("{:.2} ({:.0} ns)", row.ours / row.limit, row.ours);
+        let cell = |row: &&checks::Row| format!("{:.2} ({:.0} ns)", row.ours / peer(row), row.ours);
         let cells: Vec<String> = of.iter().map(cell).collect();
         assert_eq!(cells.len(), CHUNKS.len());
         let _ = writeln!(text, "| {name} | {} | {:.2} |", cells.join(" | "), exponent(&of));
@@ -49,7 +50,7 @@ pub fn checks(rows: &[checks::Row]) -> String {
     text
 }
 
-pub fn calls(rows: &[calls::Row]) -> String {
+fn calls(rows: &[calls::Row]) -> String {
     let names: Vec<&str> = rows[0].peers.iter().map(|peer| peer.name).collect();
     let rest: Vec<String> = names.iter().map(|name| format!("rest to {name}")).collect();
     let mut text =
@@ -89,13 +90,15 @@ pub fn whole(checked: &[checks::Row], called: &[calls::Row]) -> String {
         "# Benchmarks\n\n{METHOD}\nMeasured on: {}. {ROUNDS} rounds.\n\n\
          ## The check, to a walk by hand\n\n\
          The peer (`rust/bench/c/limit.c`) reads the same words and keeps the same marks, in C. Aim: at most 1.20, and a growth of at most 1.10.\n\n{}\n\
+         To the same walk by hand, with a test before each word and each mark that it is there, as the proved check has them: it relies on no walk before.\n\n{}\n\
          ## The calls, to other allocators\n\n\
          newlib's two allocators have one fixed arena of 65,536 bytes each, as the heap has; glibc's has what the system gives. \
          A step is one strip going and one coming (reallocate: one getting another size). \
          The walk that finds a live block and the rest are measured on a heap that comes back to the same state at each step, where the check can be measured by itself \
          on those states; what remains of a step of the load is its checks. The rest is set against the peers' steps on such a heap. Its aim: not slower than newlib's.\n\n{missing}{}",
         machine(),
-        checks(checked),
+        checks(checked, |row| row.limit),
+        checks(checked, |row| row.tested),
         calls(called)
     )
 }
