@@ -43,9 +43,16 @@ module _ (c : tie.After-tails2) where
   abbrev searched : tie.After-choose-arg
   searched = somewhere .before .before .before .before .before
 
--- behind the whole record: the room is granted
-abbrev served : tie.After-with-books → tie.After-serve
-served c = c .before .before .before .before .before .before .before .before .before .before .before .before
+-- behind the whole record: the used bytes are known, the block is filled, the room was granted
+module _ (c : tie.After-with-books) where
+  abbrev used : tie.After-wrapping-add-u32
+  used = c .before .before .before
+
+  abbrev filled : tie.After-fill
+  filled = used .before .before .before
+
+  abbrev served : tie.After-serve
+  served = filled .before .before .before .before .before .before
 
 returns : tie.Need-returns
 returns c =
@@ -92,10 +99,10 @@ returns-4 c =
     let sized = sized searched in
     let somewhere = somewhere lent in
     let granted =
-    served-recorded _ _ _ _ _ _ _ (served .serve .ensures) _ (c .before .before .before .wrapping-add-u32 .ensures) _ (c .with-books .ensures) in
+    served-recorded _ _ _ _ _ _ _ (served .serve .ensures) _ (used c .wrapping-add-u32 .ensures) _ (c .with-books .ensures) in
     allocate-grants _ _ _ (start (checked sized) .args .clears) (heap-passes (checked sized)) (size-permitted sized) _ (needed searched .need-of .ensures) _ _
     (grants-some _ _ _ _ _ _ (somewhere .before .before .choose .ensures) (somewhere .before .is-nowhere .ensures) (somewhere .if3 .left)
-    _ granted _ (c .before .before .before .before .before .before .fill .ensures) _ (c .before .before .block-of .ensures) _ (c .before .change .ensures))
+    _ granted _ (filled c .fill .ensures) _ (c .before .before .block-of .ensures) _ (c .before .change .ensures))
 
 pub allocate-with-spec : {M : Type 1} → statement M
 allocate-with-spec =
