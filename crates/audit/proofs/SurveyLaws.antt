@@ -13,7 +13,7 @@ use Rattle.chain.specs.Chain.{endOf}
 use Rattle.chain.proofs.EndLaws.{endAt, hereAt, chain-here, chain-next, end-link}
 use Rattle.record.specs.declared.kinds.Kind.{Kind}
 use Rattle.record.specs.declared.kinds.Kind.the-variants.{Start, InUse, Ordinary, Donor, Top, End}
-use Rattle.region.specs.Words.{word, forward}
+use Rattle.region.specs.Words.{word, forward, backward}
 use Rattle.rules.specs.Kinds.{kindAt, outside}
 use Rattle.rules.specs.Shape.{Entry, shape}
 use Rattle.rules.proofs.ShapeLaws.{chainFrom, shape-is, chain-by}
@@ -22,7 +22,7 @@ use Rattle.audit.specs.declared.chunks.Seen.the-variants.{Sound, Unsound
 use Rattle.audit.specs.declared.survey.Share.{Share}
 use Rattle.audit.specs.declared.survey.Survey.the-variants.{Surveyed}
 use Rattle.audit.specs.declared.survey.Tally.{Tally}
-use Rattle.audit.specs.Chunks.{soundAt, seenAt}
+use Rattle.audit.specs.Chunks.{soundAt, seenBy}
 use Rattle.audit.specs.Survey.{shareOf, added, marking, shareAt, allSound, markAll, tallyOf, SurveyIs}
 
 -- no share is larger than the chunk, and none counts more than one
@@ -203,18 +203,21 @@ begins = record { inside = omega arith; sound = refl; marks = refl; tally = simp
 pub tallies : (t : Tally) (c : ℕ) (s s′ : Share) {t′ : Tally} → s ≡ s′ → t′ ≡ added t s c → t′ ≡ added t s′ c
 tallies t c s s′ q e = e ∙ ap (λ (x : Share). added t x c) q
 
--- what the code holds when it has looked at the chunk at c: its forward link n, its end e, and what was seen
+-- what the code holds when it has looked at the chunk at c: its forward link n, its second word, its end e, and what was seen
 module _ {ws : List ℕ} {bytes donor top : ℕ} {ms₀ ms : List ℕ} {t : Tally} {p c : ℕ} (o : Onward ws bytes donor top ms₀ ms t p c)
-    (fits : bytes < 2 ^ 32) {n e : ℕ} {seen : Seen} (en : n ≡ word ws c forward) (ee : e ≡ endOf bytes c n)
-    (es : seen ≡ seenAt ws bytes donor top p c (e - c)) where
+    (fits : bytes < 2 ^ 32) {n back e : ℕ} {seen : Seen} (links : (n ≡ word ws c forward) × (back ≡ word ws c backward)) (ee : e ≡ endOf bytes c n)
+    (es : seen ≡ seenBy ws bytes donor top p c (e - c) back) where
   end-is : e ≡ endAt ws bytes c
-  end-is = ee ∙ ap (endOf bytes c) en
+  end-is = ee ∙ ap (endOf bytes c) (links .0)
 
-  told : seen ≡ seenAt ws bytes donor top p c (endAt ws bytes c - c)
-  told = es ∙ ap (λ (x : ℕ). seenAt ws bytes donor top p c (x - c)) end-is
+  told : seen ≡ seenBy ws bytes donor top p c (endAt ws bytes c - c) (word ws c backward)
+  told =
+      es
+      ∙ ap (λ (x : ℕ). seenBy ws bytes donor top p c (x - c) back) end-is
+      ∙ ap (seenBy ws bytes donor top p c (endAt ws bytes c - c)) (links .1)
 
   told-unsound : seen ≡ Unsound → soundAt ws bytes donor top p (hereAt ws bytes c) ≡ false
-  unfolding seenAt
+  unfolding seenBy soundAt
   told-unsound u = by (soundAt ws bytes donor top p (hereAt ws bytes c)) refl (sym told ∙ u)
     where
       by : (t : Bool) → soundAt ws bytes donor top p (hereAt ws bytes c) ≡ t
@@ -224,7 +227,7 @@ module _ {ws : List ℕ} {bytes donor top : ℕ} {ms₀ ms : List ℕ} {t : Tall
 
   told-sound : (k : Kind) → seen ≡ Sound k
       → (k ≡ kindAt bytes donor top (hereAt ws bytes c)) × (soundAt ws bytes donor top p (hereAt ws bytes c) ≡ true)
-  unfolding seenAt
+  unfolding seenBy soundAt
   told-sound k u = by (soundAt ws bytes donor top p (hereAt ws bytes c)) refl (sym told ∙ u)
     where
       by : (t : Bool) → soundAt ws bytes donor top p (hereAt ws bytes c) ≡ t
@@ -249,5 +252,5 @@ module _ {ws : List ℕ} {bytes donor top : ℕ} {ms₀ ms : List ℕ} {t : Tall
         let r = told-sound k ek in
         let m : endAt ws bytes c ≡ bytes → ⊥ = λ q. f (end-is ∙ q) in
         let h = chain-next ws bytes c m in
-        let link : n ≡ endAt ws bytes c = en ∙ end-link ws bytes c m in
+        let link : n ≡ endAt ws bytes c = links .0 ∙ end-link ws bytes c m in
         rw (et, em, sh, end-is, link) (h .0, h .1, goes-on ws bytes donor top fits ms₀ ms t p c o k (r .0) (r .1) m)

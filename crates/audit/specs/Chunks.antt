@@ -9,7 +9,7 @@ use Rattle.record.specs.declared.kinds.Kind.the-variants.{Start, InUse, Ordinar
 use Rattle.region.specs.Words.{word, forward, backward, size}
 use Rattle.rules.specs.Check.{unbinned}
 use Rattle.rules.specs.Kinds.{kindAt}
-use Rattle.rules.specs.Shape.{Entry, entry, flagsAt}
+use Rattle.rules.specs.Shape.{Entry, entry}
 use Rattle.audit.specs.declared.chunks.Seen.{Seen}
 use Rattle.audit.specs.declared.chunks.Seen.the-variants.{Sound, Unsound}
 
@@ -53,8 +53,9 @@ unfoldable pub soundAt : List ℕ → ℕ → ℕ → ℕ → ℕ → Entry → 
 soundAt ws bytes donor top p e =
     backedAt ws p (e .place) && soundAs ws bytes donor top e (kindAt bytes donor top e)
 
--- what a look at the chunk at c, of this size, finds
-unfoldable pub seenAt : List ℕ → ℕ → ℕ → ℕ → ℕ → ℕ → ℕ → Seen
-seenAt ws bytes donor top p c s =
-    let e = entry c s (flagsAt ws c) in
-    cond (soundAt ws bytes donor top p e) (Sound (kindAt bytes donor top e)) Unsound
+-- what a look at the chunk at c, of this size and with this second word, finds
+unfoldable pub seenBy : List ℕ → ℕ → ℕ → ℕ → ℕ → ℕ → ℕ → ℕ → Seen
+seenBy ws bytes donor top p c s link =
+    let e = entry c s (link % 8) in
+    let kind = kindAt bytes donor top e in
+    cond (backedBy link p c && soundAs ws bytes donor top e kind) (Sound kind) Unsound

@@ -1,11 +1,10 @@
 // Whether one chunk of the chain is as it should be, by its kind. Its place in a bin is not looked at here.
 ghost use mathlib.Core.Path.{_≡_};
-ghost use Rattle.audit.specs.Chunks.{backedBy, sizedAt, startIs, endIs, reservedAt, donorAt, topAt, soundAs, seenAt};
+ghost use Rattle.audit.specs.Chunks.{backedBy, sizedAt, startIs, endIs, reservedAt, donorAt, topAt, soundAs, seenBy};
 ghost use Rattle.rules.specs.Check.{unbinned};
 ghost use Rattle.rules.specs.Shape.{entry};
 use chain::kind_of;
 use record::kinds::Kind;
-use region::BACKWARD;
 use region::BIN;
 use region::Chunk;
 use region::FORWARD;
@@ -118,7 +117,7 @@ pub fn is_sound(
     }
 }
 
-// What a look at a chunk finds: its kind, or that something is wrong.
+// What a look at a chunk, whose second word is lent, finds: its kind, or that something is wrong.
 pub enum Seen {
     Sound(Kind),
     Unsound,
@@ -132,10 +131,10 @@ pub fn examine(
     before: Chunk,
     chunk: Chunk,
     size: u32,
+    link: u32,
 ) -> Seen
-    ensures { λ r. ⌜ r ≡ seenAt (now (region .entry)) bytes (donor .0) (top .0) (before .0) (chunk .0) size ⌝ }
+    ensures { λ r. ⌜ r ≡ seenBy (now (region .entry)) bytes (donor .0) (top .0) (before .0) (chunk .0) size link ⌝ }
 {
-    let link = word(region, chunk, BACKWARD);
     let backed = is_backed(link, before, chunk);
     if !backed {
         return Seen::Unsound;

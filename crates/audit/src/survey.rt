@@ -9,8 +9,7 @@ use chain::is_ordinary;
 use marks::flip;
 use record::kinds::Kind;
 use region::Chunk;
-use region::FORWARD;
-use region::word;
+use region::links_of;
 
 // What one chunk adds to each count.
 pub struct Share {
@@ -101,10 +100,21 @@ pub fn walk(region: &[u32], bytes: u32, donor: Chunk, top: Chunk, marks: &mut [u
     let mut before = 0;
     let mut at = 0;
     loop {
-        let next = word(region, Chunk(at), FORWARD);
+        let links = links_of(region, Chunk(at));
+        let next = links.forward;
+        let link = links.backward;
         let end = end_of(bytes, Chunk(at), next);
         let size = end - at;
-        let seen = examine(region, bytes, donor, top, Chunk(before), Chunk(at), size);
+        let seen = examine(
+            region,
+            bytes,
+            donor,
+            top,
+            Chunk(before),
+            Chunk(at),
+            size,
+            link,
+        );
         let Seen::Sound(kind) = seen else {
             return Survey::Broken;
         };

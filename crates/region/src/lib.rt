@@ -2,7 +2,7 @@
 // What the words mean (links, flags, sizes) is not known here.
 ghost use mathlib.Core.Path.{_≡_};
 ghost use Rattle.region.specs.Places.{blockAt, chunkAt};
-ghost use Rattle.region.specs.Words.{word, store};
+ghost use Rattle.region.specs.Words.{backward, forward, word, store};
 
 // A chunk's place and a block's place, both byte offsets: eight bytes apart, and never mixed.
 pub struct Chunk(pub u32);
@@ -50,6 +50,29 @@ pub fn word(region: &[u32], chunk: Chunk, number: u32) -> u32
 {
     let i = (chunk.0 / 4) as usize + number as usize;
     if i < region.len() { region[i] } else { 0 }
+}
+
+// The two words that every chunk has.
+pub struct Links {
+    pub forward: u32,
+    pub backward: u32,
+}
+
+// Where both are there, one test serves both: the check reads them of every chunk.
+pub fn links_of(region: &[u32], chunk: Chunk) -> Links
+    ensures { λ r. ⌜ (r .forward ≡ word (now (region .entry)) (chunk .0) forward) × (r .backward ≡ word (now (region .entry)) (chunk .0) backward) ⌝ }
+{
+    let i = (chunk.0 / 4) as usize;
+    if i + 1 < region.len() {
+        return Links {
+            forward: region[i],
+            backward: region[i + 1],
+        };
+    }
+    Links {
+        forward: word(region, chunk, FORWARD),
+        backward: word(region, chunk, BACKWARD),
+    }
 }
 
 // Outside the region nothing is written.

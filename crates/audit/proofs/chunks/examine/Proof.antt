@@ -9,24 +9,23 @@ returns-2 : tie.Need-returns-2
 returns-2 c =
     let kind = c .before .before in
     let backed = kind .before .before in
-    found-unsound _ _ _ _ _ _ _ (backed .before .word .ensures) (backed .is-backed .ensures) (kind .kind-of .ensures _) (c .before .is-sound .ensures)
+    found-unsound _ _ _ _ _ _ _ _ (backed .is-backed .ensures) (kind .kind-of .ensures _) (c .before .is-sound .ensures)
     (not-false _ (kind .before .if1 .left)) (not-true _ (c .if2 .taken))
 
 returns-3 : tie.Need-returns-3
 returns-3 c =
     let kind = c .before .before in
     let backed = kind .before .before in
-    found-sound _ _ _ _ _ _ _ (backed .before .word .ensures) (backed .is-backed .ensures) (kind .kind-of .ensures _) (c .before .is-sound .ensures)
+    found-sound _ _ _ _ _ _ _ _ (backed .is-backed .ensures) (kind .kind-of .ensures _) (c .before .is-sound .ensures)
     (not-false _ (kind .before .if1 .left)) (not-false _ (c .if2 .left))
 
 returns : tie.Need-returns
-returns c = found-unbacked _ _ _ _ _ _ _ (c .before .before .word .ensures) (c .before .is-backed .ensures) (not-true _ (c .if1 .taken))
+returns c = found-unbacked _ _ _ _ _ _ _ _ (c .before .is-backed .ensures) (not-true _ (c .if1 .taken))
 
 pub examine-spec : {M : Type 1} → statement M
 examine-spec =
     tie.close
     (tie.spec
-    (λ c κs. search needs)
     (λ c κs. search needs)
     returns
     (λ c κs. search needs)

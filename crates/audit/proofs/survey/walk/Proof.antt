@@ -1,6 +1,6 @@
 -- `survey::walk` examines, counts and marks the whole chain. The invariant: what is done and what is left come to the whole.
 -- The measure is what is left of the heap bytes. Assumes nothing.
-use Prim.Native.Nat.{_-_, _<_}
+use Prim.Native.Nat.{_-_, _^_, _<_}
 use native.Mathlib.Omega.{arith}
 use mathlib.Core.Path.{_≡_, refl}
 use borrow.Author.Needs.{needs}
@@ -22,7 +22,12 @@ loop-holds c = (begins, refl)
 
 sub-size : tie.Need-sub-size Inv-loop μ-loop
 sub-size c =
-    end-above _ _ _ (c .before .word .ensures) (c .end-of .ensures) (c .before .before .loop .inv .0 .inside)
+    end-above _ _ _ (c .before .links-of .ensures .0) (c .end-of .ensures) (c .before .before .loop .inv .0 .inside)
+
+bytes-fit : (read : tie.After-links-of Inv-loop μ-loop) → read .before .before .before .before .args .bytes < 2 ^ 32
+bytes-fit read =
+    let g = read .before .before .before .before .good in
+    omega arith
 
 same-length : tie.Need-same-length Inv-loop μ-loop
 same-length c = search needs
@@ -32,13 +37,13 @@ returns c =
     let examined = c .before .before in
     let ended = examined .before in
     let read = ended .before in
-    walk-breaks (read .before .loop .inv .0) (omega arith) (read .word .ensures) (ended .end-of .ensures) (examined .examine .ensures)
+    walk-breaks (read .before .loop .inv .0) (bytes-fit read) (read .links-of .ensures) (ended .end-of .ensures) (examined .examine .ensures)
     (c .enum-told .given .1)
 
 same-length-2 : tie.Need-same-length-2 Inv-loop μ-loop
 same-length-2 c = search needs
 
--- behind the new tally: the chunk is marked, its kind is told, it is examined, its end is known, its forward word is read
+-- behind the new tally: the chunk is marked, its kind is told, it is examined, its end is known, its two links are read
 module _ (tallied : tie.After-tallied Inv-loop μ-loop) where
   abbrev marked : tie.After-mark Inv-loop μ-loop
   marked = tallied .before .before .before
@@ -52,27 +57,27 @@ module _ (tallied : tie.After-tallied Inv-loop μ-loop) where
   abbrev ended : tie.After-end-of Inv-loop μ-loop
   ended = examined .before
 
-  abbrev read : tie.After-word Inv-loop μ-loop
+  abbrev read : tie.After-links-of Inv-loop μ-loop
   read = ended .before
 
 returns-2 : tie.Need-returns-2 Inv-loop μ-loop
 returns-2 c =
     let tallied = c .before in
     let read = read tallied in
-    walk-ends (read .before .loop .inv .0) (omega arith) (read .word .ensures) (ended tallied .end-of .ensures)
+    walk-ends (read .before .loop .inv .0) (bytes-fit read) (read .links-of .ensures) (ended tallied .end-of .ensures)
     (examined tallied .examine .ensures) (told tallied .seen .given .1) refl (tallied .tallied .ensures) (marked tallied .mark .ensures)
     (c .if1 .taken)
 
 -- where the walk goes on, the next chunk is further on, inside the heap bytes, and the walk is where it should be
 goes : (c : tie.Else1 Inv-loop μ-loop)
-    → let t = c .before in let at = read t .before .loop .at in let next = read t .word .result in
+    → let t = c .before in let at = read t .before .loop .at in let next = read t .links-of .result .forward in
     let a = read t .before .before .before .before .args in
     (at < next) × (next < a .bytes)
     × Onward (a .region .now) (a .bytes) (a .donor .0) (a .top .0) (a .marks .now) (marked t .mark .last .0) (t .tallied .result) at next
 goes c =
     let tallied = c .before in
     let read = read tallied in
-    walk-goes (read .before .loop .inv .0) (omega arith) (read .word .ensures) (ended tallied .end-of .ensures)
+    walk-goes (read .before .loop .inv .0) (bytes-fit read) (read .links-of .ensures) (ended tallied .end-of .ensures)
     (examined tallied .examine .ensures) (told tallied .seen .given .1) refl (tallied .tallied .ensures) (marked tallied .mark .ensures)
     (c .if1 .left)
 
