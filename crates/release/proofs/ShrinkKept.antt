@@ -22,9 +22,10 @@ use Rattle.rules.specs.Cut.{Grant}
 use Rattle.rules.specs.Reallocate.{shrunk}
 use Rattle.rules.proofs.KindsLaws.{kind-in-use, ordinary-free, free-not-live}
 use Rattle.rules.proofs.SpotLaws.{Between, bounds}
+use Rattle.bins.proofs.RunsLaws.{PassBy}
 use Rattle.settling.proofs.LayoutLaws.{Beside, Laid, Layout, layout-replaced, laid-between}
 use Rattle.settling.proofs.HeaderLaws.{Header, Headed, headed-below, headed-joined, headed-keeps, Spares}
-use Rattle.settling.proofs.HalfwayLaws.{now, Halfway, Passing, halfway-fewer, writes-halfway, Opened}
+use Rattle.settling.proofs.HalfwayLaws.{now, Halfway, halfway-fewer, writes-halfway, Opened}
 use Rattle.settling.proofs.SettleLaws.{settles-all}
 use Rattle.settling.proofs.OpenLaws as opened
 use Rattle.settling.proofs.PictureLaws.{Pictured, Posts, posts-in, used-replaced}
@@ -114,7 +115,7 @@ module _ {ws : List ℕ} {h : Heap} {low : List Entry} {e : Entry} {high : List 
       let y = outer-laid x m .some in
       (word-misses x m forward (omega arith), word-misses x m backward (omega arith), λ f. word-misses x m size (omega (arith, outer-laid x m .free f .1)))
 
-  outer-passed : (x : Entry) → Mem x (low ++ high) → x .flags ≡ 0 → Passing splitStores (x .place)
+  outer-passed : (x : Entry) → Mem x (low ++ high) → x .flags ≡ 0 → PassBy splitStores (x .place)
   outer-passed x m f =
       let y = outer-laid x m .free f .1 in
       (word-misses x m 3 (omega arith), word-misses x m 4 (omega arith), word-misses x m 5 (omega arith))
