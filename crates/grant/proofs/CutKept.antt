@@ -22,7 +22,8 @@ use Rattle.rules.specs.Check.{usedBytes, Passes}
 use Rattle.rules.specs.Draft.{Draft, asRead, relink, settle, nowUses}
 use Rattle.rules.specs.Cut.{Parts, chunksOf, leaveAs}
 use Rattle.rules.proofs.KindsLaws.{kind-in-use, free-not-live, free-kinds}
-use Rattle.rules.proofs.SpotLaws.{bounds, is-ordinary}
+use Rattle.rules.proofs.SpotLaws.{bounds}
+use Rattle.rules.proofs.NamedLaws.{is-ordinary}
 use Rattle.settling.proofs.LayoutLaws.{Laid, Layout, layout-replaced, laid-between}
 use Rattle.settling.proofs.OpenLaws.{InnerChunk, whole, laid-out, lows, highs, opens-kept, opens-left, top-outer, donor-outer}
 use Rattle.settling.proofs.HalfwayLaws.{Opened, Closed, closes}

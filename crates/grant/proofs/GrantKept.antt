@@ -17,7 +17,8 @@ use Rattle.rules.specs.Draft.{Draft, asRead, relink, settle, nowUses, spot}
 use Rattle.rules.specs.Cut.{Grant, Parts, cut, chunksOf, leaveAs, grantAt}
 use Rattle.rules.specs.Allocate.{sourceOf, grant}
 use Rattle.rules.proofs.KindsLaws.{free-not-live}
-use Rattle.rules.proofs.SpotLaws.{one-chunk, live-between}
+use Rattle.rules.proofs.SpotLaws.{one-chunk}
+use Rattle.rules.proofs.NamedLaws.{live-between}
 use Rattle.settling.proofs.OpenLaws.{whole, outer}
 use Rattle.settling.proofs.PictureLaws.{Pictured}
 use Rattle.grant.specs.Serve.{kindIn}

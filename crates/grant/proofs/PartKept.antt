@@ -21,7 +21,7 @@ use Rattle.rules.specs.Check.{usedBytes, Passes}
 use Rattle.rules.specs.Draft.{Draft, asRead, relink, settle, nowUses}
 use Rattle.rules.specs.Cut.{Parts, chunksOf, leaveAs}
 use Rattle.rules.proofs.KindsLaws.{kind-top, kind-donor, kind-ordinary, donor-moved, top-moved, free-kinds, being-as}
-use Rattle.rules.proofs.SpotLaws.{IsTop, is-ordinary, is-top, is-donor}
+use Rattle.rules.proofs.NamedLaws.{IsTop, is-ordinary, is-top, is-donor}
 use Rattle.settling.proofs.LayoutLaws.{Beside, Laid, Layout, layout-replaced, laid-between}
 use Rattle.settling.proofs.HalfwayLaws.{now, Closed, closes}
 use Rattle.settling.proofs.SettleLaws.{Settles, settles-named, settles-in-bin, settles-as-donor, settles-as-top}

@@ -31,7 +31,8 @@ use Rattle.rules.specs.Outcome.{made}
 use Rattle.rules.specs.Allocate.{grant, cleared}
 use Rattle.rules.specs.Free.{isLive, freeBlock}
 use Rattle.rules.specs.Statements.{Left, leftBy}
-use Rattle.rules.proofs.SpotLaws.{inside, is-ordinary, is-donor}
+use Rattle.rules.proofs.SpotLaws.{inside}
+use Rattle.rules.proofs.NamedLaws.{is-ordinary, is-donor}
 use Rattle.settling.proofs.FillLaws.{Within, filled-within, fill-reads, below-block, above-block}
 use Rattle.promises.specs.Room.{OnChain, HoldsBlock}
 use Rattle.promises.specs.Apart.{SameWords, Keeps, KeepsAll, KeepsOthers, Gone, NoneNewBut, CutFrom, New}

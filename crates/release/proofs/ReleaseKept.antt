@@ -16,7 +16,7 @@ use Rattle.rules.specs.Check.{usedBytes, Passes}
 use Rattle.rules.specs.Draft.{Spot, asRead, nowUses}
 use Rattle.rules.specs.Join.{release}
 use Rattle.rules.specs.Free.{isLive, blockSpot, freeBlock}
-use Rattle.rules.proofs.SpotLaws.{is-top, is-donor}
+use Rattle.rules.proofs.NamedLaws.{is-top, is-donor}
 use Rattle.rules.proofs.KindsLaws.{live-kind}
 use Rattle.settling.proofs.LayoutLaws.{Laid, Layout, layout-replaced, laid-between}
 use Rattle.settling.proofs.HeaderLaws.{headed-below}

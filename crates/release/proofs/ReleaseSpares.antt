@@ -20,7 +20,8 @@ use Rattle.rules.specs.Check.{Passes}
 use Rattle.rules.specs.Draft.{Draft, Spot, asRead, leaveBin}
 use Rattle.rules.specs.Join.{Joined, leaveBins, release}
 use Rattle.rules.specs.Free.{isLive, blockSpot, freeBlock}
-use Rattle.rules.proofs.SpotLaws.{one-chunk, live-between}
+use Rattle.rules.proofs.SpotLaws.{one-chunk}
+use Rattle.rules.proofs.NamedLaws.{live-between}
 use Rattle.rules.proofs.KindsLaws.{ordinary-free}
 use Rattle.settling.proofs.LayoutLaws.{Layout}
 use Rattle.settling.proofs.OpenLaws.{outer}

@@ -14,7 +14,8 @@ use Rattle.region.proofs.WordsLaws.{Fall, fall-so, Off, off, word-same, length-
 use Rattle.rules.specs.Shape.{Entry, shape, binList}
 use Rattle.rules.specs.Kinds.{live, unused, blockOf, blockEnd, blockWords}
 use Rattle.rules.specs.Check.{Fits, Passes}
-use Rattle.rules.proofs.SpotLaws.{inside, apart, one-chunk, flags-free, live-between}
+use Rattle.rules.proofs.SpotLaws.{inside, apart, one-chunk}
+use Rattle.rules.proofs.NamedLaws.{flags-free, live-between}
 use Rattle.rules.proofs.HeadersLaws.{SameHeader, headers-shape, headers-list, headers-pass}
 
 -- stores that fall into words a block has

@@ -23,7 +23,7 @@ use Rattle.rules.specs.Kinds.{ordinaryKind, ordinary, outside}
 use Rattle.rules.specs.Check.{Unused, Unbinned, BelongsTo, Passes}
 use Rattle.rules.specs.Draft.{Draft, asRead, relink}
 use Rattle.rules.proofs.KindsLaws.{kind-ordinary, ordinary-free, used-not-ordinary}
-use Rattle.rules.proofs.SpotLaws.{flags-free, is-top, is-donor}
+use Rattle.rules.proofs.NamedLaws.{flags-free, is-top, is-donor}
 use Rattle.bins.proofs.RunsLaws.{PassBy}
 use Rattle.bins.proofs.HeapBooks.{list-none}
 use Rattle.bins.proofs.WayLaws.{OnWay, way-begins, way-keeps}
