@@ -90,27 +90,16 @@ module _ (ws : List ℕ) (h : Heap) (k : Passes ws h) where
         let r = k .binned e m o in
         rw (r .1) (omega (arith, r .2 .0, k .table .bins))
 
-    next-is : (t : Bool) → ordinary h e ≡ t
-        → cond t (word ws (e .place) nextInBin) 0
-        ≡ shown (firstOf (past (eqb (e .place)) (listOf (asRead ws h) (cond t (binOf (tableOf h) (e .size)) NoBin))))
+    -- what a word of the chunk tells of the list of its bin
+    neighbour-is : (number : ℕ) (told : List ℕ → ℕ) → told [] ≡ 0
+        → ((cs : List ℕ) → Linked ws 0 cs → Mem (e .place) cs → word ws (e .place) number ≡ told cs)
+        → (t : Bool) → ordinary h e ≡ t
+        → cond t (word ws (e .place) number) 0 ≡ told (listOf (asRead ws h) (cond t (binOf (tableOf h) (e .size)) NoBin))
     unfolding asRead
-    next-is false o = refl
-    next-is true o =
+    neighbour-is number told none linked false o = sym none
+    neighbour-is number told none linked true o =
         let r = k .binned e m o in
-        rw (r .1)
-        (linked-next ws (e .place) 0 (binList ws h (r .0)) (k .bins (r .0) (r .2 .0) .links) (r .2 .1)
-        ∙ shown-first (past (eqb (e .place)) (binList ws h (r .0))))
-
-    previous-is : (t : Bool) → ordinary h e ≡ t
-        → cond t (word ws (e .place) previousInBin) 0
-        ≡ shown (lastOf (upTo (eqb (e .place)) (listOf (asRead ws h) (cond t (binOf (tableOf h) (e .size)) NoBin))))
-    unfolding asRead
-    previous-is false o = refl
-    previous-is true o =
-        let r = k .binned e m o in
-        rw (r .1)
-        (linked-previous ws (e .place) 0 (binList ws h (r .0)) (k .bins (r .0) (r .2 .0) .links) (r .2 .1)
-        ∙ shown-last (upTo (eqb (e .place)) (binList ws h (r .0))))
+        rw (r .1) (linked (binList ws h (r .0)) (k .bins (r .0) (r .2 .0) .links) (r .2 .1))
 
     block-is : cond (liveAt (h .bytes) (e .place) (e .flags)) (blockAt (e .place)) 0 ≡ shown (onlyIf (live h e) (blockOf e))
     block-is =
@@ -151,9 +140,15 @@ module _ (ws : List ℕ) (h : Heap) (k : Passes ws h) where
     figure-is (suc (suc zero)) lo hi n = block-is (here .here) member
     figure-is (suc (suc (suc zero))) lo hi n = absurd (n refl)
     figure-is (suc (suc (suc (suc zero)))) lo hi n = next-place
-    figure-is (suc (suc (suc (suc (suc zero))))) lo hi n = rw size-is (next-is (here .here) member (ordinary h (here .here)) refl)
+    figure-is (suc (suc (suc (suc (suc zero))))) lo hi n =
+        rw size-is
+        (neighbour-is (here .here) member nextInBin (λ cs. shown (firstOf (past (eqb (here .here .place)) cs))) refl
+        (λ cs l j. linked-next ws (here .here .place) 0 cs l j ∙ shown-first (past (eqb (here .here .place)) cs)) (ordinary h (here .here)) refl)
     figure-is (suc (suc (suc (suc (suc (suc zero)))))) lo hi n = last-place (entry 0 0 0) (here .low) ∙ shown-last (placesOf (here .low))
-    figure-is (suc (suc (suc (suc (suc (suc (suc zero))))))) lo hi n = rw size-is (previous-is (here .here) member (ordinary h (here .here)) refl)
+    figure-is (suc (suc (suc (suc (suc (suc (suc zero))))))) lo hi n =
+        rw size-is
+        (neighbour-is (here .here) member previousInBin (λ cs. shown (lastOf (upTo (eqb (here .here .place)) cs))) refl
+        (λ cs l j. linked-previous ws (here .here .place) 0 cs l j ∙ shown-last (upTo (eqb (here .here .place)) cs)) (ordinary h (here .here)) refl)
     figure-is (suc (suc (suc (suc (suc (suc (suc (suc zero)))))))) lo hi n = size-is
     figure-is (suc (suc (suc (suc (suc (suc (suc (suc (suc zero))))))))) lo hi n = refl
     figure-is (suc (suc (suc (suc (suc (suc (suc (suc (suc (suc q)))))))))) lo hi n = absurd (omega arith)

@@ -19,7 +19,8 @@ use Rattle.rules.specs.Kinds.{ordinary, blockEnd}
 use Rattle.rules.specs.Check.{Linked, Passes}
 use Rattle.rules.proofs.ChainLaws.{places-fit}
 use Rattle.rules.proofs.ShapeLaws.{Leads, read-none, read-head}
-use Rattle.rules.proofs.SpotLaws.{IsOrdinary, bounds, inside, apart, far, few-chunks, is-ordinary}
+use Rattle.rules.proofs.SpotLaws.{bounds, inside, apart, far, few-chunks}
+use Rattle.rules.proofs.NamedLaws.{IsOrdinary, is-ordinary}
 use Rattle.bins.specs.Books.{books}
 use Rattle.bins.proofs.RunsLaws.{Node}
 use Rattle.bins.proofs.BooksLaws.{Holds, Far}

@@ -7,7 +7,7 @@ use Prim.Native.Nat.{ℕ, _+_, _*_, _/_, _%_, _≤_, _<_}
 use native.Mathlib.Omega.{arith}
 use lib.ListN.{length}
 use Rattle.lists.specs.Lists.{Mem, headOr, lastOr, Distinct}
-use Rattle.region.specs.Words.{word, Store, put, written, nextInBin, previousInBin}
+use Rattle.region.specs.Words.{word, Store, put, written, nextInBin, previousInBin, bin}
 use Rattle.region.proofs.WordsLaws.{Off, off, word-same, word-other, off-both}
 use Rattle.rules.specs.Check.{Linked}
 use Rattle.rules.specs.Draft.{followedBy, precededBy, meet}
@@ -51,6 +51,10 @@ module _ (ws : List ℕ) where
 -- the stores leave both links of the chunk at d
 abbrev pub Clear : ℕ → List Store → Type 0
 Clear d ss = Off (d / 4 + nextInBin) ss × Off (d / 4 + previousInBin) ss
+
+-- the stores pass by the chunk at d: they leave its links and its bin word
+abbrev pub PassBy : List Store → ℕ → Type 0
+PassBy ss d = Off (d / 4 + nextInBin) ss × Off (d / 4 + previousInBin) ss × Off (d / 4 + bin) ss
 
 pub run-keeps : (ss : List Store) (ws : List ℕ) (p n : ℕ) (cs : List ℕ) → ((d : ℕ) → Mem d cs → Clear d ss)
     → Run ws p cs n → Run (written ws ss) p cs n

@@ -21,7 +21,7 @@ use Rattle.rules.specs.Check.{Passes}
 use Rattle.rules.specs.Draft.{meet}
 use Rattle.rules.proofs.ShapeLaws.{Leads}
 use Rattle.bins.specs.Books.{Books, books, leaveM, putM}
-use Rattle.bins.proofs.RunsLaws.{Node, NoLinkOf, NoLink, meet-off, linked-keeps}
+use Rattle.bins.proofs.RunsLaws.{Node, PassBy, NoLinkOf, NoLink, meet-off, linked-keeps}
 use Rattle.bins.proofs.BooksLaws.{Holds, Far, left, putAt, putStores, leave-is, leave-holds, leave-others, put-off, put-is, put-holds, put-others, put-head-is, put-tail-is}
 use Rattle.bins.proofs.HeapBooks.{heap-holds, members-far, lists-apart, linked-leads}
 
@@ -111,8 +111,7 @@ module _ (b : Books) (lists : ℕ → List ℕ) (n : ℕ) (w : OnWay b lists n) 
   way-leads j l = let h = w .holds j l in linked-leads (b .words) 0 (lists j) (h .links) (λ c m. h .nodes c m .some)
 
   -- stores that are to no link and to no bin word of a member
-  pub way-keeps : (ss : List Store)
-      → ((j c : ℕ) → j < n → Mem c (lists j) → Off (c / 4 + nextInBin) ss × Off (c / 4 + previousInBin) ss × Off (c / 4 + bin) ss)
+  pub way-keeps : (ss : List Store) → ((j c : ℕ) → j < n → Mem c (lists j) → PassBy ss c)
       → OnWay (books (written (b .words) ss) (b .heads) (b .tails)) lists n
   way-keeps ss f =
       record {

@@ -26,7 +26,8 @@ use Rattle.rules.specs.Check.{Passes}
 use Rattle.rules.specs.Draft.{asRead}
 use Rattle.rules.specs.Serve.{sizeOn, fromBin, ownBin, tryDonor, largerBin, tryTop, chosen}
 use Rattle.rules.specs.Shape.{Entry, shape, binList}
-use Rattle.rules.proofs.SpotLaws.{spot-at, top-here, donor-here}
+use Rattle.rules.proofs.SpotLaws.{spot-at}
+use Rattle.rules.proofs.NamedLaws.{top-here, donor-here}
 use Rattle.rules.proofs.CheckLaws.{table-bins}
 use Rattle.grant.specs.Choose.{ownM, largerM, donorM, topM, chooseM}
 

@@ -1,10 +1,10 @@
 -- A free chunk that is cut for a grant: what the heap is then to be like (`Kept`), and that it is so where all of the chunk is granted
 -- (`whole-kept-as`). Where something is left of it is in PartKept. Assumes nothing.
 use mathlib.Core.Path.{_≡_, refl, sym, ap, _∙_}
-use mathlib.Core.Logic.{_≢_, _⊎_, inl, inr}
+use mathlib.Core.Logic.{_⊎_, inl, inr}
 use mathlib.Core.Bool.{true, false, cond}
 use mathlib.Core.List.{List, [], _∷_, _++_, List·Memᴰ·head, List·Memᴰ·eq-of-singleton}
-use Prim.Native.Nat.{ℕ, _+_, _*_, _-_, _≤_, _<_}
+use Prim.Native.Nat.{ℕ, _+_, _*_, _-_, _≤_}
 use native.Mathlib.Nat.{add-zero}
 use native.Mathlib.Omega.{arith}
 use lib.ListN.{length}
@@ -17,14 +17,15 @@ use Rattle.record.specs.declared.kinds.Kind.{Kind}
 use Rattle.record.specs.declared.kinds.Kind.the-variants.{InUse, Ordinary}
 use Rattle.record.specs.Heap.{withDonor, withTop}
 use Rattle.rules.specs.Shape.{Entry, shape}
-use Rattle.rules.specs.Kinds.{ordinaryKind, freeKind, kindAt, kindOf, ordinary, live, blockEnd}
+use Rattle.rules.specs.Kinds.{ordinaryKind, freeKind, kindAt, kindOf, live}
 use Rattle.rules.specs.Check.{usedBytes, Passes}
-use Rattle.rules.specs.Draft.{Draft, asRead, leaveBin, relink, settle, nowUses}
+use Rattle.rules.specs.Draft.{Draft, asRead, relink, settle, nowUses}
 use Rattle.rules.specs.Cut.{Parts, chunksOf, leaveAs}
 use Rattle.rules.proofs.KindsLaws.{kind-in-use, free-not-live, free-kinds}
-use Rattle.rules.proofs.SpotLaws.{Between, bounds, is-ordinary}
-use Rattle.settling.proofs.LayoutLaws.{Beside, Laid, Layout, layout-replaced, laid-between}
-use Rattle.settling.proofs.OpenLaws as opened
+use Rattle.rules.proofs.SpotLaws.{bounds}
+use Rattle.rules.proofs.NamedLaws.{is-ordinary}
+use Rattle.settling.proofs.LayoutLaws.{Laid, Layout, layout-replaced, laid-between}
+use Rattle.settling.proofs.OpenLaws.{InnerChunk, whole, laid-out, lows, highs, opens-kept, opens-left, top-outer, donor-outer}
 use Rattle.settling.proofs.HalfwayLaws.{Opened, Closed, closes}
 use Rattle.settling.proofs.SettleLaws.{Settles, settles-named, settles-all}
 use Rattle.settling.proofs.PictureLaws.{Pictured, Posts, used-replaced, kinds-after, settled-pictured}
@@ -43,52 +44,20 @@ module _ {ws : List ℕ} {h : Heap} {low : List Entry} {e : Entry} {high : List 
   abbrev well : Passes ws h
   well = chunk .well
 
-  pub between : Between h e
-  between = chunk .free .between
-
-  whole : shape ws (h .bytes) ≡ low ++ e ∷ [] ++ high
-  whole = opened.whole ws h well low e high (chunk .split) between
-
-  pub laid-out : Layout (h .bytes) (low ++ e ∷ [] ++ high)
-  laid-out = opened.laid-out ws h well low e high (chunk .split) between
-
-  pub beside : (x : Entry) → Mem x (low ++ high) → Beside x e
-  beside = opened.beside ws h well low e high (chunk .split) between
-
-  pub elsewhere : (x : Entry) → Mem x (low ++ high) → x .place ≢ e .place
-  elsewhere = opened.elsewhere ws h well low e high (chunk .split) between
-
-  pub lows : low ≡ [] → ⊥
-  lows = opened.lows ws h well low e high (chunk .split) between
-
-  pub highs : high ≡ [] → ⊥
-  highs = opened.highs ws h well low e high (chunk .split) between
+  pub inner : InnerChunk ws h low e high
+  inner = record { well = well; split = chunk .split; between = chunk .free .between }
 
   pub long : h .bytes ≤ 4 * length ws
   long = bounds ws h well .fits
 
   -- the donor and the top are in no bin; an ordinary chunk leaves its own
-  opens-kept : ordinary h e ≡ false → Opened ws h low e e high (asRead ws h)
-  opens-kept = opened.opens-kept ws h well low e high (chunk .split) between
-
-  opens-left : ordinary h e ≡ true → Opened ws h low e e high (leaveBin e (asRead ws h))
-  opens-left = opened.opens-left ws h well low e high (chunk .split) between
-
   pub opens : (k : Kind) → kindOf h e ≡ k → freeKind k ≡ true → Opened ws h low e e high (leaveAs k e (asRead ws h))
   opens k q f =
       free-kinds (λ k. kindOf h e ≡ k → Opened ws h low e e high (leaveAs k e (asRead ws h)))
-      (λ q. opens-left (ap ordinaryKind q)) (λ q. opens-kept (ap ordinaryKind q)) (λ q. opens-kept (ap ordinaryKind q)) k f q
+      (λ q. opens-left inner (ap ordinaryKind q)) (λ q. opens-kept inner (ap ordinaryKind q)) (λ q. opens-kept inner (ap ordinaryKind q)) k f q
 
-  -- top and donor, where they are other chunks
   pub member : Mem e (shape ws (h .bytes))
   member = in-split low e high (chunk .split)
-
-  pub top-outer : e .place ≢ h .top .0 → (t : Entry) × Mem t (low ++ high) × ((t .place ≡ h .top .0) × (t .flags ≡ 0) × (blockEnd t + 8 ≡ h .bytes))
-  top-outer = opened.top-outer ws h well low e high (chunk .split) between
-
-  pub donor-outer : e .place ≢ h .donor .0 → 0 < h .donor .0
-      → (t : Entry) × Mem t (low ++ high) × ((t .place ≡ h .donor .0) × (t .flags ≡ 0) × (h .donor .0 < h .top .0))
-  donor-outer = opened.donor-outer ws h well low e high (chunk .split) between
 
   not-live : live h e ≡ false
   not-live = free-not-live h e (chunk .free .flags)
@@ -110,7 +79,7 @@ module _ {ws : List ℕ} {h : Heap} {low : List Entry} {e : Entry} {high : List 
     counted : m .heap .used + granted .size - 0 ≡ usedBytes named (low ++ news ++ high)
     counted =
         let r = used-replaced named h low (e ∷ []) news high same in
-        let a : h .used ≡ usedBytes h (low ++ e ∷ [] ++ high) = well .used ∙ ap (usedBytes h) whole in
+        let a : h .used ≡ usedBytes h (low ++ e ∷ [] ++ high) = well .used ∙ ap (usedBytes h) (whole inner) in
         let z : usedBytes h (e ∷ []) ≡ 0 = not-used in
         omega (arith, c .used)
       where
@@ -132,22 +101,22 @@ module _ {ws : List ℕ} {h : Heap} {low : List Entry} {e : Entry} {high : List 
   ordinary-posts q news =
       let o = is-ordinary ws h well e member (ap ordinaryKind q) in
       record {
-        top = let t = top-outer (o .notTop) in (t .0, outer-in low news high (t .1), t .2);
-        donor = λ some. let t = donor-outer (o .notDonor) some in (t .0, outer-in low news high (t .1), t .2);
+        top = let t = top-outer inner (o .notTop) in (t .0, outer-in low news high (t .1), t .2);
+        donor = λ some. let t = donor-outer inner (o .notDonor) some in (t .0, outer-in low news high (t .1), t .2);
       }
 
   -- n bytes of it at least are granted, its lowest
   module _ {n : ℕ} (large : 24 ≤ n) {parts : Parts} (c : Cutting e n parts) where
     pub granted-laid : Laid (h .bytes) (parts .granted)
     granted-laid =
-        let f = between in
-        let l = laid-out .chunks e (middle-in low (e ∷ []) high (List·Memᴰ·head refl)) .eight in
+        let f = inner .between in
+        let l = laid-out inner .chunks e (middle-in low (e ∷ []) high (List·Memᴰ·head refl)) .eight in
         laid-between (h .bytes) (parts .granted) (omega (arith, c .place)) (omega (arith, c .flags)) (omega (arith, c .place)) (omega (arith, c .enough))
         (omega (arith, c .place, c .sum))
 
     pub granted-kind : (donor top : ℕ) → kindAt (h .bytes) donor top (parts .granted) ≡ InUse
     granted-kind donor top =
-        let f = between in
+        let f = inner .between in
         sym (kind-in-use (h .bytes) donor top (parts .granted) (λ q. omega (arith, c .place)) (λ q. omega (arith, c .place)) (omega (arith, c .flags)))
 
   -- all of it
@@ -159,7 +128,7 @@ module _ {ws : List ℕ} {h : Heap} {low : List Entry} {e : Entry} {high : List 
     filled =
         let c = w .cutting in
         let z = w .nothing in
-        layout-replaced (h .bytes) low (e ∷ []) (granted ∷ []) high laid-out lows highs
+        layout-replaced (h .bytes) low (e ∷ []) (granted ∷ []) high (laid-out inner) (lows inner) (highs inner)
         (λ a b t. (omega (arith, c .place, t .0), omega (arith, c .enough), omega (arith, c .place, c .sum, t .2)))
         (λ x k. rw (List·Memᴰ·eq-of-singleton k) (granted-laid large c))
 
@@ -167,7 +136,7 @@ module _ {ws : List ℕ} {h : Heap} {low : List Entry} {e : Entry} {high : List 
     linkedWhole = relink low (granted ∷ []) high (leaveAs Ordinary e (asRead ws h))
 
     closed-whole : Closed ws h low (granted ∷ []) high linkedWhole
-    closed-whole = closes ws h low (granted ∷ []) high e e _ (opens Ordinary kind refl) filled highs long (sym (w .cutting .place))
+    closed-whole = closes ws h low (granted ∷ []) high e e _ (opens Ordinary kind refl) filled (highs inner) long (sym (w .cutting .place))
 
     settled-whole : Settles ws h (low ++ granted ∷ [] ++ high) (h .donor .0) (h .top .0) linkedWhole linkedWhole
     settled-whole =

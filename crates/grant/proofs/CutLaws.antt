@@ -15,7 +15,7 @@ use Rattle.rules.specs.Kinds.{unused, used}
 use Rattle.rules.specs.Check.{Passes}
 use Rattle.rules.specs.Draft.{Draft, nowUses, relink, settle}
 use Rattle.rules.specs.Cut.{Parts, Grant, cut, chunksOf, grantAt, leaveAs}
-use Rattle.rules.proofs.SpotLaws.{Free}
+use Rattle.rules.proofs.NamedLaws.{Free}
 
 -- a free chunk e, at which the chain is taken apart
 pub record FreeChunk (ws : List ℕ) (h : Heap) (low : List Entry) (e : Entry) (high : List Entry) : Type 0 where

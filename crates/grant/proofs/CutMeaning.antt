@@ -23,7 +23,8 @@ use Rattle.rules.specs.Kinds.{kindOf, ordinaryKind, freeKind, ordinary, unused,
 use Rattle.rules.specs.Check.{Passes}
 use Rattle.rules.specs.Draft.{Draft, asRead, relink, settle}
 use Rattle.rules.specs.Cut.{Grant, grantAt, leaveAs}
-use Rattle.rules.proofs.SpotLaws.{Free, Around, bounds, inside, around, apart, one-chunk}
+use Rattle.rules.proofs.SpotLaws.{Around, bounds, inside, around, apart, one-chunk}
+use Rattle.rules.proofs.NamedLaws.{Free}
 use Rattle.rules.proofs.KindsLaws.{ordinary-kind, free-kinds}
 use Rattle.bins.specs.Books.{books}
 use Rattle.bins.proofs.BooksLaws.{Far}

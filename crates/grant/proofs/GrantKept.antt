@@ -17,13 +17,14 @@ use Rattle.rules.specs.Draft.{Draft, asRead, relink, settle, nowUses, spot}
 use Rattle.rules.specs.Cut.{Grant, Parts, cut, chunksOf, leaveAs, grantAt}
 use Rattle.rules.specs.Allocate.{sourceOf, grant}
 use Rattle.rules.proofs.KindsLaws.{free-not-live}
-use Rattle.rules.proofs.SpotLaws.{one-chunk, live-between}
-use Rattle.settling.proofs.OpenLaws as opened
+use Rattle.rules.proofs.SpotLaws.{one-chunk}
+use Rattle.rules.proofs.NamedLaws.{live-between}
+use Rattle.settling.proofs.OpenLaws.{whole, outer}
 use Rattle.settling.proofs.PictureLaws.{Pictured}
 use Rattle.grant.specs.Serve.{kindIn}
 use Rattle.grant.proofs.SourceLaws.{CanGrant, Grantable, free-source, source-can}
 use Rattle.grant.proofs.CutLaws.{FreeChunk, Cutting, Whole, Left, cut-either}
-use Rattle.grant.proofs.CutKept.{Kept, whole-kept-as}
+use Rattle.grant.proofs.CutKept.{Kept, inner, whole-kept-as}
 use Rattle.grant.proofs.PartKept.{part-kept}
 
 module _ {ws : List ℕ} {h : Heap} {n : ℕ} (room : Grantable ws h n) where
@@ -107,7 +108,7 @@ module _ {ws : List ℕ} {h : Heap} {n : ℕ} (room : Grantable ws h n) where
   pub live-stays : (e : Entry) → Mem e (shape ws (h .bytes)) → live h e ≡ true
       → Mem e (given .draft .chain) × (live (given .draft .heap) e ≡ true)
   live-stays e m l =
-      let k = opened.outer ws h (room .well) low chosen high (can .split) (can .free .between) e m (other e m l) in
+      let k = outer (inner chunk) e m (other e m l) in
       rw (grant-is, cut-kept .chain) (outer-in low (chunksOf parts) high k, ap liveKind (cut-kept .kinds e k) ∙ l)
 
   -- and no chunk becomes live but the granted one
@@ -128,7 +129,7 @@ module _ {ws : List ℕ} {h : Heap} {n : ℕ} (room : Grantable ws h n) where
           → (e ≡ parts .granted) ⊎ (Mem e es × (live h e ≡ true))
       go (inl k) c =
           inr (
-            subst (λ (xs : List Entry). Mem e xs) (sym (opened.whole ws h (room .well) low chosen high (can .split) (can .free .between))) (outer-in low (chosen ∷ []) high k),
+            subst (λ (xs : List Entry). Mem e xs) (sym (whole (inner chunk))) (outer-in low (chosen ∷ []) high k),
             sym (ap liveKind (cut-kept .kinds e k)) ∙ l,
           )
       go (inr k) (inl w) = inl (List·Memᴰ·eq-of-singleton (rw (w .chunks) at k))

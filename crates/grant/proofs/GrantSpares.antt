@@ -18,7 +18,8 @@ use Rattle.rules.specs.Shape.{Entry, shape}
 use Rattle.rules.specs.Kinds.{live, blockOf, blockEnd, outside}
 use Rattle.rules.specs.Draft.{Draft, asRead, relink, settle}
 use Rattle.rules.specs.Cut.{Parts, chunksOf, leaveAs}
-use Rattle.rules.proofs.SpotLaws.{Around, inside, around, free-between, live-between}
+use Rattle.rules.proofs.SpotLaws.{Around, inside, around}
+use Rattle.rules.proofs.NamedLaws.{free-between, live-between}
 use Rattle.settling.proofs.LayoutLaws.{Layout, layout-read}
 use Rattle.settling.proofs.SparesLaws.{Outside, link-word, free-word, Spared, read-spared, leave-spared, relink-spared, settle-spared, uses-spared, blocks-spared, heap-stores}
 use Rattle.grant.specs.Serve.{kindIn}

@@ -4,7 +4,7 @@ use mathlib.Core.Path.{_≡_, refl, sym, ap, _∙_}
 use mathlib.Core.Logic.{_≢_, _⊎_, inl, inr}
 use mathlib.Core.Bool.{true, false, cond}
 use mathlib.Core.List.{List, [], _∷_, _++_, List·Memᴰ·head, List·Memᴰ·tail, List·Memᴰ·eq-of-singleton}
-use Prim.Native.Nat.{ℕ, _+_, _-_, _%_, _≤_, _<_}
+use Prim.Native.Nat.{ℕ, _+_, _%_, _≤_, _<_}
 use native.Mathlib.Nat.{add-zero}
 use native.Mathlib.Omega.{arith}
 use lib.Dec.{eqb}
@@ -21,13 +21,14 @@ use Rattle.rules.specs.Check.{usedBytes, Passes}
 use Rattle.rules.specs.Draft.{Draft, asRead, relink, settle, nowUses}
 use Rattle.rules.specs.Cut.{Parts, chunksOf, leaveAs}
 use Rattle.rules.proofs.KindsLaws.{kind-top, kind-donor, kind-ordinary, donor-moved, top-moved, free-kinds, being-as}
-use Rattle.rules.proofs.SpotLaws.{IsTop, is-ordinary, is-top, is-donor}
+use Rattle.rules.proofs.NamedLaws.{IsTop, is-ordinary, is-top, is-donor}
 use Rattle.settling.proofs.LayoutLaws.{Beside, Laid, Layout, layout-replaced, laid-between}
 use Rattle.settling.proofs.HalfwayLaws.{now, Closed, closes}
 use Rattle.settling.proofs.SettleLaws.{Settles, settles-named, settles-in-bin, settles-as-donor, settles-as-top}
+use Rattle.settling.proofs.OpenLaws.{laid-out, beside, elsewhere, lows, highs, top-outer, donor-outer}
 use Rattle.settling.proofs.PictureLaws.{Posts}
 use Rattle.grant.proofs.CutLaws.{FreeChunk, Left}
-use Rattle.grant.proofs.CutKept.{Kept, between, laid-out, beside, elsewhere, lows, highs, long, opens, member, top-outer, donor-outer, keeps, ordinary-posts, granted-laid, granted-kind}
+use Rattle.grant.proofs.CutKept.{Kept, inner, long, opens, member, keeps, ordinary-posts, granted-laid, granted-kind}
 
 -- n bytes of the chunk e are granted, and what is left takes its place
 module _ {ws : List ℕ} {h : Heap} {low : List Entry} {e : Entry} {high : List Entry} (chunk : FreeChunk ws h low e high)
@@ -43,9 +44,9 @@ module _ {ws : List ℕ} {h : Heap} {low : List Entry} {e : Entry} {high : List 
 
   above-laid : Laid (h .bytes) above
   above-laid =
-      let f = between chunk in
+      let f = inner chunk .between in
       let c = w .cutting in
-      let l = laid-out chunk .chunks e (middle-in low (e ∷ []) high (List·Memᴰ·head refl)) .eight in
+      let l = laid-out (inner chunk) .chunks e (middle-in low (e ∷ []) high (List·Memᴰ·head refl)) .eight in
       let q : above .place ≡ e .place + n = omega (arith, c .next, w .exact) in
       let s : n + above .size ≡ e .size = omega (arith, c .sum, w .exact) in
       laid-between (h .bytes) above (omega arith) (omega (arith, c .free)) (omega arith) (w .some) (omega arith)
@@ -60,7 +61,7 @@ module _ {ws : List ℕ} {h : Heap} {low : List Entry} {e : Entry} {high : List 
   parted : Layout (h .bytes) (low ++ news ++ high)
   parted =
       let c = w .cutting in
-      layout-replaced (h .bytes) low (e ∷ []) news high (laid-out chunk) (lows chunk) (highs chunk)
+      layout-replaced (h .bytes) low (e ∷ []) news high (laid-out (inner chunk)) (lows (inner chunk)) (highs (inner chunk))
       (λ a b t. (
         omega (arith, c .place, t .0),
         omega (arith, c .enough),
@@ -70,7 +71,7 @@ module _ {ws : List ℕ} {h : Heap} {low : List Entry} {e : Entry} {high : List 
 
   -- chunks elsewhere are not where it begins
   away : (x : Entry) → Mem x (low ++ high) → x .place ≢ above .place
-  away x m = go (beside chunk x m) (laid-out chunk .chunks x (outer-in low (e ∷ []) high m) .some)
+  away x m = go (beside (inner chunk) x m) (laid-out (inner chunk) .chunks x (outer-in low (e ∷ []) high m) .some)
     where
       go : Beside x e → 8 ≤ x .size → x .place ≢ above .place
       go (inl b) s = let c = w .cutting in λ q. omega (arith, c .next)
@@ -95,7 +96,7 @@ module _ {ws : List ℕ} {h : Heap} {low : List Entry} {e : Entry} {high : List 
 
   module _ (k : Kind) (kind : kindOf h e ≡ k) (some : freeKind k ≡ true) where
     closed : Closed ws h low news high (linked k)
-    closed = closes ws h low news high e e _ (opens chunk k kind some) parted (highs chunk) (long chunk) (sym (w .cutting .place))
+    closed = closes ws h low news high e e _ (opens chunk k kind some) parted (highs (inner chunk)) (long chunk) (sym (w .cutting .place))
 
     -- no bin knows it
     unknown : (i : ℕ) → i < h .bins → Mem (above .place) (linked k .lists i) → ⊥
@@ -116,12 +117,12 @@ module _ {ws : List ℕ} {h : Heap} {low : List Entry} {e : Entry} {high : List 
     left-ordinary =
         let o = is-ordinary ws h well e (member chunk) (ap ordinaryKind kind) in
         let l = above-laid .free (w .cutting .free) in
-        let t = top-outer chunk (o .notTop) in
+        let t = top-outer (inner chunk) (o .notTop) in
         sym
         (kind-ordinary (h .bytes) (h .donor .0) (h .top .0) above (λ q. omega (arith, l .0)) (λ q. omega (arith, l .1, l .2))
         (λ q. omega (arith, w .cutting .free))
         (λ q. away (t .0) (t .1) (t .2 .0 ∙ sym q))
-        (λ q. let d = donor-outer chunk (o .notDonor) (omega (arith, l .0)) in away (d .0) (d .1) (d .2 .0 ∙ sym q)))
+        (λ q. let d = donor-outer (inner chunk) (o .notDonor) (omega (arith, l .0)) in away (d .0) (d .1) (d .2 .0 ∙ sym q)))
 
     settled-ordinary : Settles ws h (low ++ news ++ high) (h .donor .0) (h .top .0) (linked Ordinary) (settle Ordinary above (linked Ordinary))
     settled-ordinary =
@@ -145,27 +146,27 @@ module _ {ws : List ℕ} {h : Heap} {low : List Entry} {e : Entry} {high : List 
     not-top q = let t = is-top ws h well e (member chunk) q .kind in let z : _≡_ {A = ℕ} 0 1 = cc in omega arith
 
     donor-same : (x : Entry) → Mem x (low ++ high) → kindAt (h .bytes) (above .place) (h .top .0) x ≡ kindOf h x
-    donor-same x m = donor-moved (h .bytes) (above .place) (h .donor .0) (h .top .0) x (away x m) (λ q. elsewhere chunk x m (q ∙ sym was-donor))
+    donor-same x m = donor-moved (h .bytes) (above .place) (h .donor .0) (h .top .0) x (away x m) (λ q. elsewhere (inner chunk) x m (q ∙ sym was-donor))
 
     left-donor : kindAt (h .bytes) (above .place) (h .top .0) above ≡ Donor
     left-donor =
         let l = above-laid .free (w .cutting .free) in
-        let t = top-outer chunk not-top in
+        let t = top-outer (inner chunk) not-top in
         sym
         (kind-donor (h .bytes) (above .place) (h .top .0) above (λ q. omega (arith, l .0)) (λ q. omega (arith, l .1, l .2))
         (λ q. omega (arith, w .cutting .free)) (λ q. away (t .0) (t .1) (t .2 .0 ∙ sym q)) refl)
 
     donor-posts : Posts (withTop (withDonor h (above .place)) (h .top .0)) (low ++ news ++ high)
     donor-posts =
-        let t = top-outer chunk not-top in
+        let t = top-outer (inner chunk) not-top in
         record {
           top = (t .0, outer-in low news high (t .1), t .2);
-          donor = λ some. (above, above-in, (refl, w .cutting .free, below (t .0) (t .2 .0) (beside chunk (t .0) (t .1))));
+          donor = λ some. (above, above-in, (refl, w .cutting .free, below (t .0) (t .2 .0) (beside (inner chunk) (t .0) (t .1))));
         }
       where
         below : (t : Entry) → t .place ≡ h .top .0 → Beside t e → above .place < h .top .0
         below t q (inl b) =
-            let d = is-donor ws h well e (member chunk) (omega (arith, between chunk .above, was-donor)) was-donor .below in
+            let d = is-donor ws h well e (member chunk) (omega (arith, inner chunk .between .above, was-donor)) was-donor .below in
             absurd (omega (arith, was-donor))
         below t q (inr b) = let c = w .cutting in omega (arith, c .next, c .sum, w .some)
 
@@ -191,7 +192,7 @@ module _ {ws : List ℕ} {h : Heap} {low : List Entry} {e : Entry} {high : List 
     was-top = is-top ws h well e (member chunk) (being-as h e Top kind .3)
 
     top-same : (x : Entry) → Mem x (low ++ high) → kindAt (h .bytes) (h .donor .0) (above .place) x ≡ kindOf h x
-    top-same x m = top-moved (h .bytes) (above .place) (h .top .0) (h .donor .0) x (away x m) (λ q. elsewhere chunk x m (q ∙ sym (was-top .place)))
+    top-same x m = top-moved (h .bytes) (above .place) (h .top .0) (h .donor .0) x (away x m) (λ q. elsewhere (inner chunk) x m (q ∙ sym (was-top .place)))
 
     left-top : kindAt (h .bytes) (h .donor .0) (above .place) above ≡ Top
     left-top =
@@ -207,7 +208,7 @@ module _ {ws : List ℕ} {h : Heap} {low : List Entry} {e : Entry} {high : List 
           top = (above, above-in, (refl, c .free, omega (arith, c .next, c .sum, was-top .reaches)));
           donor =
               λ some.
-              let t = donor-outer chunk (λ q. omega (arith, was-top .place, well .donor some .2 .1)) some in
+              let t = donor-outer (inner chunk) (λ q. omega (arith, was-top .place, well .donor some .2 .1)) some in
               (t .0, outer-in low news high (t .1), (t .2 .0, t .2 .1, omega (arith, c .next, was-top .place, t .2 .2)));
         }
 

@@ -29,7 +29,8 @@ use Rattle.rules.specs.Draft.{asRead, spot}
 use Rattle.rules.specs.Cut.{grantAt, grantFrom}
 use Rattle.rules.specs.Serve.{sizeOn, fromBin, ownBin, tryDonor, largerBin, tryTop, firstOf, chosen, nowhere, need}
 use Rattle.rules.specs.Allocate.{sourceOf}
-use Rattle.rules.proofs.SpotLaws.{Free, spot-at, top-here, donor-here}
+use Rattle.rules.proofs.SpotLaws.{spot-at}
+use Rattle.rules.proofs.NamedLaws.{Free, top-here, donor-here}
 use Rattle.rules.proofs.KindsLaws.{ordinary-kind}
 use Rattle.bins.proofs.HeapBooks.{member-entry}
 use Rattle.grant.specs.Serve.{placeIn, kindIn}

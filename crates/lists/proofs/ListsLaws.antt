@@ -1,4 +1,4 @@
--- What the tests over lists and numbers decide, so that a conjunction of tests is read as a list of facts. Assumes nothing.
+-- What the tests over lists and numbers decide, so that a conjunction of tests is read as a list of facts; and lists of zeros. Assumes nothing.
 use mathlib.Core.Path.{_≡_, refl}
 use mathlib.Core.Logic.{_↔_, _⊎_, inl, inr}
 use mathlib.Core.Bool.{Bool, true, false, not, _&&_, _||_, true≢false, false≢true}
@@ -8,7 +8,7 @@ use native.Mathlib.Decide.{ℕ-discrete}
 use native.Mathlib.Omega.{arith}
 use lib.Dec.{eqb, leb, ltb}
 use borrow.Author.Tests.{eqb-true, eq-eqb, leb-true, le-leb, ltb-true, lt-ltb}
-use lib.ListN.{drop, getD}
+use lib.ListN.{drop, getD, replicate}
 use lib.Seq.{drop-nil}
 use Rattle.lists.specs.Lists.{Mem, every, any, distinct, Distinct, numbersFrom}
 
@@ -134,6 +134,12 @@ module _ {P : ℕ → Type 0} {p : ℕ → Bool} (d : (j : ℕ) → Decides (p j
   pub for-below : (n : ℕ) → Decides (every p (numbersFrom 0 n)) ((j : ℕ) → j < n → P j)
   for-below n =
       meaning (for-numbers n 0) (λ f j h. f j (omega arith) (omega arith)) (λ f j lo hi. f j (omega arith))
+
+-- a list of zeros reads 0 everywhere, past its end too
+pub zero-at : (n i : ℕ) → getD (replicate {A = ℕ} n 0) i 0 ≡ 0
+zero-at zero i = refl
+zero-at (suc n) zero = refl
+zero-at (suc n) (suc i) = zero-at n i
 
 -- from place n of a list on there is nothing but 0
 pub zeros-from : (n : ℕ) (l : List ℕ)

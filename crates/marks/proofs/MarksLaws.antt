@@ -9,10 +9,11 @@ use native.Mathlib.Nat.{mod-lt, zero-div, div-self, div-eq-of-lt, pow-suc, mul-m
 use native.Mathlib.Omega.{arith}
 use lib.Bits.{bitXor, xor-shr, xor-mod}
 use lib.Dec.{eqb}
-use lib.ListN.{length, getD, length-set, set, replicate, length-replicate, getD-replicate, List·getD-eq-default}
+use lib.ListN.{length, getD, length-set, set, replicate}
 use lib.Pow.{pow-pos, pow-lt, pow-add, shl-shr}
 use lib.Seq.{getD-set-same, getD-set-other, set-out}
 use borrow.Author.Tests.{eq-eqb, ne-eqb}
+use Rattle.lists.proofs.ListsLaws.{zero-at}
 use Rattle.marks.specs.Marks.{marked, flipped}
 
 -- the power of two by its bits: bit k alone
@@ -66,8 +67,4 @@ flip-other ms c d ne =
 
 pub clear-marks : (n c : ℕ) → marked (replicate n 0) c ≡ false
 unfolding marked
-clear-marks n c = rw (go (decLt (c / 256) n), zero-div)
-  where
-    go : Dec (c / 256 < n) → _≡_ {A = ℕ} (getD (replicate n 0) (c / 256) 0) 0
-    go (yes l) = getD-replicate n (c / 256) 0 0 l
-    go (no g) = List·getD-eq-default (replicate n 0) 0 (rw length-replicate (omega arith))
+clear-marks n c = rw (zero-at n (c / 256), zero-div)

@@ -10,17 +10,19 @@ use Rattle.opening.specs.Opening.{startWords, endWords, withoutDonor, wi
 use Rattle.region.proofs.PrefixLaws.{Below}
 
 module _ (bytes donor : ℕ) (room : donor + 40 ≤ bytes) (few : bytes ≤ 65536) where
+  -- the top ends where the end chunk is, and that one's link back, with its flag, is a word
+  top-ends : 8 + donor + (bytes - 8 - (8 + donor)) ≡ bytes - 8
+  top-ends = omega arith
+
+  end-names : (8 + donor + 1) % 2 ^ 32 ≡ 8 + donor + 1
+  end-names = omega arith
+
   first-case : Dec (donor ≡ 0) → firstWords donor (8 + donor) (bytes - 8) ≡ firstHeaders bytes donor
   unfolding firstWords withoutDonor withDonor startWords freeWords endWords
-  first-case (yes e) =
-      let top : 8 + donor + (bytes - 8 - (8 + donor)) ≡ bytes - 8 = omega arith in
-      let flag : (8 + donor + 1) % 2 ^ 32 ≡ 8 + donor + 1 = omega arith in
-      rw (eq-eqb donor 0 e, top, flag)
+  first-case (yes e) = rw (eq-eqb donor 0 e, top-ends, end-names)
   first-case (no ne) =
-      let top : 8 + donor + (bytes - 8 - (8 + donor)) ≡ bytes - 8 = omega arith in
-      let flag : (8 + donor + 1) % 2 ^ 32 ≡ 8 + donor + 1 = omega arith in
       let size : 8 + donor - 8 ≡ donor = omega arith in
-      rw (ne-eqb donor 0 ne, top, flag, size)
+      rw (ne-eqb donor 0 ne, top-ends, end-names, size)
 
   pub first-words : firstWords donor (8 + donor) (bytes - 8) ≡ firstHeaders bytes donor
   first-words = first-case (ℕ-discrete donor 0)

@@ -4,13 +4,12 @@ use mathlib.Core.Logic.{_≢_, inl, inr}
 use mathlib.Core.Bool.{Bool, false, false≢true}
 use mathlib.Core.List.{List, [], _∷_, _++_, List·Memᴰ·head, List·Memᴰ·tail, List·Memᴰ·not-nil}
 use Prim.Native.Nat.{ℕ, _+_, _-_, _%_, _≤_, _<_}
-use native.Mathlib.Decide.{decLt}
 use native.Mathlib.Omega.{arith}
-use lib.ListN.{length, length-append, getD, replicate, length-replicate, getD-replicate, List·getD-eq-default}
+use lib.ListN.{length, length-append, getD, replicate, length-replicate}
 use lib.Seq.{take-append-seam, getD-append-add}
 use borrow.Author.Tests.{ne-eqb}
 use Rattle.lists.specs.Lists.{Mem}
-use Rattle.lists.proofs.ListsLaws.{each-cons}
+use Rattle.lists.proofs.ListsLaws.{each-cons, zero-at}
 use Rattle.record.specs.declared.heap.Heap.{Heap}
 use Rattle.record.specs.Table.{ValidTable}
 use Rattle.region.specs.Words.{Store, put, written, forward, backward}
@@ -27,14 +26,7 @@ use Rattle.settling.proofs.LayoutLaws.{Laid, Layout, laid-between}
 use Rattle.settling.proofs.HeaderLaws.{Header, Headed, headed-backed, headed-sized, headed-last, reads-as}
 use Rattle.promises.proofs.ReasonLaws.{Fitting}
 
--- every place of an array of zeros, and every place past the sizes of a table
-zero-at : (n i : ℕ) → getD (replicate {A = ℕ} n 0) i 0 ≡ 0
-zero-at n i = go (decLt i n)
-  where
-    go : Dec (i < n) → getD (replicate {A = ℕ} n 0) i 0 ≡ 0
-    go (yes l) = getD-replicate n i 0 0 l
-    go (no m) = List·getD-eq-default (replicate n 0) 0 (rw length-replicate (omega arith))
-
+-- every place past the sizes of a table
 zero-past : (t : List ℕ) (n i : ℕ) → length t ≤ i → getD (t ++ replicate n 0) i 0 ≡ 0
 zero-past t n i l =
     ap (λ (k : ℕ). getD (t ++ replicate n 0) k 0) (omega arith)

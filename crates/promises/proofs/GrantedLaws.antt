@@ -3,23 +3,20 @@
 use mathlib.Core.Path.{_≡_, refl, sym, ap, _∙_}
 use mathlib.Core.Logic.{_≢_, _⊎_, inl, inr}
 use mathlib.Core.Bool.{true, true≢false}
-use mathlib.Core.List.{List, _++_, map}
-use Prim.Native.Nat.{ℕ, zero, suc, _+_, _/_, _≤_, _<_}
-use native.Mathlib.Decide.{ℕ-discrete}
+use mathlib.Core.List.{List, _++_}
+use Prim.Native.Nat.{ℕ, _+_, _/_, _≤_, _<_}
 use native.Mathlib.Omega.{arith}
-use lib.ListN.{length}
 use Rattle.grant.proofs.SourceLaws.{CanGrant, Grantable}
 use Rattle.grant.proofs.GrantKept.{given, chosen, can, source, cutting, grant-is, granted-large, granted-new, live-stays, granted-only}
 use Rattle.grant.proofs.GrantedChunk as granting
 use Rattle.grant.proofs.GrantSpares.{grant-spares}
-use Rattle.lists.specs.Lists.{numbersFrom}
 use Rattle.record.specs.declared.answers.Answer.{Answer}
 use Rattle.record.specs.declared.heap.Heap.{Heap}
 use Rattle.record.specs.declared.sources.Source.{Source}
 use Rattle.record.specs.declared.sources.Source.the-variants.{FromBin, FromDonor, FromTop, Nowhere}
 use Rattle.record.specs.Heap.{tableOf}
-use Rattle.region.specs.Words.{Store, put, word, store, written}
-use Rattle.region.proofs.WordsLaws.{Off, off, word-same, length-store}
+use Rattle.region.specs.Words.{Store, word, written}
+use Rattle.region.proofs.WordsLaws.{Off, off}
 use Rattle.release.proofs.ReleaseKept.{free-kept, others-stay, none-new}
 use Rattle.release.proofs.ReleaseSpares.{free-spares}
 use Rattle.resize.proofs.MovedLaws as moving
@@ -34,36 +31,13 @@ use Rattle.rules.specs.Outcome.{made}
 use Rattle.rules.specs.Allocate.{grant, cleared}
 use Rattle.rules.specs.Free.{isLive, freeBlock}
 use Rattle.rules.specs.Statements.{Left, leftBy}
-use Rattle.rules.proofs.SpotLaws.{inside, is-ordinary, is-donor}
-use Rattle.settling.proofs.FillLaws.{Within, filled-within, below-block, above-block}
+use Rattle.rules.proofs.SpotLaws.{inside}
+use Rattle.rules.proofs.NamedLaws.{is-ordinary, is-donor}
+use Rattle.settling.proofs.FillLaws.{Within, filled-within, fill-reads, below-block, above-block}
 use Rattle.promises.specs.Room.{OnChain, HoldsBlock}
 use Rattle.promises.specs.Apart.{SameWords, Keeps, KeepsAll, KeepsOthers, Gone, NoneNewBut, CutFrom, New}
 use Rattle.promises.proofs.ServeLaws.{top-can, donor-can, ordinary-can}
 use Rattle.promises.proofs.ReasonLaws.{one-block}
-
--- n words written one after the other, from number i of the block at b on
-abbrev pub fillFrom : ℕ → ℕ → (ℕ → ℕ) → ℕ → List Store
-fillFrom b i value n = map (λ j. put b j (value j)) (numbersFrom i n)
-
--- they are read back
-fill-reads : (value : ℕ → ℕ) (b n i : ℕ) (ws : List ℕ) → b / 4 + i + n ≤ length ws → (k : ℕ) → i ≤ k → k < i + n
-    → word (written ws (fillFrom b i value n)) b k ≡ value k
-fill-reads value b zero i ws r k lo hi = absurd (omega arith)
-fill-reads value b (suc n) i ws r k lo hi =
-    go (ℕ-discrete k i)
-    (λ l. fill-reads value b n (suc i) (store ws b i (value i)) (omega (arith, length-store ws b i (value i))) k l (omega arith))
-  where
-    later : (n j : ℕ) → i < j → Off (b / 4 + i) (fillFrom b j value n)
-    later zero j l = tt
-    later (suc n) j l = (λ q. omega arith, later n (suc j) (omega arith))
-
-    go : Dec (k ≡ i) → let after = written (store ws b i (value i)) (fillFrom b (suc i) value n) in
-        (suc i ≤ k → word after b k ≡ value k) → word after b k ≡ value k
-    go (yes q) f =
-        rw q
-        (off (fillFrom b (suc i) value n) (store ws b i (value i)) b i (later n (suc i) (omega arith))
-        ∙ word-same ws b i (value i) (omega arith))
-    go (no m) f = f (omega arith)
 
 -- a block of n bytes at b is new, and the live blocks are then those of before and this one
 abbrev pub NewApart : List ℕ → Heap → ℕ → ℕ → Left → Type 0

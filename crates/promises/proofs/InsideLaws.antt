@@ -35,7 +35,7 @@ use Rattle.rules.proofs.CheckLaws.{passes-iff}
 use Rattle.rules.proofs.SpotLaws.{inside}
 use Rattle.rules.proofs.OutcomeLaws.{Failed, judged-so}
 use Rattle.opening.proofs.LayoutLaws.{first-below}
-use Rattle.settling.proofs.FillLaws.{Within, filled-within}
+use Rattle.settling.proofs.FillLaws.{Within, fillFrom, filled-within}
 use Rattle.grant.proofs.SourceLaws.{Grantable, need-grantable}
 use Rattle.grant.proofs.GrantedChunk.{grantedWords, kept, new-there}
 use Rattle.grant.proofs.GrantSpares.{grant-inside}
@@ -44,7 +44,6 @@ use Rattle.resize.proofs.WantedLaws.{block-moves, block-shrinks}
 use Rattle.resize.proofs.MovedLaws.{fits, copiedOver, copiedWords, copiedHeap, copied-passes, live-again, again-is}
 use Rattle.promises.proofs.ReasonLaws.{Fitting, fitting-iff, length-in}
 use Rattle.promises.proofs.ResizedLaws.{resized-so}
-use Rattle.promises.proofs.GrantedLaws.{fillFrom}
 
 -- what is written into a block is below its end
 within-below : (m : ℕ) (e : Entry) (ss : List Store) → blockEnd e / 4 ≤ m → Within e ss → Below m ss

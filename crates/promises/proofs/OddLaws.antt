@@ -33,10 +33,10 @@ use Rattle.rules.specs.Calls.{Call, Setup, Allocate, AllocateCleared, Free, Rea
 use Rattle.rules.proofs.CheckLaws.{passes-iff}
 use Rattle.rules.proofs.EvenLaws.{Agree, same-passes, same-read}
 use Rattle.rules.proofs.SpotLaws.{inside}
+use Rattle.settling.proofs.FillLaws.{fillFrom}
 use Rattle.promises.specs.Ways.{ours}
 use Rattle.promises.specs.Odd.{evenWords, oddWord, AlikeButOdd, OddApart}
 use Rattle.promises.proofs.InsideLaws.{stores-below}
-use Rattle.promises.proofs.GrantedLaws.{fillFrom}
 
 -- two tests that decide facts which follow from each other are the same
 same-test : {t u : Bool} {P Q : Type 0} → Decides t P → Decides u Q → (P → Q) → (Q → P) → t ≡ u

@@ -30,7 +30,8 @@ use Rattle.rules.specs.Draft.{asRead}
 use Rattle.rules.specs.Serve.{serves, sizeOn, fromBin, firstFit, ownBin, tryDonor, largerBin, tryTop, firstOf, chosen, nowhere}
 use Rattle.rules.specs.Allocate.{sourceOf}
 use Rattle.rules.proofs.KindsLaws.{kind-ordinary}
-use Rattle.rules.proofs.SpotLaws.{Free, IsOrdinary, inside, flags-free, top-here, donor-here}
+use Rattle.rules.proofs.SpotLaws.{inside}
+use Rattle.rules.proofs.NamedLaws.{Free, IsOrdinary, flags-free, top-here, donor-here}
 use Rattle.promises.specs.Room.{NoneServes}
 
 -- a try finds something

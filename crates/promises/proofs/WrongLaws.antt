@@ -28,7 +28,7 @@ use Rattle.rules.specs.Calls.{Allocate, State, run}
 use Rattle.rules.specs.Cases.{opening, turns}
 use Rattle.rules.proofs.CasesLaws.{computes}
 use Rattle.rules.proofs.CheckLaws.{passes-iff}
-use Rattle.rules.proofs.SpotLaws.{live-between}
+use Rattle.rules.proofs.NamedLaws.{live-between}
 use Rattle.promises.specs.Ways.{Way, ours}
 use Rattle.promises.specs.Room.{HoldsBlock, Room}
 use Rattle.promises.specs.Counts.{Counting}

@@ -17,7 +17,8 @@ use Rattle.rules.specs.Shape.{Entry, entry, flagsAt, shape, binList}
 use Rattle.rules.specs.Kinds.{kindAt, inUse, kindOf, ordinaryKind, freeKind, ordinary, isFree, live, unused, blockEnd, outside}
 use Rattle.rules.specs.Check.{Passes}
 use Rattle.rules.specs.Join.{Joined, joinedAs, joining}
-use Rattle.rules.proofs.SpotLaws.{Between, Around, inside, around, apart, one-chunk, live-between, kind-free, is-ordinary}
+use Rattle.rules.proofs.SpotLaws.{Between, Around, inside, around, apart, one-chunk}
+use Rattle.rules.proofs.NamedLaws.{live-between, kind-free, is-ordinary}
 use Rattle.bins.proofs.BooksLaws.{Far}
 use Rattle.bins.proofs.HeapBooks.{member-entry}
 use Rattle.release.specs.declared.Joined.{Joined as Union}

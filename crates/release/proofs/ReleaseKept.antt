@@ -16,12 +16,12 @@ use Rattle.rules.specs.Check.{usedBytes, Passes}
 use Rattle.rules.specs.Draft.{Spot, asRead, nowUses}
 use Rattle.rules.specs.Join.{release}
 use Rattle.rules.specs.Free.{isLive, blockSpot, freeBlock}
-use Rattle.rules.proofs.SpotLaws.{Between, is-top, is-donor}
+use Rattle.rules.proofs.NamedLaws.{is-top, is-donor}
 use Rattle.rules.proofs.KindsLaws.{live-kind}
 use Rattle.settling.proofs.LayoutLaws.{Laid, Layout, layout-replaced, laid-between}
 use Rattle.settling.proofs.HeaderLaws.{headed-below}
 use Rattle.settling.proofs.HalfwayLaws.{Opened}
-use Rattle.settling.proofs.OpenLaws as opened
+use Rattle.settling.proofs.OpenLaws.{InnerChunk, whole, laid-out, elsewhere, outer, lows, highs, opens-kept, top-outer, donor-outer}
 use Rattle.settling.proofs.PictureLaws.{Pictured, Posts, used-replaced}
 use Rattle.release.proofs.JoinMeaning.{LiveChunk, here, own}
 use Rattle.release.proofs.ReleaseMeaning.{splits, live-chunk}
@@ -34,28 +34,25 @@ module _ {ws : List ℕ} {h : Heap} {low : List Entry} {e : Entry} {high : List 
   abbrev well : Passes ws h
   well = chunk .well
 
-  between : Between h e
-  between = own chunk .1
-
-  pub laid-out : Layout (h .bytes) (low ++ e ∷ [] ++ high)
-  laid-out = opened.laid-out ws h well low e high (chunk .split) between
+  pub inner : InnerChunk ws h low e high
+  inner = record { well = well; split = chunk .split; between = own chunk .1 }
 
   -- it is in no bin, and neither the donor nor the top
   pub opens : Opened ws h low e e high (asRead ws h)
-  opens = opened.opens-kept ws h well low e high (chunk .split) between (ap ordinaryKind (live-kind (kindOf h e) (chunk .live)))
+  opens = opens-kept inner (ap ordinaryKind (live-kind (kindOf h e) (chunk .live)))
 
   pub posts : Posts h (low ++ high)
   posts =
       let f = own chunk .0 in
       let m = here chunk in
       record {
-        top = opened.top-outer ws h well low e high (chunk .split) between (λ q. let t = is-top ws h well e m q .free .flags in omega arith);
-        donor = λ some. opened.donor-outer ws h well low e high (chunk .split) between (λ q. let t = is-donor ws h well e m some q .free .flags in omega arith) some;
+        top = top-outer inner (λ q. let t = is-top ws h well e m q .free .flags in omega arith);
+        donor = λ some. donor-outer inner (λ q. let t = is-donor ws h well e m some q .free .flags in omega arith) some;
       }
 
   -- it counts among the used bytes
   pub used-with : h .used ≡ usedBytes h (low ++ e ∷ [] ++ high)
-  used-with = well .used ∙ ap (usedBytes h) (opened.whole ws h well low e high (chunk .split) between)
+  used-with = well .used ∙ ap (usedBytes h) (whole inner)
 
   pub own-used : usedBytes h (e ∷ []) ≡ e .size
   own-used = rw (chunk .live) (add-zero (e .size))
@@ -63,14 +60,13 @@ module _ {ws : List ℕ} {h : Heap} {low : List Entry} {e : Entry} {high : List 
   -- given back, it leaves a gap
   fill-laid : Laid (h .bytes) (filling (e .place) (blockEnd e))
   fill-laid =
-      let b = between in
-      let y = laid-out .chunks e (middle-in low (e ∷ []) high (List·Memᴰ·head refl)) .eight in
+      let b = inner .between in
+      let y = laid-out inner .chunks e (middle-in low (e ∷ []) high (List·Memᴰ·head refl)) .eight in
       laid-between (h .bytes) (filling (e .place) (blockEnd e)) y (omega arith) (omega arith) (omega arith) (omega arith)
 
   pub filled : Layout (h .bytes) (low ++ filling (e .place) (blockEnd e) ∷ [] ++ high)
   filled =
-      layout-replaced (h .bytes) low (e ∷ []) (filling (e .place) (blockEnd e) ∷ []) high laid-out
-      (opened.lows ws h well low e high (chunk .split) between) (opened.highs ws h well low e high (chunk .split) between)
+      layout-replaced (h .bytes) low (e ∷ []) (filling (e .place) (blockEnd e) ∷ []) high (laid-out inner) (lows inner) (highs inner)
       (λ a b t. (t .0, omega (arith, t .1), omega (arith, t .2))) (λ x m. rw (List·Memᴰ·eq-of-singleton m) fill-laid)
 
   chunk-gap : Gap ws h (low ++ high) (h .used - e .size) low (e .place) (blockEnd e) high (asRead ws h)
@@ -112,15 +108,14 @@ module _ (ws : List ℕ) (h : Heap) (p : Passes ws h) (b : ℕ) (l : isLive (asR
   -- chunks of other blocks
   pub others-outer : (e : Entry) → Mem e (shape ws (h .bytes)) → blockOf e ≢ b → Mem e (s .low ++ s .high)
   others-outer e m n =
-      opened.outer ws h p (s .low) (s .here) (s .high) (chunk .split) (between chunk) e m
+      outer (inner chunk) e m
       (λ q. n (ap (λ (c : ℕ). c + 8) q ∙ splits ws h p b l .2))
 
   pub outer-others : (e : Entry) → Mem e (s .low ++ s .high) → Mem e (shape ws (h .bytes)) × (blockOf e ≢ b)
-  outer-others e m =
-      let k = between chunk in (
-        subst (λ (es : List Entry). Mem e es) (sym (opened.whole ws h p (s .low) (s .here) (s .high) (chunk .split) k)) (outer-in (s .low) (s .here ∷ []) (s .high) m),
-        λ q. opened.elsewhere ws h p (s .low) (s .here) (s .high) (chunk .split) k e m (omega (arith, splits ws h p b l .2)),
-      )
+  outer-others e m = (
+    subst (λ (es : List Entry). Mem e es) (sym (whole (inner chunk))) (outer-in (s .low) (s .here ∷ []) (s .high) m),
+    λ q. elsewhere (inner chunk) e m (omega (arith, splits ws h p b l .2)),
+  )
 
   free-given : Given ws h (s .low ++ s .high) (freeBlock b (asRead ws h))
   unfolding freeBlock

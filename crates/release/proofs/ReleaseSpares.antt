@@ -1,4 +1,4 @@
--- Giving back and chunk-shrinks write no word of another live block, chunk-shrinks none of the kept part (`free-spares`, `shrink-spares`, `shrink-spares-own`),
+-- Giving back and shrinking write no word of another live block, and shrinking none of the kept part (`free-spares`, `shrink-spares`, `shrink-spares-own`),
 -- and neither writes past the heap bytes. Assumes nothing.
 use mathlib.Core.Path.{_≡_, refl, ap}
 use mathlib.Core.Logic.{_≢_}
@@ -20,17 +20,18 @@ use Rattle.rules.specs.Check.{Passes}
 use Rattle.rules.specs.Draft.{Draft, Spot, asRead, leaveBin}
 use Rattle.rules.specs.Join.{Joined, leaveBins, release}
 use Rattle.rules.specs.Free.{isLive, blockSpot, freeBlock}
-use Rattle.rules.proofs.SpotLaws.{one-chunk, live-between}
+use Rattle.rules.proofs.SpotLaws.{one-chunk}
+use Rattle.rules.proofs.NamedLaws.{live-between}
 use Rattle.rules.proofs.KindsLaws.{ordinary-free}
 use Rattle.settling.proofs.LayoutLaws.{Layout}
-use Rattle.settling.proofs.OpenLaws as opened
+use Rattle.settling.proofs.OpenLaws.{outer}
 use Rattle.settling.proofs.SparesLaws.{Outside, link-word, free-word, Spared, read-spared, writes-spared, leave-spared, relink-spared, settle-spared, uses-spared, blocks-spared, heap-stores}
 use Rattle.release.proofs.JoinMeaning.{LiveChunk, sees, joinedBy, sees-ordinary, here, own, seen-free, summit}
 use Rattle.release.proofs.ReleaseMeaning.{splits, live-chunk}
 use Rattle.release.proofs.TailMeaning.{keptChunk, tailChunk, splitDraft}
 use Rattle.release.proofs.GapLaws.{filling}
 use Rattle.release.proofs.GapKept.{release-is}
-use Rattle.release.proofs.ReleaseKept.{filled, others-outer}
+use Rattle.release.proofs.ReleaseKept.{inner, filled, others-outer}
 use Rattle.release.proofs.ShrinkKept.{ShrinkingBlock, shrunken, chunk-shrinks, split-laid}
 
 -- chunks that leave their bins one after the other
@@ -74,7 +75,7 @@ module _ {ws : List ℕ} {h : Heap} {low : List Entry} {e : Entry} {high : List 
       free-word (h .bytes) all y x m f (x .place) k z (omega arith) (omega (arith, i .free f .1))
 
   other : (x : Entry) → Mem x (shape ws (h .bytes)) → x .place ≢ e .place → Mem x all
-  other x m n = stays x (opened.outer ws h well low e high (chunk .split) (own chunk .1) x m n)
+  other x m n = stays x (outer (inner chunk) x m n)
 
   read-free : Spared Open (asRead ws h)
   read-free =

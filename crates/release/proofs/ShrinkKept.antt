@@ -21,12 +21,13 @@ use Rattle.rules.specs.Free.{isLive, blockSpot}
 use Rattle.rules.specs.Cut.{Grant}
 use Rattle.rules.specs.Reallocate.{shrunk}
 use Rattle.rules.proofs.KindsLaws.{kind-in-use, ordinary-free, free-not-live}
-use Rattle.rules.proofs.SpotLaws.{Between, bounds}
+use Rattle.rules.proofs.SpotLaws.{bounds}
+use Rattle.bins.proofs.RunsLaws.{PassBy}
 use Rattle.settling.proofs.LayoutLaws.{Beside, Laid, Layout, layout-replaced, laid-between}
 use Rattle.settling.proofs.HeaderLaws.{Header, Headed, headed-below, headed-joined, headed-keeps, Spares}
-use Rattle.settling.proofs.HalfwayLaws.{now, Halfway, Passing, halfway-fewer, writes-halfway, Opened}
+use Rattle.settling.proofs.HalfwayLaws.{now, Halfway, halfway-fewer, writes-halfway, Opened}
 use Rattle.settling.proofs.SettleLaws.{settles-all}
-use Rattle.settling.proofs.OpenLaws as opened
+use Rattle.settling.proofs.OpenLaws.{laid-out, beside, lows, highs, headers-read}
 use Rattle.settling.proofs.PictureLaws.{Pictured, Posts, posts-in, used-replaced}
 use Rattle.release.proofs.JoinMeaning.{LiveChunk, own}
 use Rattle.release.proofs.ReleaseMeaning.{splits, live-chunk}
@@ -34,7 +35,7 @@ use Rattle.release.proofs.TailMeaning.{ShrinkingChunk, keptChunk, tailC
 use Rattle.release.proofs.GapLaws.{filling, Gap}
 use Rattle.release.proofs.GapFilled.{Given}
 use Rattle.release.proofs.GapKept.{gap-given}
-use Rattle.release.proofs.ReleaseKept.{laid-out, opens, posts, used-with, own-used, others-outer, outer-others}
+use Rattle.release.proofs.ReleaseKept.{inner, opens, posts, used-with, own-used, others-outer, outer-others}
 
 -- the chunk e of a live block, at which the chain is taken apart, keeps n bytes
 module _ {ws : List ℕ} {h : Heap} {low : List Entry} {e : Entry} {high : List Entry} {n : ℕ} (shrinks : ShrinkingChunk ws h low e high n) where
@@ -60,35 +61,32 @@ module _ {ws : List ℕ} {h : Heap} {low : List Entry} {e : Entry} {high : List 
   abbrev begun : Draft
   begun = splitDraft shrinks
 
-  between : Between h e
-  between = own chunk .1
-
   in-use : e .flags ≡ 1
   in-use = own chunk .0
 
   all-laid : Layout (h .bytes) (low ++ e ∷ [] ++ high)
-  all-laid = laid-out chunk
+  all-laid = laid-out (inner chunk)
 
   own-laid : Laid (h .bytes) e
   own-laid = all-laid .chunks e (middle-in low (e ∷ []) high (List·Memᴰ·head refl))
 
   kept-laid : Laid (h .bytes) kept
   kept-laid =
-      let b = between in
+      let b = inner chunk .between in
       let z = own-laid .eight in
       laid-between (h .bytes) kept z (omega arith) (omega arith) (shrinks .large) (omega arith)
 
   -- what is above the kept chunk, in use or free
   rest-laid : (s f : ℕ) → s ≡ e .size - n → f ≤ 1 → Laid (h .bytes) (entry (e .place + n) s f)
   rest-laid s f q u =
-      let b = between in
+      let b = inner chunk .between in
       let z = own-laid .eight in
       laid-between (h .bytes) (entry (e .place + n) s f) (omega arith) u (omega arith) (omega arith) (omega arith)
 
   parted : (s f : ℕ) → s ≡ e .size - n → f ≤ 1 → Layout (h .bytes) (low ++ kept ∷ entry (e .place + n) s f ∷ [] ++ high)
   parted s f q u =
       layout-replaced (h .bytes) low (e ∷ []) (kept ∷ entry (e .place + n) s f ∷ []) high all-laid
-      (opened.lows ws h well low e high (chunk .split) between) (opened.highs ws h well low e high (chunk .split) between)
+      (lows (inner chunk)) (highs (inner chunk))
       (λ a b t. (t .0, omega arith, (refl, omega arith, omega (arith, t .2)))) laid
     where
       laid : (x : Entry) → Mem x (kept ∷ entry (e .place + n) s f ∷ []) → Laid (h .bytes) x
@@ -96,14 +94,11 @@ module _ {ws : List ℕ} {h : Heap} {low : List Entry} {e : Entry} {high : List 
       laid x (List·Memᴰ·tail k) = rw (List·Memᴰ·eq-of-singleton k) (rest-laid s f q u)
 
   -- the stored word is none of another chunk's header
-  beside : (x : Entry) → Mem x (low ++ high) → Beside x e
-  beside = opened.beside ws h well low e high (chunk .split) between
-
   outer-laid : (x : Entry) → Mem x (low ++ high) → Laid (h .bytes) x
   outer-laid x m = all-laid .chunks x (outer-in low (e ∷ []) high m)
 
   word-misses : (x : Entry) → Mem x (low ++ high) → (k : ℕ) → 4 * k + 4 ≤ x .size → Off (x .place / 4 + k) splitStores
-  word-misses x m k r = (go (beside x m), tt)
+  word-misses x m k r = (go (beside (inner chunk) x m), tt)
     where
       go : Beside x e → x .place / 4 + k ≢ e .place / 4 + forward
       go (inl b) = let y = outer-laid x m .eight in let z = own-laid .eight in λ q. omega arith
@@ -114,7 +109,7 @@ module _ {ws : List ℕ} {h : Heap} {low : List Entry} {e : Entry} {high : List 
       let y = outer-laid x m .some in
       (word-misses x m forward (omega arith), word-misses x m backward (omega arith), λ f. word-misses x m size (omega (arith, outer-laid x m .free f .1)))
 
-  outer-passed : (x : Entry) → Mem x (low ++ high) → x .flags ≡ 0 → Passing splitStores (x .place)
+  outer-passed : (x : Entry) → Mem x (low ++ high) → x .flags ≡ 0 → PassBy splitStores (x .place)
   outer-passed x m f =
       let y = outer-laid x m .free f .1 in
       (word-misses x m 3 (omega arith), word-misses x m 4 (omega arith), word-misses x m 5 (omega arith))
@@ -156,8 +151,8 @@ module _ {ws : List ℕ} {h : Heap} {low : List Entry} {e : Entry} {high : List 
   -- the kept chunk's header reaches up to the tail
   kept-header : Header (written ws splitStores) (lastOr outside low) kept fill
   kept-header =
-      let r = opened.headers-read ws h well low e high (chunk .split) between .1 in
-      let b = between in
+      let r = headers-read (inner chunk) .1 in
+      let b = inner chunk .between in
       let f = bounds ws h well .fits in
       let u = in-use in
       record {
@@ -170,12 +165,12 @@ module _ {ws : List ℕ} {h : Heap} {low : List Entry} {e : Entry} {high : List 
   split-lower =
       headed-joined (written ws splitStores) outside low (kept ∷ []) fill
       (headed-below (written ws splitStores) outside low e kept refl
-      (headed-keeps splitStores ws outside low e (λ x m. outer-spared x (Memᴰ·append-left high m)) (opened.headers-read ws h well low e high (chunk .split) between .0)))
+      (headed-keeps splitStores ws outside low e (λ x m. outer-spared x (Memᴰ·append-left high m)) (headers-read (inner chunk) .0)))
       (kept-header, tt)
 
   split-upper : Headed (written ws splitStores) e high outside
   split-upper =
-      headed-keeps splitStores ws e high outside (λ x m. outer-spared x (Memᴰ·append-right low m)) (opened.headers-read ws h well low e high (chunk .split) between .2)
+      headed-keeps splitStores ws e high outside (λ x m. outer-spared x (Memᴰ·append-right low m)) (headers-read (inner chunk) .2)
 
   split-opened : Opened ws h (low ++ kept ∷ []) fill e high begun
   unfolding asRead
@@ -184,7 +179,7 @@ module _ {ws : List ℕ} {h : Heap} {low : List Entry} {e : Entry} {high : List 
 
   kept-live : live h kept ≡ true
   kept-live =
-      let b = between in
+      let b = inner chunk .between in
       ap liveKind (sym (kind-in-use (h .bytes) (h .donor .0) (h .top .0) kept (λ q. omega arith) (λ q. omega arith) refl))
 
   pub split-laid : Layout (h .bytes) (low ++ kept ∷ [] ++ fill ∷ [] ++ high)

@@ -3,7 +3,7 @@
 use mathlib.Core.Path.{_≡_, refl, sym, ap, _∙_}
 use mathlib.Core.Bool.{Bool, true, false, cond, false≢true}
 use mathlib.Core.List.{List, [], _∷_, _++_}
-use Prim.Native.Nat.{ℕ, _+_, _-_, _/_, _%_, _≤_, _<_}
+use Prim.Native.Nat.{ℕ, _+_, _-_, _%_, _≤_, _<_}
 use native.Mathlib.Omega.{arith}
 use Rattle.lists.specs.Lists.{Mem, headOr}
 use Rattle.lists.proofs.MembersLaws.{last-append}
@@ -11,8 +11,8 @@ use Rattle.record.specs.declared.heap.Heap.{Heap}
 use Rattle.record.specs.declared.kinds.Kind.{Kind}
 use Rattle.record.specs.declared.kinds.Kind.the-variants.{InUse}
 use Rattle.record.specs.Heap.{tableOf, with}
-use Rattle.region.specs.Words.{Store, put, word, written, forward, backward, nextInBin, previousInBin, bin}
-use Rattle.region.proofs.WordsLaws.{Off, off}
+use Rattle.region.specs.Words.{Store, put, word, written, forward, backward}
+use Rattle.region.proofs.WordsLaws.{off}
 use Rattle.rules.specs.Shape.{Entry, entry, flagsAt, binList}
 use Rattle.rules.specs.Kinds.{freeKind, used, blockEnd, outside}
 use Rattle.rules.specs.Check.{Passes}
@@ -21,6 +21,7 @@ use Rattle.rules.specs.Join.{joining, release}
 use Rattle.rules.proofs.KindsLaws.{kind-in-use}
 use Rattle.rules.proofs.SpotLaws.{inside}
 use Rattle.bins.specs.Books.{books}
+use Rattle.bins.proofs.RunsLaws.{PassBy}
 use Rattle.bins.proofs.WayLaws.{way-keeps}
 use Rattle.settling.specs.Settling.{donorAfter, topAfter}
 use Rattle.settling.proofs.DraftLaws.{booksOf, Follows, begins}
@@ -150,8 +151,7 @@ module _ {ws : List ℕ} {h : Heap} {low : List Entry} {e : Entry} {high : List 
         housed = f .housed;
       }
     where
-      clear : (j x : ℕ) → j < h .bins → Mem x (binList ws h j)
-          → Off (x / 4 + nextInBin) splitStores × Off (x / 4 + previousInBin) splitStores × Off (x / 4 + bin) splitStores
+      clear : (j x : ℕ) → j < h .bins → Mem x (binList ws h j) → PassBy splitStores x
       clear j x lj m =
           let a = part-far chunk (e .place) (omega arith) (omega arith) j x lj m in
           let z = place-eight in

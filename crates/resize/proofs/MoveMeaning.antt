@@ -17,7 +17,8 @@ use Rattle.rules.specs.Draft.{Draft, asRead, Spot}
 use Rattle.rules.specs.Free.{isLive, freeBlock}
 use Rattle.rules.specs.Kinds.{live, blockOf, blockEnd, blockWords, outside}
 use Rattle.rules.specs.Shape.{Entry, shape}
-use Rattle.rules.proofs.SpotLaws.{around, inside, live-between, one-chunk}
+use Rattle.rules.proofs.SpotLaws.{around, inside, one-chunk}
+use Rattle.rules.proofs.NamedLaws.{live-between}
 use Rattle.seek.specs.Seek.{placed}
 use Rattle.blocks.specs.Blocks.{copiedM}
 use Rattle.blocks.proofs.BlocksMeaning.{Disjoint, copy-is}

@@ -13,7 +13,8 @@ use Rattle.region.specs.Words.{word, forward, backward}
 use Rattle.rules.specs.Shape.{Entry, shape}
 use Rattle.rules.specs.Check.{Fits, Passes}
 use Rattle.rules.specs.Draft.{asRead}
-use Rattle.rules.proofs.SpotLaws.{bounds, inside, flags-free}
+use Rattle.rules.proofs.SpotLaws.{bounds, inside}
+use Rattle.rules.proofs.NamedLaws.{flags-free}
 use Rattle.rules.proofs.HeadersLaws.{SameHeader, headers-shape, headers-pass, headers-read}
 
 -- the two regions have the same first n words

@@ -15,7 +15,8 @@ use Rattle.rules.specs.Kinds.{unused}
 use Rattle.rules.specs.Check.{Fits, Backed, Sound, Reserved, Linked, Listed, Passes, PassesAs}
 use Rattle.rules.specs.Draft.{Draft, asRead}
 use Rattle.rules.proofs.ShapeLaws.{Up, lastEntry, upEntry, chainFrom, shape-goes, shape-stops, shape-is, chain-by, read-none, read-on}
-use Rattle.rules.proofs.SpotLaws.{ends, is-ordinary}
+use Rattle.rules.proofs.SpotLaws.{ends}
+use Rattle.rules.proofs.NamedLaws.{is-ordinary}
 
 -- the header of the chunk e is the same in two regions
 pub record SameHeader (ws ws′ : List ℕ) (e : Entry) : Type 0 where

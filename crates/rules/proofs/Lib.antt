@@ -5,6 +5,7 @@ pub mod CheckLaws
 pub mod OutcomeLaws
 pub mod TiledLaws
 pub mod SpotLaws
+pub mod NamedLaws
 pub mod HeadersLaws
 pub mod EvenLaws
 pub mod AskLaws

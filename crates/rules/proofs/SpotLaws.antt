@@ -1,8 +1,9 @@
 -- Where the chunks of a heap that passes lie: one behind the other from 0 to the end of the heap bytes, so that each knows its neighbours
--- and two have no byte in common; start, end, top and donor among them; and the chain taken apart at one of its chunks. Assumes nothing.
+-- and two have no byte in common; start and end among them; and the chain taken apart at one of its chunks. What is known of a chunk by its
+-- kind is in NamedLaws. Assumes nothing.
 use mathlib.Core.Path.{_≡_, sym, ap, _∙_}
 use mathlib.Core.Logic.{_⊎_, inl, inr}
-use mathlib.Core.Bool.{Bool, true, false≢true}
+use mathlib.Core.Bool.{Bool, true}
 use mathlib.Core.List.{List, [], _∷_, _++_, append-assoc, List·Memᴰ·not-nil}
 use Prim.Native.Nat.{ℕ, _+_, _*_, _-_, _%_, _≤_, _<_}
 use native.Mathlib.Omega.{arith}
@@ -12,15 +13,13 @@ use Rattle.lists.specs.Lists.{Mem, headOr, lastOr, butLast, any}
 use Rattle.lists.proofs.ListsLaws.{number-is, for-some}
 use Rattle.lists.proofs.SplitLaws.{begins-with, ends-with, in-split, first-splits}
 use Rattle.record.specs.declared.heap.Heap.{Heap}
-use Rattle.record.specs.declared.kinds.Kind.the-variants.{InUse, Donor, Top}
-use Rattle.region.specs.Words.{word, forward, backward, size}
+use Rattle.region.specs.Words.{word, forward, backward}
 use Rattle.rules.specs.Shape.{Entry, flagsAt, shape}
-use Rattle.rules.specs.Kinds.{ordinaryKind, freeKind, kindOf, ordinary, isFree, live, blockEnd, isAt, outside}
-use Rattle.rules.specs.Check.{Backed, Unbinned, Passes}
-use Rattle.rules.specs.Draft.{Spot, spot}
+use Rattle.rules.specs.Kinds.{live, blockEnd, isAt, outside}
+use Rattle.rules.specs.Check.{Backed, Passes}
+use Rattle.rules.specs.Draft.{spot}
 use Rattle.rules.proofs.ChainLaws.{same-place, shape-chain}
-use Rattle.rules.proofs.KindsLaws.{Being, being, kind-top, kind-donor, ordinary-kind, live-kind, free-kinds, being-as}
-use Rattle.rules.proofs.TiledLaws.{Tiled, Forwards, chain-tiled, tiled-cut, tiled-up, tiled-in, tiled-apart, tiled-eights, tiled-empty, tiled-one, tiled-few, tiled-some}
+use Rattle.rules.proofs.TiledLaws.{Tiled, Forwards, chain-tiled, tiled-cut, tiled-up, tiled-in, tiled-apart, tiled-eights, tiled-empty, tiled-few, tiled-some}
 
 -- a list taken apart at the first member for which a test holds
 module _ (q : Entry → Bool) where
@@ -60,41 +59,6 @@ pub record Between (h : Heap) (e : Entry) : Type 0 where
   pub above : 8 ≤ e .place
   pub below : blockEnd e + 8 ≤ h .bytes
 
--- of a free one
-pub record Free (ws : List ℕ) (h : Heap) (e : Entry) : Type 0 where
-  pub flags : e .flags ≡ 0
-  pub sized : word ws (e .place) size ≡ e .size
-  pub between : Between h e
-
--- of an ordinary one
-pub record IsOrdinary (ws : List ℕ) (h : Heap) (e : Entry) : Type 0 where
-  pub free : Free ws h e
-  pub notTop : e .place ≡ h .top .0 → ⊥
-  pub notDonor : e .place ≡ h .donor .0 → ⊥
-
--- the top: above it there is the end alone
-pub record IsTop (ws : List ℕ) (h : Heap) (es : List Entry) (e : Entry) : Type 0 where
-  pub member : Mem e es
-  pub place : e .place ≡ h .top .0
-  pub free : Free ws h e
-  pub out : Unbinned ws (h .top .0)
-  pub reaches : blockEnd e + 8 ≡ h .bytes
-  pub kind : kindOf h e ≡ Top
-  pub here : spot (isAt (h .top .0)) es .here ≡ e
-  pub high : spot (isAt (h .top .0)) es .high ≡ lastOr outside es ∷ []
-  pub split : es ≡ spot (isAt (h .top .0)) es .low ++ e ∷ lastOr outside es ∷ []
-
--- the donor
-pub record IsDonor (ws : List ℕ) (h : Heap) (es : List Entry) (e : Entry) : Type 0 where
-  pub member : Mem e es
-  pub place : e .place ≡ h .donor .0
-  pub free : Free ws h e
-  pub out : Unbinned ws (h .donor .0)
-  pub below : h .donor .0 < h .top .0
-  pub kind : kindOf h e ≡ Donor
-  pub here : spot (isAt (h .donor .0)) es .here ≡ e
-  pub split : es ≡ spot (isAt (h .donor .0)) es .low ++ e ∷ spot (isAt (h .donor .0)) es .high
-
 -- start and end
 pub record Ends (h : Heap) (es : List Entry) : Type 0 where
   pub begins : es ≡ headOr outside es ∷ drop 1 es
@@ -117,15 +81,6 @@ pub record Around (ws : List ℕ) (es low : List Entry) (e : Entry) (high : List
   pub abovePlace : headOr outside high .place ≡ blockEnd e
   pub ownForward : word ws (e .place) forward ≡ headOr outside high .place
   pub ownBackward : word ws (e .place) backward ≡ lastOr outside low .place + e .flags
-
--- what the record says makes a free chunk the top or the donor
-module _ (ws : List ℕ) (h : Heap) (e : Entry) (f : Free ws h e) where
-  top-kind : e .place ≡ h .top .0 → kindOf h e ≡ Top
-  top-kind q = sym (kind-top (h .bytes) (h .donor .0) (h .top .0) e (λ z. omega arith) (λ z. omega arith) (λ z. omega arith) q)
-
-  donor-kind : (e .place ≡ h .top .0 → ⊥) → e .place ≡ h .donor .0 → kindOf h e ≡ Donor
-  donor-kind n q =
-      sym (kind-donor (h .bytes) (h .donor .0) (h .top .0) e (λ z. omega arith) (λ z. omega arith) (λ z. omega arith) n q)
 
 module _ (ws : List ℕ) (h : Heap) (p : Passes ws h) where
   abbrev pub es : List Entry
@@ -174,15 +129,16 @@ module _ (ws : List ℕ) (h : Heap) (p : Passes ws h) where
   pub apart : (d e : Entry) → Mem d es → Mem e es → (d .place ≡ e .place → ⊥) → (blockEnd d ≤ e .place) ⊎ (blockEnd e ≤ d .place)
   apart d e m k n = tiled-apart 0 (h .bytes) es tiled m k n
 
-  module _ (low : List Entry) (e : Entry) (high : List Entry) (split : es ≡ low ++ e ∷ high) where
-    cut : (m : ℕ) × Tiled 0 low m × Tiled m (e ∷ high) (h .bytes)
-    cut = tiled-cut 0 (h .bytes) low (e ∷ high) (rw split at tiled)
+  -- the chunks below one, and those from it on
+  pub tiled-at : (low : List Entry) (e : Entry) (high : List Entry) → es ≡ low ++ e ∷ high
+      → (m : ℕ) × Tiled 0 low m × Tiled m (e ∷ high) (h .bytes)
+  tiled-at low e high split = tiled-cut 0 (h .bytes) low (e ∷ high) (rw split at tiled)
 
   -- a chunk, the one behind it, and the links between them
   pub next-is : (low : List Entry) (e d : Entry) (high : List Entry) → es ≡ low ++ e ∷ d ∷ high
       → (d .place ≡ blockEnd e) × (word ws (e .place) forward ≡ d .place) × (word ws (d .place) backward ≡ e .place + d .flags)
   next-is low e d high s =
-      let c = cut low e (d ∷ high) s .2 .2 in
+      let c = tiled-at low e (d ∷ high) s .2 .2 in
       let u = tiled-up (blockEnd d) (h .bytes) high (c .2) in
       let f = lies .1 e (in-split low e (d ∷ high) s) (omega arith) in
       (c .0, f ∙ sym (c .0), backed-next ws 0 low e d high (rw s at (p .backward)))
@@ -244,7 +200,7 @@ module _ (ws : List ℕ) (h : Heap) (p : Passes ws h) where
       → Around ws es low e high
   around low e high s lo hi =
       let b = between e (in-split low e high s) lo hi in
-      let c = cut low e high s in
+      let c = tiled-at low e high s in
       let ls = ends-with outside low (λ z. let k = tiled-empty 0 (c .0) low (c .1) z in omega (arith, c .2 .0)) in
       let hs = begins-with outside high (λ z. let k = tiled-empty (blockEnd e) (h .bytes) high (c .2 .2) z in omega arith) in
       let es-low : es ≡ butLast low ++ lastOr outside low ∷ e ∷ high =
@@ -262,106 +218,3 @@ module _ (ws : List ℕ) (h : Heap) (p : Passes ws h) where
         ownForward = up .1;
         ownBackward = down .2;
       }
-
-  -- a free chunk is neither start nor end, since those are in use
-  pub free-between : (e : Entry) → Mem e es → e .flags ≡ 0 → Between h e
-  free-between e m f =
-      let l = ends in
-      let i = inside e m in
-      let not-start : e .place ≡ 0 → ⊥ =
-      λ q. let s = ap (λ (x : Entry). x .flags) (one-chunk e (headOr outside es) m (l .start) (q ∙ sym (l .startPlace))) in omega arith in
-      let not-end : e .place + 8 ≡ h .bytes → ⊥ =
-      λ q. let s = ap (λ (x : Entry). x .flags) (one-chunk e (lastOr outside es) m (l .end) (omega arith)) in omega arith in
-      between e m (omega arith) (omega arith)
-
-  -- free by its flags, and by its kind
-  pub flags-free : (e : Entry) → Mem e es → e .flags ≡ 0 → Free ws h e
-  flags-free e m f = record { flags = f; sized = p .chunks e m .sized f; between = free-between e m f }
-
-  pub kind-free : (e : Entry) → Mem e es → isFree h e ≡ true → Free ws h e
-  kind-free e m f =
-      let z =
-      free-kinds (λ k. Being (h .bytes) (h .donor .0) (h .top .0) e k → e .flags % 2 ≡ 0) (λ b. b .2) (λ b. b .2) (λ b. b .2)
-      (kindOf h e) f (being (h .bytes) (h .donor .0) (h .top .0) e) in
-      let i = inside e m in
-      flags-free e m (omega arith)
-
-  -- the chunk of a live block
-  pub live-between : (e : Entry) → Mem e es → live h e ≡ true → (e .flags ≡ 1) × Between h e
-  live-between e m f =
-      let i = inside e m in
-      let b = being-as h e InUse (live-kind (kindOf h e) f) in
-      let z = b .2 in
-      (omega arith, between e m (b .0) (omega (arith, b .1)))
-
-  pub is-ordinary : (e : Entry) → Mem e es → ordinary h e ≡ true → IsOrdinary ws h e
-  is-ordinary e m o =
-      let f = kind-free e m (ap freeKind (ordinary-kind (kindOf h e) o)) in
-      let not-top : e .place ≡ h .top .0 → ⊥ = λ q. false≢true (ap ordinaryKind (sym (top-kind ws h e f q)) ∙ o) in
-      record {
-        free = f;
-        notTop = not-top;
-        notDonor = λ q. false≢true (ap ordinaryKind (sym (donor-kind ws h e f not-top q)) ∙ o);
-      }
-
-  the-top : IsTop ws h es (p .top .0)
-  the-top =
-      let t : Entry = p .top .0 in
-      let m = p .top .1 in
-      let r = p .top .2 .0 in
-      let reaches : blockEnd t + 8 ≡ h .bytes = p .top .2 .1 in
-      let f = flags-free t m (r .free) in
-      let s = spot-at (h .top .0) t m (r .here) in
-      let a : Spot = spot (isAt (h .top .0)) es in
-      let high = only-end (a .low) t (a .high) (s .2) reaches (around (a .low) t (a .high) (s .2) (omega arith) (omega arith)) in
-      record {
-        member = m;
-        place = r .here;
-        free = f;
-        out = r .out;
-        reaches = reaches;
-        kind = top-kind ws h t f (r .here);
-        here = s .1;
-        high = high;
-        split = s .2 ∙ ap (λ (l : List Entry). a .low ++ t ∷ l) high;
-      }
-    where
-      only-end : (low : List Entry) (e : Entry) (high : List Entry) → es ≡ low ++ e ∷ high → blockEnd e + 8 ≡ h .bytes
-          → Around ws es low e high → high ≡ lastOr outside es ∷ []
-      only-end low e high s r a =
-          let l = ends in
-          let i = inside _ (a .above) in
-          tiled-one (blockEnd e) (h .bytes) high (cut low e high s .2 .2) (omega arith) (omega arith)
-          ∙ ap (λ (d : Entry). d ∷ []) (one-chunk _ _ (a .above) (l .end) (omega arith))
-
-  pub is-top : (e : Entry) → Mem e es → e .place ≡ h .top .0 → IsTop ws h es e
-  is-top e m q = rw (one-chunk e (p .top .0) m (the-top .member) (q ∙ sym (the-top .place))) the-top
-
-  pub top-here : IsTop ws h es (spot (isAt (h .top .0)) es .here)
-  top-here = rw (the-top .here) the-top
-
-  the-donor : (l : 0 < h .donor .0) → IsDonor ws h es (p .donor l .0)
-  the-donor l =
-      let t : Entry = p .donor l .0 in
-      let m = p .donor l .1 in
-      let r = p .donor l .2 .0 in
-      let below : h .donor .0 < h .top .0 = p .donor l .2 .1 in
-      let f = flags-free t m (r .free) in
-      let s = spot-at (h .donor .0) t m (r .here) in
-      record {
-        member = m;
-        place = r .here;
-        free = f;
-        out = r .out;
-        below = below;
-        kind = donor-kind ws h t f (λ q. omega arith) (r .here);
-        here = s .1;
-        split = s .2;
-      }
-
-  pub is-donor : (e : Entry) → Mem e es → 0 < h .donor .0 → e .place ≡ h .donor .0 → IsDonor ws h es e
-  is-donor e m l q =
-      let d = the-donor l in rw (one-chunk e (p .donor l .0) m (d .member) (q ∙ sym (d .place))) d
-
-  pub donor-here : 0 < h .donor .0 → IsDonor ws h es (spot (isAt (h .donor .0)) es .here)
-  donor-here l = rw (the-donor l .here) (the-donor l)

@@ -18,8 +18,8 @@ use Rattle.record.specs.declared.table.Binned.the-variants.{Bin}
 use Rattle.record.specs.Heap.{tableOf, with, withEnds}
 use Rattle.record.specs.Table.{smallBins, binOf}
 use Rattle.record.proofs.TableLaws.{bin-from}
-use Rattle.region.specs.Words.{Store, put, written, backward, forward, size, nextInBin, previousInBin, bin}
-use Rattle.region.proofs.WordsLaws.{Off, length-written, written-append}
+use Rattle.region.specs.Words.{Store, put, written, backward, forward, size}
+use Rattle.region.proofs.WordsLaws.{length-written, written-append}
 use Rattle.headers.specs.Headers.{aboveWords, freeWords}
 use Rattle.rules.specs.Shape.{Entry, entry, binList}
 use Rattle.rules.specs.Kinds.{unused, outside}
@@ -27,7 +27,7 @@ use Rattle.rules.specs.Check.{Passes}
 use Rattle.rules.specs.Draft.{Draft, asRead, meet, leave, leaveBin, putBetween, putInto, putInBin, noBinWords, relink, settle}
 use Rattle.rules.specs.Join.{joinedAs}
 use Rattle.bins.specs.Books.{Books, books, leaveM, putM, putIntoM}
-use Rattle.bins.proofs.RunsLaws.{Node}
+use Rattle.bins.proofs.RunsLaws.{Node, PassBy}
 use Rattle.bins.proofs.BooksLaws.{Far, putStores}
 use Rattle.bins.proofs.WayLaws.{OnWay, way-begins, way-keeps, way-leaves, way-left-far, way-stays, way-remains, way-puts-head, way-puts-tail}
 use Rattle.settling.specs.Settling.{putBinnedM, putInBinM, alsoWritten, settleM, donorAfter, topAfter}
@@ -47,8 +47,7 @@ HeaderStores x [] = Unit {0}
 HeaderStores x (s ∷ ss) = (s .number ≤ 2) × Clears x (s .chunk) × HeaderStores x ss
 
 -- so none is to a link or a bin word of the chunk at x
-header-stores-off : (x : ℕ) (ss : List Store) → x % 8 ≡ 0 → HeaderStores x ss
-    → Off (x / 4 + nextInBin) ss × Off (x / 4 + previousInBin) ss × Off (x / 4 + bin) ss
+header-stores-off : (x : ℕ) (ss : List Store) → x % 8 ≡ 0 → HeaderStores x ss → PassBy ss x
 header-stores-off x [] z a = (tt, tt, tt)
 header-stores-off x (s ∷ ss) z (a, (e, f), r) =
     let o = header-stores-off x ss z r in

@@ -1,32 +1,58 @@
--- Writing inside a live block leaves a heap that passes, and it is read as before. Assumes nothing.
-use mathlib.Core.Path.{_≡_, sym, ap}
+-- Words of a block written one after the other (`fillFrom`); and writing inside a live block leaves a heap that passes, read as before. Assumes nothing.
+use mathlib.Core.Path.{_≡_, sym, ap, _∙_}
 use mathlib.Core.Logic.{_≢_, _⊎_, inl, inr}
 use mathlib.Core.Bool.{true}
 use mathlib.Core.List.{List, map}
 use Prim.Native.Nat.{ℕ, zero, suc, _+_, _*_, _/_, _≤_, _<_}
 use native.Mathlib.Decide.{ℕ-discrete}
 use native.Mathlib.Omega.{arith}
+use lib.ListN.{length}
 use Rattle.lists.specs.Lists.{Mem, numbersFrom}
 use Rattle.record.specs.declared.heap.Heap.{Heap}
-use Rattle.region.specs.Words.{word, Store, put, written, forward, backward}
-use Rattle.region.proofs.WordsLaws.{Fall, fall-so, Off, off, length-written}
+use Rattle.region.specs.Words.{word, Store, store, put, written, forward, backward}
+use Rattle.region.proofs.WordsLaws.{Fall, fall-so, Off, off, word-same, length-store, length-written}
 use Rattle.rules.specs.Shape.{Entry, shape, binList}
 use Rattle.rules.specs.Kinds.{live, unused, blockOf, blockEnd, blockWords}
 use Rattle.rules.specs.Check.{Fits, Passes}
-use Rattle.rules.proofs.SpotLaws.{inside, apart, one-chunk, flags-free, live-between}
+use Rattle.rules.proofs.SpotLaws.{inside, apart, one-chunk}
+use Rattle.rules.proofs.NamedLaws.{flags-free, live-between}
 use Rattle.rules.proofs.HeadersLaws.{SameHeader, headers-shape, headers-list, headers-pass}
 
 -- stores that fall into words a block has
 abbrev pub Within : Entry → List Store → Type 0
 Within e ss = Fall (λ i. (blockOf e / 4 ≤ i) × (i < blockEnd e / 4)) ss
 
--- words of a block written one after the other from its start
-pub filled-within : (e : Entry) (value : ℕ → ℕ) (n : ℕ) → n ≤ blockWords e → Within e (map (λ k. put (blockOf e) k (value k)) (numbersFrom 0 n))
+-- n words written one after the other, from number i of the block at b on
+abbrev pub fillFrom : ℕ → ℕ → (ℕ → ℕ) → ℕ → List Store
+fillFrom b i value n = map (λ j. put b j (value j)) (numbersFrom i n)
+
+-- they fall into the block at whose start they begin, if it has as many
+pub filled-within : (e : Entry) (value : ℕ → ℕ) (n : ℕ) → n ≤ blockWords e → Within e (fillFrom (blockOf e) 0 value n)
 filled-within e value n l = go n 0 (omega arith)
   where
-    go : (n i : ℕ) → i + n ≤ blockWords e → Within e (map (λ k. put (blockOf e) k (value k)) (numbersFrom i n))
+    go : (n i : ℕ) → i + n ≤ blockWords e → Within e (fillFrom (blockOf e) i value n)
     go zero i r = tt
     go (suc n) i r = ((omega arith, omega arith), go n (suc i) (omega arith))
+
+-- they are read back
+pub fill-reads : (value : ℕ → ℕ) (b n i : ℕ) (ws : List ℕ) → b / 4 + i + n ≤ length ws → (k : ℕ) → i ≤ k → k < i + n
+    → word (written ws (fillFrom b i value n)) b k ≡ value k
+fill-reads value b zero i ws r k lo hi = absurd (omega arith)
+fill-reads value b (suc n) i ws r k lo hi =
+    go (ℕ-discrete k i)
+    (λ l. fill-reads value b n (suc i) (store ws b i (value i)) (omega (arith, length-store ws b i (value i))) k l (omega arith))
+  where
+    later : (n j : ℕ) → i < j → Off (b / 4 + i) (fillFrom b j value n)
+    later zero j l = tt
+    later (suc n) j l = (λ q. omega arith, later n (suc j) (omega arith))
+
+    go : Dec (k ≡ i) → let after = written (store ws b i (value i)) (fillFrom b (suc i) value n) in
+        (suc i ≤ k → word after b k ≡ value k) → word after b k ≡ value k
+    go (yes q) f =
+        rw q
+        (off (fillFrom b (suc i) value n) (store ws b i (value i)) b i (later n (suc i) (omega arith))
+        ∙ word-same ws b i (value i) (omega arith))
+    go (no m) f = f (omega arith)
 
 -- the stores are to no word below the block and to none above it
 pub below-block : (e : Entry) (ss : List Store) → Within e ss → (i : ℕ) → i < blockOf e / 4 → Off i ss

@@ -5,7 +5,7 @@ use mathlib.Core.Path.{_≡_, refl, sym, ap, _∙_}
 use mathlib.Core.Logic.{_⊎_, inl, inr}
 use mathlib.Core.Bool.{true, false, false≢true}
 use mathlib.Core.List.{List, [], _++_}
-use Prim.Native.Nat.{ℕ, _+_, _*_, _/_, _≤_, _<_}
+use Prim.Native.Nat.{ℕ, _*_, _≤_, _<_}
 use native.Mathlib.Decide.{ℕ-discrete}
 use native.Mathlib.Omega.{arith}
 use lib.ListN.{length, set, length-set}
@@ -17,13 +17,14 @@ use Rattle.record.specs.declared.table.Binned.the-variants.{Bin}
 use Rattle.record.specs.Heap.{places, tableOf, with}
 use Rattle.record.specs.Table.{binOf}
 use Rattle.region.specs.Words.{Store, written, nextInBin, previousInBin, bin}
-use Rattle.region.proofs.WordsLaws.{Off, off, length-written}
+use Rattle.region.proofs.WordsLaws.{off, length-written}
 use Rattle.rules.specs.Shape.{Entry, shape}
 use Rattle.rules.specs.Kinds.{ordinaryKind, ordinary, outside}
 use Rattle.rules.specs.Check.{Unused, Unbinned, BelongsTo, Passes}
 use Rattle.rules.specs.Draft.{Draft, asRead, relink}
 use Rattle.rules.proofs.KindsLaws.{kind-ordinary, ordinary-free, used-not-ordinary}
-use Rattle.rules.proofs.SpotLaws.{flags-free, is-top, is-donor}
+use Rattle.rules.proofs.NamedLaws.{flags-free, is-top, is-donor}
+use Rattle.bins.proofs.RunsLaws.{PassBy}
 use Rattle.bins.proofs.HeapBooks.{list-none}
 use Rattle.bins.proofs.WayLaws.{OnWay, way-begins, way-keeps}
 use Rattle.settling.proofs.DraftLaws.{booksOf}
@@ -98,11 +99,8 @@ halfway-begins ws h p =
         (sym o
         ∙ ap ordinaryKind (sym (kind-ordinary (h .bytes) (h .donor .0) (h .top .0) e (λ q. omega arith) (λ q. omega arith) (λ q. omega arith) t n))))
 
--- stores that are to none of a chunk's links and bin word
-abbrev pub Passing : List Store → ℕ → Type 0
-Passing ss c = Off (c / 4 + nextInBin) ss × Off (c / 4 + previousInBin) ss × Off (c / 4 + bin) ss
-
-pub unbinned-keeps : (ss : List Store) (ws : List ℕ) (c : ℕ) → Passing ss c → Unbinned ws c → Unbinned (written ws ss) c
+-- stores that pass by a chunk in no bin leave it in none
+pub unbinned-keeps : (ss : List Store) (ws : List ℕ) (c : ℕ) → PassBy ss c → Unbinned ws c → Unbinned (written ws ss) c
 unbinned-keeps ss ws c o u =
     record {
       next = off ss ws c nextInBin (o .0) ∙ u .next;
@@ -146,7 +144,7 @@ rewritten es all d = record { heap = d .heap; chain = es; lists = d .lists; stor
 -- stores that are to no link and no bin word of a free chunk that stays
 pub writes-halfway : (ws : List ℕ) (h : Heap) (stay es : List Entry) (d : Draft) (ss all : List Store) → Halfway ws h stay d
     → written ws all ≡ written (written ws (d .stores)) ss → ((e : Entry) → Mem e stay → Laid (h .bytes) e)
-    → ((e : Entry) → Mem e stay → e .flags ≡ 0 → Passing ss (e .place)) → Halfway ws h stay (rewritten es all d)
+    → ((e : Entry) → Mem e stay → e .flags ≡ 0 → PassBy ss (e .place)) → Halfway ws h stay (rewritten es all d)
 writes-halfway ws h stay es d ss all f w laid passed =
     record {
       heap = f .heap;
@@ -159,13 +157,13 @@ writes-halfway ws h stay es d ss all f w laid passed =
       housed = f .housed;
     }
   where
-    clear : {i c : ℕ} → Belonging (now h d) stay i c → Passing ss c
+    clear : {i c : ℕ} → Belonging (now h d) stay i c → PassBy ss c
     clear (e, m, (q, b)) = rw q at (passed e m (ordinary-free (now h d) e (b .0) (laid e m .flags)))
 
 -- the chunks news are linked in between low and high
 module _ (ws : List ℕ) (h : Heap) (low news high : List Entry) (d : Draft) (f : Halfway ws h (low ++ high) d)
     (y : Layout (h .bytes) (low ++ news ++ high)) (highs : high ≡ [] → ⊥) where
-  passed : (x : Entry) → Mem x (low ++ high) → x .flags ≡ 0 → Passing (linkStores low news high) (x .place)
+  passed : (x : Entry) → Mem x (low ++ high) → x .flags ≡ 0 → PassBy (linkStores low news high) (x .place)
   passed x m z =
       let s = y .chunks x (outer-in low news high m) .free z .1 in (
         link-off (h .bytes) low news high y highs x m 3 (omega arith) (omega arith),

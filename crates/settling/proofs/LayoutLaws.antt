@@ -14,7 +14,8 @@ use Rattle.rules.specs.Shape.{Entry, shape}
 use Rattle.rules.specs.Kinds.{blockEnd, outside}
 use Rattle.rules.specs.Check.{Ended, Passes}
 use Rattle.rules.proofs.ChainLaws.{same-place}
-use Rattle.rules.proofs.SpotLaws.{tiled, inside, free-between}
+use Rattle.rules.proofs.SpotLaws.{tiled, inside}
+use Rattle.rules.proofs.NamedLaws.{free-between}
 use Rattle.rules.proofs.TiledLaws.{Tiled, tiled-cut, tiled-in, tiled-apart, tiled-few, tiled-joined, tiled-rising}
 
 -- all chunks of a list but the one in its middle

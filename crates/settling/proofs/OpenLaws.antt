@@ -1,5 +1,5 @@
 -- A chunk is taken out of the chain, which is open there then, whether it was in no bin or leaves its bin (`opened-kept`, `opened-left`);
--- and so for a chunk of a heap that passes, neither start nor end: where the others lie, and their headers. Assumes nothing.
+-- and so for a chunk of a heap that passes, neither start nor end (`InnerChunk`): where the others lie, and their headers. Assumes nothing.
 use mathlib.Core.Path.{_≡_, refl, sym, ap, subst, _∙_}
 use mathlib.Core.Logic.{_≢_}
 use mathlib.Core.Bool.{true, false, false≢true}
@@ -72,20 +72,28 @@ module _ (ws : List ℕ) (h : Heap) (low : List Entry) (x : Entry) (high : List 
           used = a .2 ∙ used;
         }
 
--- a chunk of a heap that passes, before the call
-module _ (ws : List ℕ) (h : Heap) (p : Passes ws h) (low : List Entry) (e : Entry) (high : List Entry)
-    (split : shape ws (h .bytes) ≡ low ++ e ∷ high) (b : Between h e) where
+-- a chunk e of a heap that passes, neither start nor end, at which the chain is taken apart
+pub record InnerChunk (ws : List ℕ) (h : Heap) (low : List Entry) (e : Entry) (high : List Entry) : Type 0 where
+  pub well : Passes ws h
+  pub split : shape ws (h .bytes) ≡ low ++ e ∷ high
+  pub between : Between h e
+
+-- before the call
+module _ {ws : List ℕ} {h : Heap} {low : List Entry} {e : Entry} {high : List Entry} (chunk : InnerChunk ws h low e high) where
+  abbrev well : Passes ws h
+  well = chunk .well
+
   pub whole : shape ws (h .bytes) ≡ low ++ e ∷ [] ++ high
-  whole = split ∙ sym (append-assoc low (e ∷ []) high)
+  whole = chunk .split ∙ sym (append-assoc low (e ∷ []) high)
 
   pub laid-out : Layout (h .bytes) (low ++ e ∷ [] ++ high)
-  laid-out = subst (λ (l : List Entry). Layout (h .bytes) l) whole (layout-read ws h p)
+  laid-out = subst (λ (l : List Entry). Layout (h .bytes) l) whole (layout-read ws h well)
 
   pub beside : (x : Entry) → Mem x (low ++ high) → Beside x e
   beside x m = outer-beside (h .bytes) low (e ∷ []) high laid-out x e m (List·Memᴰ·head refl)
 
   pub elsewhere : (x : Entry) → Mem x (low ++ high) → x .place ≢ e .place
-  elsewhere x m = beside-elsewhere x e (beside x m) (laid-out .chunks x (outer-in low (e ∷ []) high m) .some) (omega (arith, b .some))
+  elsewhere x m = beside-elsewhere x e (beside x m) (laid-out .chunks x (outer-in low (e ∷ []) high m) .some) (omega (arith, chunk .between .some))
 
   pub outer : (x : Entry) → Mem x (shape ws (h .bytes)) → x .place ≢ e .place → Mem x (low ++ high)
   outer x m n = every-other low e high x (subst (λ (l : List Entry). Mem x l) whole m) n
@@ -102,11 +110,11 @@ module _ (ws : List ℕ) (h : Heap) (p : Passes ws h) (low : List Entry) (e : En
 
   -- the heap before the call
   pub start : Halfway ws h (low ++ e ∷ [] ++ high) (asRead ws h)
-  start = subst (λ (l : List Entry). Halfway ws h l (asRead ws h)) whole (halfway-begins ws h p)
+  start = subst (λ (l : List Entry). Halfway ws h l (asRead ws h)) whole (halfway-begins ws h well)
 
   pub headers-read : Headed ws outside low e × Header ws (lastOr outside low) e (headOr outside high) × Headed ws e high outside
   headers-read =
-      let k = headed-cut ws outside low (e ∷ high) outside (subst (λ (l : List Entry). Headed ws outside l outside) split (headed-read ws h p)) in
+      let k = headed-cut ws outside low (e ∷ high) outside (subst (λ (l : List Entry). Headed ws outside l outside) (chunk .split) (headed-read ws h well)) in
       (k .0, k .1 .0, k .1 .1)
 
   pub opens-kept : ordinary h e ≡ false → Opened ws h low e e high (asRead ws h)
@@ -123,13 +131,13 @@ module _ (ws : List ℕ) (h : Heap) (p : Passes ws h) (low : List Entry) (e : En
   -- top and donor, where they are other chunks
   pub top-outer : e .place ≢ h .top .0 → (t : Entry) × Mem t (low ++ high) × ((t .place ≡ h .top .0) × (t .flags ≡ 0) × (blockEnd t + 8 ≡ h .bytes))
   top-outer n =
-      let t = p .top in
+      let t = well .top in
       let r = t .2 .0 in
       (t .0, outer (t .0) (t .1) (λ q. n (sym q ∙ r .here)), (r .here, r .free, t .2 .1))
 
   pub donor-outer : e .place ≢ h .donor .0 → 0 < h .donor .0
       → (t : Entry) × Mem t (low ++ high) × ((t .place ≡ h .donor .0) × (t .flags ≡ 0) × (h .donor .0 < h .top .0))
   donor-outer n some =
-      let t = p .donor some in
+      let t = well .donor some in
       let r = t .2 .0 in
       (t .0, outer (t .0) (t .1) (λ q. n (sym q ∙ r .here)), (r .here, r .free, t .2 .1))

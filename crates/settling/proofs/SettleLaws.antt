@@ -25,13 +25,13 @@ use Rattle.rules.specs.Check.{Unbinned, Passes}
 use Rattle.rules.specs.Draft.{Draft, alsoWrites, withHeap, putBetween, putInto, putInBin, noBinWords, settle}
 use Rattle.rules.proofs.KindsLaws.{used-not-ordinary}
 use Rattle.bins.specs.Books.{books}
-use Rattle.bins.proofs.RunsLaws.{Node, NoLink}
+use Rattle.bins.proofs.RunsLaws.{Node, PassBy, NoLink}
 use Rattle.bins.proofs.BooksLaws.{Far, putStores, putAt, put-off}
 use Rattle.bins.proofs.WayLaws.{OnWay, relisted, relisted-same, relisted-other, far-no-link, header-no-link, way-keeps, way-puts, is-from}
 use Rattle.settling.proofs.DraftLaws.{booksOf}
 use Rattle.settling.proofs.LayoutLaws.{Beside, Laid, Layout, laid-once, laid-beside, laid-below}
 use Rattle.settling.proofs.HeaderLaws.{Headed, Spares, headed-keeps}
-use Rattle.settling.proofs.HalfwayLaws.{now, bin-ends-set, Belonging, InItsBin, Halfway, halfway-others, Passing, unbinned-keeps}
+use Rattle.settling.proofs.HalfwayLaws.{now, bin-ends-set, Belonging, InItsBin, Halfway, halfway-others, unbinned-keeps}
 use Rattle.settling.proofs.LeaveLaws.{not-listed, member-below, member-far}
 
 -- what a step makes of a draft whose chain is `all`: the donor, the top and the used bytes that it leaves are named
@@ -127,7 +127,7 @@ module _ (ws : List ℕ) (h : Heap) (stay : List Entry) (d : Draft) (f : Halfway
           (header-no-link (x .place) k (d .lists i) b (y .chunks x m .eight) (λ z j. member-below ws h stay d f all y sub i z l j x m)) (own-off x m k b) in
           (off 0 (omega arith), off 1 (omega arith), λ _. off 2 (omega arith))
 
-      put-passes : (x : Entry) → Mem x stay → x .flags ≡ 0 → ordinary (now h d) x ≡ false → Passing stores (x .place)
+      put-passes : (x : Entry) → Mem x stay → x .flags ≡ 0 → ordinary (now h d) x ≡ false → PassBy stores (x .place)
       put-passes x m z o =
           let ne : x .place ≢ c .place =
           λ q. false≢true (sym o ∙ ap (ordinary (now h d)) (laid-once (h .bytes) all y x c (sub x m) there q) ∙ kind) in
