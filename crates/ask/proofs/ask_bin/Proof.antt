@@ -1,11 +1,12 @@
 -- `ask::ask_bin` goes through its questions in turn. Assumes nothing.
+use native.Mathlib.Omega.{arith}
 use borrow.Author.Needs.{needs}
 use Rattle.ask.proofs.AskLaws.{no-bin, count-told, first-told, last-told, no-question}
 use Rattle.ask.proofs.ask_bin.Statement.{statement}
 use Rattle.ask.proofs.ask_bin.Tie as tie
 
 returns : tie.Need-returns
-returns c = no-bin _ _ _ _ _ _ _ (c .if1 .taken)
+returns c = no-bin _ _ _ _ _ _ _ (omega arith)
 
 returns-2 : tie.Need-returns-2
 returns-2 c =

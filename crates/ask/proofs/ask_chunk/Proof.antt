@@ -1,4 +1,5 @@
 -- `ask::ask_chunk` asks a block or a chunk, by the question's number. Assumes nothing.
+use native.Mathlib.Omega.{arith}
 use borrow.Author.Needs.{needs}
 use Rattle.ask.proofs.AskLaws.{holder-asked, below-questions, above-questions, place-asked}
 use Rattle.ask.proofs.ask_chunk.Statement.{statement}
@@ -11,7 +12,7 @@ returns-2 : tie.Need-returns-2
 returns-2 c = below-questions _ _ _ _ _ _ _ (c .before .if1 .left) (c .if2 .taken)
 
 returns-3 : tie.Need-returns-3
-returns-3 c = above-questions _ _ _ _ _ _ _ (c .before .before .if1 .left) (c .before .if2 .left) (c .if3 .taken)
+returns-3 c = above-questions _ _ _ _ _ _ _ (c .before .before .if1 .left) (c .before .if2 .left) (omega arith)
 
 returns-4 : tie.Need-returns-4
 returns-4 c =

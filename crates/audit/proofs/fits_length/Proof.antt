@@ -9,7 +9,7 @@ returns : tie.Need-returns
 returns c = too-few _ _ (c .if1 .taken)
 
 returns-2 : tie.Need-returns-2
-returns-2 c = too-many _ _ (c .before .if1 .left) (c .if2 .taken)
+returns-2 c = too-many _ _ (c .before .if1 .left) (omega arith)
 
 returns-3 : tie.Need-returns-3
 returns-3 c = by-bytes _ _ (omega arith) (omega arith)

@@ -1,4 +1,5 @@
 -- `chain::end_of` tests that a link goes up and stays inside the heap. Assumes nothing.
+use native.Mathlib.Omega.{arith}
 use borrow.Author.Tests.{lt-ltb, le-ltb}
 use Rattle.chain.specs.Chain.{endOf}
 use Rattle.chain.proofs.end_of.Statement.{statement}
@@ -10,7 +11,9 @@ returns c = simp (le-ltb _ _ (c .if1 .taken))
 
 returns-2 : tie.Need-returns-2
 unfolding endOf
-returns-2 c = simp (lt-ltb _ _ (c .before .if1 .left), le-ltb _ _ (c .if2 .taken))
+returns-2 c =
+    let a = c .before .before .before .args in
+    simp (lt-ltb _ _ (c .before .if1 .left), le-ltb (a .next) (a .bytes) (omega arith))
 
 returns-3 : tie.Need-returns-3
 unfolding endOf

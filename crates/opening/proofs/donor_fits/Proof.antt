@@ -5,6 +5,15 @@ use borrow.Author.Tests.{eq-eqb, ne-eqb, le-leb, lt-leb}
 use Rattle.opening.proofs.donor_fits.Statement.{statement}
 use Rattle.opening.proofs.donor_fits.Tie as tie
 
+returns-5 : tie.Need-returns-5
+returns-5 c =
+    let a = c .before .before .before .before .args in
+    rw (
+      ne-eqb _ _ (c .before .before .before .if1 .left),
+      le-leb 24 (a .donor) (omega arith),
+      eq-eqb _ _ (c .before .if3 .left),
+    )
+
 returns : tie.Need-returns
 returns c = rw (eq-eqb _ _ (c .if1 .taken))
 
@@ -25,17 +34,9 @@ returns-4 c =
     let a = c .before .before .before .before .args in
     rw (
       ne-eqb _ _ (c .before .before .before .if1 .left),
-      le-leb _ _ (c .before .before .if2 .left),
+      le-leb 24 (a .donor) (omega arith),
       eq-eqb _ _ (c .before .if3 .left),
       lt-leb (a .donor) (a .bytes - 40) (omega arith),
-    )
-
-returns-5 : tie.Need-returns-5
-returns-5 c =
-    rw (
-      ne-eqb _ _ (c .before .before .before .if1 .left),
-      le-leb _ _ (c .before .before .if2 .left),
-      eq-eqb _ _ (c .before .if3 .left),
     )
 
 pub donor-fits-spec : {M : Type 1} → statement M

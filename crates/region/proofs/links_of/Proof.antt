@@ -1,5 +1,5 @@
 -- `region::links_of` reads the first two words, behind one test where both are there. Assumes nothing.
-use mathlib.Core.Path.{_≡_, refl, sym, ap}
+use mathlib.Core.Path.{refl, sym, ap}
 use Prim.Native.Nat.{ℕ, _/_}
 use native.Mathlib.Nat.{add-zero}
 use lib.ListN.{getD}

@@ -23,7 +23,7 @@ returns c =
     let l = c .before .before .before .loop in
     record {
       inside = omega arith;
-      notAbove = c .if1 .taken;
+      notAbove = omega arith;
       last = λ j lo hi. l .inv .1 j (omega arith) hi;
     }
 

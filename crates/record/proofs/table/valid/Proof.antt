@@ -21,7 +21,7 @@ returns : tie.Need-returns Inv-loop μ-loop
 returns c = sym (valid-none (c .before .args .table .now) (c .if1 .taken))
 
 returns-2 : tie.Need-returns-2 Inv-loop μ-loop
-returns-2 c = sym (valid-long (c .before .before .args .table .now) (omega arith) (c .if2 .taken))
+returns-2 c = sym (valid-long (c .before .before .args .table .now) (omega arith) (omega arith))
 
 returns-3 : tie.Need-returns-3 Inv-loop μ-loop
 returns-3 c =
@@ -43,7 +43,7 @@ returns-5 : tie.Need-returns-5 Inv-loop μ-loop
 returns-5 c =
     let turn = c .before .before .before in
     let l = turn .before in
-    sym (rest l ∙ up-falls (table l) (l .loop .i) (l .loop .before) (turn .loop-test .taken) (c .before .if4 .left) (c .if5 .taken))
+    sym (rest l ∙ up-falls (table l) (l .loop .i) (l .loop .before) (turn .loop-test .taken) (c .before .if4 .left) (omega arith))
 
 loop-again : tie.Need-loop-again Inv-loop μ-loop
 loop-again c =
