@@ -8,16 +8,16 @@ returns : tie.Need-returns
 returns c =
     of-place-told _ _ _ _ _ _ _ (c .before .before .asks-of-bin .ensures) (c .before .if1 .taken) (c .of-place .ensures)
 
-returns-2 : tie.Need-returns-2
-returns-2 c =
-    no-member _ _ _ _ _ _ _ (c .before .before .before .before .asks-of-bin .ensures) (c .before .before .before .if1 .left)
-    _ (c .before .before .kind-of .ensures) (c .before .is-ordinary .ensures) (c .if2 .taken)
-
 returns-3 : tie.Need-returns-3
 returns-3 c =
     let other = c .before .before .before .before in
     member-told _ _ _ _ _ _ _ (other .before .asks-of-bin .ensures) (other .if1 .left) _ (c .before .before .before .kind-of .ensures)
     (c .before .before .is-ordinary .ensures) (c .before .if2 .left) (c .of-member .ensures)
+
+returns-2 : tie.Need-returns-2
+returns-2 c =
+    no-member _ _ _ _ _ _ _ (c .before .before .before .before .asks-of-bin .ensures) (c .before .before .before .if1 .left)
+    _ (c .before .before .kind-of .ensures) (c .before .is-ordinary .ensures) (c .if2 .taken)
 
 pub of-chunk-spec : {M : Type 1} → statement M
 of-chunk-spec =

@@ -4,13 +4,13 @@ use Rattle.ask.proofs.AskLaws.{no-block, block-told, no-next, next-told
 use Rattle.ask.proofs.of_place.Statement.{statement}
 use Rattle.ask.proofs.of_place.Tie as tie
 
-returns : tie.Need-returns
-returns c = no-block _ _ _ (c .before .before .if1 .taken) (c .before .is-live .ensures) (c .if2 .taken)
-
 returns-2 : tie.Need-returns-2
 returns-2 c =
     block-told _ _ _ (c .before .before .before .if1 .taken) (c .before .before .is-live .ensures) (c .before .if2 .left)
     (c .block-of .ensures)
+
+returns : tie.Need-returns
+returns c = no-block _ _ _ (c .before .before .if1 .taken) (c .before .is-live .ensures) (c .if2 .taken)
 
 returns-3 : tie.Need-returns-3
 returns-3 c = no-next _ _ _ (c .before .before .before .if1 .left) (c .before .before .if3 .taken) (c .if4 .taken)

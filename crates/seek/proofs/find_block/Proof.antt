@@ -17,19 +17,19 @@ module _ (asked : tie.After-is-live) where
   abbrev sought : tie.After-find-chunk
   sought = found .before .before
 
-returns-2 : tie.Need-returns-2
-returns-2 c =
-    let asked = c .before in
-    let sought = sought asked in
-    block-dead _ _ _ (sought .before .chunk-of .ensures) (sought .find-chunk .ensures) (found asked .sought .given .1)
-    (asked .is-live .ensures) (c .if1 .taken)
-
 returns-3 : tie.Need-returns-3
 returns-3 c =
     let asked = c .before in
     let sought = sought asked in
     block-found _ _ _ (sought .before .chunk-of .ensures) (sought .find-chunk .ensures) (found asked .sought .given .1)
     (asked .is-live .ensures) (c .if1 .left)
+
+returns-2 : tie.Need-returns-2
+returns-2 c =
+    let asked = c .before in
+    let sought = sought asked in
+    block-dead _ _ _ (sought .before .chunk-of .ensures) (sought .find-chunk .ensures) (found asked .sought .given .1)
+    (asked .is-live .ensures) (c .if1 .taken)
 
 pub find-block-spec : {M : Type 1} → statement M
 find-block-spec =
