@@ -100,26 +100,18 @@ pub fn walk(region: &[u32], bytes: u32, donor: Chunk, top: Chunk, marks: &mut [u
     let mut before = 0;
     let mut at = 0;
     loop {
-        let links = links_of(region, Chunk(at));
+        let chunk = Chunk(at);
+        let links = links_of(region, chunk);
         let next = links.forward;
         let link = links.backward;
-        let end = end_of(bytes, Chunk(at), next);
+        let end = end_of(bytes, chunk, next);
         let size = end - at;
-        let seen = examine(
-            region,
-            bytes,
-            donor,
-            top,
-            Chunk(before),
-            Chunk(at),
-            size,
-            link,
-        );
+        let seen = examine(region, bytes, donor, top, Chunk(before), chunk, size, link);
         let Seen::Sound(kind) = seen else {
             return Survey::Broken;
         };
-        mark(marks, kind, Chunk(at));
-        tally = tallied(tally, kind, size, Chunk(at));
+        mark(marks, kind, chunk);
+        tally = tallied(tally, kind, size, chunk);
         if end == bytes {
             return Survey::Surveyed(tally);
         }

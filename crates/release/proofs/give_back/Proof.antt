@@ -32,7 +32,8 @@ module _ (c : tie.After-slice-known14) where
 
 returns : tie.Need-returns
 returns c =
-    gave-back _ _ _ _ _ (lower-out c .leave-bin .ensures) (upper-out c .leave-bin2 .ensures) (freed c .write-free .ensures)
+    let a = lower-out c .before .before .before .before .before .before .before .before .args in
+    gave-back _ _ (a .joined) (a .lower .0) (a .upper .0) (lower-out c .leave-bin .ensures) (upper-out c .leave-bin2 .ensures) (freed c .write-free .ensures)
     (linked c .write-above .ensures) (measured c .distance .ensures) (settled c .settle .ensures)
 
 pub give-back-spec : {M : Type 1} → statement M
