@@ -8,7 +8,7 @@ use lib.Dec.{eqb}
 use lib.ListN.{length, getD, take, drop, length-drop, take-append-drop}
 use lib.Seq.{take-all, take-at, drop-at, drop-cons, drop-drop}
 use Rattle.record.specs.declared.heap.Heap.{Heap}
-use Rattle.abi.specs.Flat.{mergePlace, recordIn, recordOut}
+use Rattle.abi.specs.Flat.{mergePlace, sizesFrom, headsFrom, tailsFrom, recordWords, recordIn, recordOut}
 
 -- the merge word, there and back
 merge-back : (on : Bool) → eqb (cond on 1 0) 1 ≡ on
@@ -38,14 +38,14 @@ flat-and-back h s e t =
     rw (merge-back (h .merge), take-at (h .sizes) (h .heads ++ h .tails) 32 s, heads-back (h .sizes) (h .heads) (h .tails) s e t, tails-back (h .sizes) (h .heads) (h .tails) s e t) refl
 
 -- the bins' 96 words are their three parts
-bins-there : (rs : List ℕ) → length rs ≡ 102
-    → take 32 (drop 6 rs) ++ (take 32 (drop 38 rs) ++ take 32 (drop 70 rs)) ≡ drop 6 rs
+bins-there : (rs : List ℕ) → length rs ≡ recordWords
+    → take 32 (drop sizesFrom rs) ++ (take 32 (drop headsFrom rs) ++ take 32 (drop tailsFrom rs)) ≡ drop sizesFrom rs
 bins-there rs whole =
-    rw (take-all 32 (drop 70 rs) (omega (arith, length-drop 70 rs)), sym (drop-drop 32 38 rs), take-append-drop 32 (drop 38 rs), sym (drop-drop 32 6 rs))
-    (take-append-drop 32 (drop 6 rs))
+    rw (take-all 32 (drop tailsFrom rs) (omega (arith, length-drop tailsFrom rs)), sym (drop-drop 32 headsFrom rs), take-append-drop 32 (drop headsFrom rs), sym (drop-drop 32 sizesFrom rs))
+    (take-append-drop 32 (drop sizesFrom rs))
 
--- 102 words whose merge word is 0 or 1 are the words of the record that they say
-pub back-and-flat : (rs : List ℕ) → length rs ≡ 102 → getD rs mergePlace 0 ≤ 1 → recordOut (recordIn rs) ≡ rs
+-- words whose merge word is 0 or 1 are the words of the record that they say
+pub back-and-flat : (rs : List ℕ) → length rs ≡ recordWords → getD rs mergePlace 0 ≤ 1 → recordOut (recordIn rs) ≡ rs
 unfolding recordIn recordOut
 back-and-flat rs whole merge =
     rw (merge-there (getD rs 4 0) merge, bins-there rs whole, sym (drop-cons rs 5 0 (omega arith)), sym (drop-cons rs 4 0 (omega arith)), sym (drop-cons rs 3 0 (omega arith)), sym (drop-cons rs 2 0 (omega arith)), sym (drop-cons rs 1 0 (omega arith)))

@@ -8,38 +8,39 @@ use native.Mathlib.Omega.{arith}
 use lib.ListN.{length, getD, set, take, drop, length-drop, drop-of-length-le}
 use lib.Seq.{paste, paste-suc, length-paste, take-paste, take-all, take-length, length-take-le}
 use mir.Val.{boolByte}
+use Rattle.abi.specs.Flat.{recordWords}
 
 -- one more word
 pub copies-one : (to from now : List ℕ) (at i : ℕ) → at + length from ≤ length to → now ≡ paste to at from i → i < length from
     → set now (at + i) (getD from i 0) ≡ paste to at from (i + 1)
 copies-one to from now at i fits e l = rw (e, add-one i) (paste-suc to at from i 0 (omega arith) (omega arith))
 
--- a part of 102 words
-pub part-length : (rs : List ℕ) (n : ℕ) → length rs ≡ 102 → n + 32 ≤ 102 → length (take 32 (drop n rs)) ≡ 32
+-- a part of the flat record
+pub part-length : (rs : List ℕ) (n : ℕ) → length rs ≡ recordWords → n + 32 ≤ recordWords → length (take 32 (drop n rs)) ≡ 32
 part-length rs n whole inside = length-take-le 32 (drop n rs) (omega (arith, length-drop n rs))
 
--- a copy that fills all
-pub fills : (to from : List ℕ) → length to ≡ 32 → length from ≡ 32 → paste to 0 from (length from) ≡ from
-fills to from t f =
+-- a copy that fills-whole all
+pub fills-whole : (to from : List ℕ) → length to ≡ 32 → length from ≡ 32 → paste to 0 from (length from) ≡ from
+fills-whole to from t f =
     rw (take-all (length from) from (omega arith), drop-of-length-le to {i = 0 + length from} (omega arith))
     (append-nil from)
 
--- so far the 102 words begin with what was put there
+-- so far the flat record begins with what was put there
 abbrev pub BeginsWith : ℕ → List ℕ → List ℕ → Type 0
-BeginsWith n there words = (length words ≡ 102) × (take n words ≡ there)
+BeginsWith n there words = (length words ≡ recordWords) × (take n words ≡ there)
 
 -- one part more
-pub goes-on : (n m : ℕ) (to from there now : List ℕ) → length from ≡ m → n + m ≤ 102 → BeginsWith n there to
+pub part-goes-on : (n m : ℕ) (to from there now : List ℕ) → length from ≡ m → n + m ≤ recordWords → BeginsWith n there to
     → now ≡ paste to n from (length from) → BeginsWith (n + m) (there ++ from) now
-goes-on n m to from there now size inside (whole, begins) e =
+part-goes-on n m to from there now size inside (whole, begins) e =
     let fits : n + length from ≤ length to = omega arith in
     (ap length e ∙ length-paste to n from (length from) fits (omega arith) ∙ whole, rw (e, sym size) (take-paste to n from (length from) (omega arith) (omega arith) ∙ rw (begins, take-length from) refl))
 
 -- the four parts of the record, one after the other
-pub four-parts : (now first sizes heads tails : List ℕ) → BeginsWith 102 (((first ++ sizes) ++ heads) ++ tails) now
+pub four-parts : (now first sizes heads tails : List ℕ) → BeginsWith recordWords (((first ++ sizes) ++ heads) ++ tails) now
     → now ≡ first ++ (sizes ++ (heads ++ tails))
 four-parts now first sizes heads tails (whole, begins) =
-    sym (take-all 102 now (omega arith)) ∙ begins ∙ append-assoc (first ++ sizes) heads tails ∙ append-assoc first sizes (heads ++ tails)
+    sym (take-all recordWords now (omega arith)) ∙ begins ∙ append-assoc (first ++ sizes) heads tails ∙ append-assoc first sizes (heads ++ tails)
 
 -- a Boolean as the machine's byte, and as the word of the record
 pub merge-word : (on : Bool) → boolByte on ≡ cond on 1 0

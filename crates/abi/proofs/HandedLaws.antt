@@ -17,7 +17,7 @@ use Rattle.rules.specs.Merge.{check}
 use Rattle.rules.specs.Outcome.{Outcome, Refusals, judged, heapFails}
 use Rattle.rules.specs.Statements.{Left, Meets}
 use Rattle.rules.proofs.OutcomeLaws.{judged-so}
-use Rattle.abi.specs.Flat.{mergePlace, recordIn, recordOut, answerOut, refusalOut}
+use Rattle.abi.specs.Flat.{mergePlace, recordWords, recordIn, recordOut, answerOut, refusalOut}
 use Rattle.abi.specs.Handed.{handed, handedBy, openedBy, flatAfter}
 use Rattle.abi.proofs.BackLaws.{back-and-flat}
 
@@ -65,7 +65,7 @@ module _ (ws rs : List ℕ) where
       rw (le-leb _ _ l, sym q, sym (ap (λ (x : Left). x .answer) m), sym (ap (λ (x : Left). x .heap) m), sym (ap (λ (x : Left). x .words) m), n, e, p) refl
 
   -- a call that leaves the record as it is: the words that say it stay
-  module _ (whole : length rs ≡ 102) (l : getD rs mergePlace 0 ≤ 1) where
+  module _ (whole : length rs ≡ recordWords) (l : getD rs mergePlace 0 ≤ 1) where
     flat-stays : (a : Answer) → flatAfter rs a (recordIn rs) ≡ rs
     unfolding flatAfter
     flat-stays a = by (eqb (refusalOut a) 0)

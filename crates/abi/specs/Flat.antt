@@ -1,5 +1,5 @@
--- The record and the answer as C has them: 102 words and 5 words. A place of the record is a number of a word.
-use Prim.Native.Nat.{ℕ, suc, _-_, _%_, _^_}
+-- The record and the answer as C has them, as flat words. A place of the record is the number of a word.
+use Prim.Native.Nat.{ℕ, suc, _+_, _-_, _%_, _^_}
 use mathlib.Core.Bool.{cond}
 use mathlib.Core.List.{List, [], _∷_, _++_}
 use lib.Dec.{eqb}
@@ -11,19 +11,32 @@ use Rattle.record.specs.declared.answers.Answer.{Answer}
 use Rattle.record.specs.declared.answers.Answer.the-variants.{Done, Granted, Returned, Told, Counted, Refused}
 use Rattle.record.specs.declared.heap.Heap.{Heap}
 
--- where the merge word stands
+-- where the merge word stands, and where the bins' sizes, heads and tails begin
 abbrev pub mergePlace : ℕ
 mergePlace = 4
 
--- the record that 102 words say; a merge word of 1 is on
+abbrev pub sizesFrom : ℕ
+sizesFrom = 6
+
+abbrev pub headsFrom : ℕ
+headsFrom = sizesFrom + places
+
+abbrev pub tailsFrom : ℕ
+tailsFrom = headsFrom + places
+
+-- the words of a record
+abbrev pub recordWords : ℕ
+recordWords = tailsFrom + places
+
+-- the record that so many words say; a merge word of 1 is on
 unfoldable pub recordIn : List ℕ → Heap
 recordIn rs =
     record {
       bytes = getD rs 0 0;
       bins = getD rs 1 0;
-      sizes = take places (drop 6 rs);
-      heads = take places (drop 38 rs);
-      tails = take places (drop 70 rs);
+      sizes = take places (drop sizesFrom rs);
+      heads = take places (drop headsFrom rs);
+      tails = take places (drop tailsFrom rs);
       donor = at (getD rs 2 0);
       top = at (getD rs 3 0);
       merge = eqb (getD rs mergePlace 0) 1;

@@ -4,16 +4,41 @@ ghost use mathlib.Core.Path.{_≡_};
 ghost use Prim.Native.Nat.{_+_, _≤_};
 ghost use lib.ListN.{length};
 ghost use lib.Seq.{paste};
-ghost use Rattle.abi.specs.Flat.{recordIn, recordOut, complement, answerOut, refusalOut};
+ghost use Rattle.abi.specs.Flat.{recordIn, recordOut, recordWords, complement, answerOut, refusalOut};
 ghost use Rattle.abi.specs.Handed.{flatAfter};
 ghost use Rattle.record.specs.declared.answers.Answer.the-variants.{Refused};
 ghost use Rattle.record.specs.declared.answers.Refusal.the-variants.{HeapFails};
+use crate::ANSWER_WORDS;
+use crate::RECORD_WORDS;
 use record::answers::Answer;
 use record::answers::Refusal;
 use record::answers::Reply;
 use record::answers::number;
 use record::heap::Heap;
+use record::heap::PLACES;
 use region::Chunk;
+
+// Where the parts of the record stand: its scalars one after the other, then the sizes, heads and tails of the bins.
+const BYTES: usize = 0;
+
+const BINS: usize = 1;
+
+const DONOR: usize = 2;
+
+const TOP: usize = 3;
+
+pub const MERGE: usize = 4;
+
+const USED: usize = 5;
+
+const SIZES: usize = 6;
+
+const HEADS: usize = SIZES + PLACES;
+
+pub const TAILS: usize = HEADS + PLACES;
+
+// A word holds numbers below this.
+const WORD: i64 = 4294967296;
 
 // All words of `from`, to where `at` says; they fit there.
 fn copy(to: &mut [u32], at: usize, from: &[u32])
@@ -27,30 +52,30 @@ fn copy(to: &mut [u32], at: usize, from: &[u32])
     }
 }
 
-pub fn unpack(words: [u32; 102]) -> Heap
+pub fn unpack(words: [u32; RECORD_WORDS]) -> Heap
     ensures { λ r. ⌜ r ≡ recordIn words ⌝ }
-    ensures { λ _. ⌜ length words ≡ 102 ⌝ }
+    ensures { λ _. ⌜ length words ≡ recordWords ⌝ }
 {
-    let mut sizes = [0; 32];
-    let mut heads = [0; 32];
-    let mut tails = [0; 32];
-    copy(&mut sizes, 0, &words[6..38]);
-    copy(&mut heads, 0, &words[38..70]);
-    copy(&mut tails, 0, &words[70..102]);
+    let mut sizes = [0; PLACES];
+    let mut heads = [0; PLACES];
+    let mut tails = [0; PLACES];
+    copy(&mut sizes, 0, &words[SIZES..HEADS]);
+    copy(&mut heads, 0, &words[HEADS..TAILS]);
+    copy(&mut tails, 0, &words[TAILS..RECORD_WORDS]);
     Heap {
-        bytes: words[0],
-        bins: words[1],
+        bytes: words[BYTES],
+        bins: words[BINS],
         sizes: sizes,
         heads: heads,
         tails: tails,
-        donor: Chunk(words[2]),
-        top: Chunk(words[3]),
-        merge: words[4] == 1,
-        used: words[5],
+        donor: Chunk(words[DONOR]),
+        top: Chunk(words[TOP]),
+        merge: words[MERGE] == 1,
+        used: words[USED],
     }
 }
 
-pub fn pack(heap: Heap) -> [u32; 102]
+pub fn pack(heap: Heap) -> [u32; RECORD_WORDS]
     ensures { λ r. ⌜ r ≡ recordOut heap ⌝ }
 {
     let first = [
@@ -64,24 +89,25 @@ pub fn pack(heap: Heap) -> [u32; 102]
     let sizes = heap.sizes;
     let heads = heap.heads;
     let tails = heap.tails;
-    let mut words = [0; 102];
+    let mut words = [0; RECORD_WORDS];
     copy(&mut words, 0, &first);
-    copy(&mut words, 6, &sizes);
-    copy(&mut words, 38, &heads);
-    copy(&mut words, 70, &tails);
+    copy(&mut words, SIZES, &sizes);
+    copy(&mut words, HEADS, &heads);
+    copy(&mut words, TAILS, &tails);
     words
 }
 
+// In 64 bits a negative number is raised by 2^32.
 fn twos_complement(change: i32) -> u32
     ensures { λ r. ⌜ r ≡ complement change ⌝ }
 {
     if change >= 0 {
         return change as u32;
     }
-    (change as i64 + 4294967296) as u32
+    (change as i64 + WORD) as u32
 }
 
-pub fn answer_words(answer: Answer) -> [u32; 5]
+pub fn answer_words(answer: Answer) -> [u32; ANSWER_WORDS]
     ensures { λ r. ⌜ r ≡ answerOut answer ⌝ }
 {
     match answer {
@@ -94,17 +120,8 @@ pub fn answer_words(answer: Answer) -> [u32; 5]
     }
 }
 
-// A record that no setup and no call left: nothing but the answer is written.
-pub fn refuse_record(answer: &mut [u32; 5]) -> u32
-    ensures { λ r. ⌜ (r ≡ 4) × (now (answer .exit) ≡ answerOut (Refused HeapFails)) ⌝ }
-{
-    let words = answer_words(Answer::Refused(Refusal::HeapFails));
-    *answer = words;
-    4
-}
-
 // The answer alone, of a call that leaves the record as it was.
-pub fn tell(said: Answer, answer: &mut [u32; 5]) -> u32
+pub fn tell(said: Answer, answer: &mut [u32; ANSWER_WORDS]) -> u32
     ensures { λ r. ⌜ (r ≡ refusalOut said) × (now (answer .exit) ≡ answerOut said) ⌝ }
 {
     let words = answer_words(said);
@@ -113,8 +130,19 @@ pub fn tell(said: Answer, answer: &mut [u32; 5]) -> u32
     refusal
 }
 
+// A record that no setup and no call left, refused as a heap that fails: nothing but the answer is written.
+pub fn refuse_record(answer: &mut [u32; ANSWER_WORDS]) -> u32
+    ensures { λ r. ⌜ (r ≡ 4) × (now (answer .exit) ≡ answerOut (Refused HeapFails)) ⌝ }
+{
+    tell(Answer::Refused(Refusal::HeapFails), answer)
+}
+
 // A refusal leaves the record's words as they are.
-pub fn hand_back(reply: Reply, state: &mut [u32; 102], answer: &mut [u32; 5]) -> u32
+pub fn hand_back(
+    reply: Reply,
+    state: &mut [u32; RECORD_WORDS],
+    answer: &mut [u32; ANSWER_WORDS],
+) -> u32
     ensures { λ r. ⌜ r ≡ refusalOut (reply .answer) ⌝ }
     ensures { λ _. ⌜ now (answer .exit) ≡ answerOut (reply .answer) ⌝ }
     ensures { λ _. ⌜ now (state .exit) ≡ flatAfter (now (state .entry)) (reply .answer) (reply .heap) ⌝ }

@@ -10,15 +10,24 @@ ghost use Rattle.rules.specs.Free.{free};
 ghost use Rattle.rules.specs.Merge.{check, setMerge};
 ghost use Rattle.rules.specs.Reallocate.{reallocate};
 ghost use Rattle.rules.specs.Setup.{setup};
+use crate::flat::MERGE;
+use crate::flat::TAILS;
 use crate::flat::answer_words;
 use crate::flat::hand_back;
 use crate::flat::pack;
 use crate::flat::refuse_record;
 use crate::flat::tell;
 use crate::flat::unpack;
+use record::heap::PLACES;
 use region::Block;
 
 mod flat;
+
+// The number of words of a flat record and of a flat answer. The header for C and the wrapper for Rust have constants of their own,
+// since a constant of Rattle is not part of the archive.
+pub const RECORD_WORDS: usize = TAILS + PLACES;
+
+pub const ANSWER_WORDS: usize = 5;
 
 // What the record was before is not read.
 #[no_mangle]
@@ -27,8 +36,8 @@ pub extern "C" fn kz_setup(
     table: &[u32],
     donor: u32,
     merge: bool,
-    state: &mut [u32; 102],
-    answer: &mut [u32; 5],
+    state: &mut [u32; RECORD_WORDS],
+    answer: &mut [u32; ANSWER_WORDS],
 ) -> u32
     ensures { λ r. ⌜ handed r (now (answer .exit)) (now (state .exit)) (now (region .exit)) ≡ openedBy (now (region .entry)) (setup (now (region .entry)) (now (table .entry)) donor merge) ⌝ }
 {
@@ -44,13 +53,13 @@ pub extern "C" fn kz_setup(
 #[no_mangle]
 pub extern "C" fn kz_allocate(
     region: &mut [u32],
-    state: &mut [u32; 102],
+    state: &mut [u32; RECORD_WORDS],
     z: u32,
-    answer: &mut [u32; 5],
+    answer: &mut [u32; ANSWER_WORDS],
 ) -> u32
     ensures { λ r. ⌜ handed r (now (answer .exit)) (now (state .exit)) (now (region .exit)) ≡ handedBy (now (region .entry)) (now (state .entry)) (allocate (now (region .entry)) (recordIn (now (state .entry))) z) ⌝ }
 {
-    if state[4] > 1 {
+    if state[MERGE] > 1 {
         return refuse_record(answer);
     }
     let heap = unpack(*state);
@@ -61,14 +70,14 @@ pub extern "C" fn kz_allocate(
 #[no_mangle]
 pub extern "C" fn kz_allocate_cleared(
     region: &mut [u32],
-    state: &mut [u32; 102],
+    state: &mut [u32; RECORD_WORDS],
     count: u32,
     size: u32,
-    answer: &mut [u32; 5],
+    answer: &mut [u32; ANSWER_WORDS],
 ) -> u32
     ensures { λ r. ⌜ handed r (now (answer .exit)) (now (state .exit)) (now (region .exit)) ≡ handedBy (now (region .entry)) (now (state .entry)) (allocateCleared (now (region .entry)) (recordIn (now (state .entry))) count size) ⌝ }
 {
-    if state[4] > 1 {
+    if state[MERGE] > 1 {
         return refuse_record(answer);
     }
     let heap = unpack(*state);
@@ -79,13 +88,13 @@ pub extern "C" fn kz_allocate_cleared(
 #[no_mangle]
 pub extern "C" fn kz_free(
     region: &mut [u32],
-    state: &mut [u32; 102],
+    state: &mut [u32; RECORD_WORDS],
     block: u32,
-    answer: &mut [u32; 5],
+    answer: &mut [u32; ANSWER_WORDS],
 ) -> u32
     ensures { λ r. ⌜ handed r (now (answer .exit)) (now (state .exit)) (now (region .exit)) ≡ handedBy (now (region .entry)) (now (state .entry)) (free (now (region .entry)) (recordIn (now (state .entry))) block) ⌝ }
 {
-    if state[4] > 1 {
+    if state[MERGE] > 1 {
         return refuse_record(answer);
     }
     let heap = unpack(*state);
@@ -96,14 +105,14 @@ pub extern "C" fn kz_free(
 #[no_mangle]
 pub extern "C" fn kz_reallocate(
     region: &mut [u32],
-    state: &mut [u32; 102],
+    state: &mut [u32; RECORD_WORDS],
     block: u32,
     z: u32,
-    answer: &mut [u32; 5],
+    answer: &mut [u32; ANSWER_WORDS],
 ) -> u32
     ensures { λ r. ⌜ handed r (now (answer .exit)) (now (state .exit)) (now (region .exit)) ≡ handedBy (now (region .entry)) (now (state .entry)) (reallocate (now (region .entry)) (recordIn (now (state .entry))) block z) ⌝ }
 {
-    if state[4] > 1 {
+    if state[MERGE] > 1 {
         return refuse_record(answer);
     }
     let heap = unpack(*state);
@@ -114,13 +123,13 @@ pub extern "C" fn kz_reallocate(
 #[no_mangle]
 pub extern "C" fn kz_set_merge(
     region: &mut [u32],
-    state: &mut [u32; 102],
+    state: &mut [u32; RECORD_WORDS],
     on: bool,
-    answer: &mut [u32; 5],
+    answer: &mut [u32; ANSWER_WORDS],
 ) -> u32
     ensures { λ r. ⌜ handed r (now (answer .exit)) (now (state .exit)) (now (region .exit)) ≡ handedBy (now (region .entry)) (now (state .entry)) (setMerge (now (region .entry)) (recordIn (now (state .entry))) on) ⌝ }
 {
-    if state[4] > 1 {
+    if state[MERGE] > 1 {
         return refuse_record(answer);
     }
     let heap = unpack(*state);
@@ -129,10 +138,14 @@ pub extern "C" fn kz_set_merge(
 }
 
 #[no_mangle]
-pub extern "C" fn kz_check(region: &mut [u32], state: &mut [u32; 102], answer: &mut [u32; 5]) -> u32
+pub extern "C" fn kz_check(
+    region: &mut [u32],
+    state: &mut [u32; RECORD_WORDS],
+    answer: &mut [u32; ANSWER_WORDS],
+) -> u32
     ensures { λ r. ⌜ handed r (now (answer .exit)) (now (state .exit)) (now (region .exit)) ≡ handedBy (now (region .entry)) (now (state .entry)) (check (now (region .entry)) (recordIn (now (state .entry)))) ⌝ }
 {
-    if state[4] > 1 {
+    if state[MERGE] > 1 {
         return refuse_record(answer);
     }
     let heap = unpack(*state);
@@ -144,14 +157,14 @@ pub extern "C" fn kz_check(region: &mut [u32], state: &mut [u32; 102], answer: &
 #[no_mangle]
 pub extern "C" fn kz_ask_chunk(
     region: &mut [u32],
-    state: &mut [u32; 102],
+    state: &mut [u32; RECORD_WORDS],
     question: u32,
     place: u32,
-    answer: &mut [u32; 5],
+    answer: &mut [u32; ANSWER_WORDS],
 ) -> u32
     ensures { λ r. ⌜ handed r (now (answer .exit)) (now (state .exit)) (now (region .exit)) ≡ handedBy (now (region .entry)) (now (state .entry)) (askChunk (now (region .entry)) (recordIn (now (state .entry))) question place) ⌝ }
 {
-    if state[4] > 1 {
+    if state[MERGE] > 1 {
         return refuse_record(answer);
     }
     let heap = unpack(*state);
@@ -163,14 +176,14 @@ pub extern "C" fn kz_ask_chunk(
 #[no_mangle]
 pub extern "C" fn kz_ask_bin(
     region: &mut [u32],
-    state: &mut [u32; 102],
+    state: &mut [u32; RECORD_WORDS],
     question: u32,
     bin: u32,
-    answer: &mut [u32; 5],
+    answer: &mut [u32; ANSWER_WORDS],
 ) -> u32
     ensures { λ r. ⌜ handed r (now (answer .exit)) (now (state .exit)) (now (region .exit)) ≡ handedBy (now (region .entry)) (now (state .entry)) (askBin (now (region .entry)) (recordIn (now (state .entry))) question bin) ⌝ }
 {
-    if state[4] > 1 {
+    if state[MERGE] > 1 {
         return refuse_record(answer);
     }
     let heap = unpack(*state);

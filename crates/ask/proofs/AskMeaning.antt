@@ -15,11 +15,11 @@ use Rattle.record.specs.declared.answers.Answer.the-variants.{Told, Refused}
 use Rattle.record.specs.declared.answers.Refusal.the-variants.{NotThere, HeapFails}
 use Rattle.record.specs.declared.heap.Heap.{Heap}
 use Rattle.record.specs.declared.table.Binned.the-variants.{NoBin}
-use Rattle.record.specs.Heap.{tableOf}
+use Rattle.record.specs.Heap.{tableOf, summaryOf}
 use Rattle.record.specs.Table.{binOf}
 use Rattle.region.specs.Places.{blockAt}
 use Rattle.region.specs.Words.{word, nextInBin, previousInBin}
-use Rattle.rules.specs.Ask.{shown, onlyIf, firstOf, lastOf, numberOf, listOf, placesOf, chunkAnswers, binAnswers, askedSpot, isThere, isAsked, answerTo, askChunk, askBin}
+use Rattle.rules.specs.Ask.{shown, onlyIf, firstIn, lastIn, numberOfBin, listOf, placesOf, chunkAnswers, binAnswers, askedSpot, isThere, isAsked, answerTo, askChunk, askBin}
 use Rattle.rules.specs.Check.{Linked, Passes, passes}
 use Rattle.rules.specs.Draft.{asRead, Spot, spot}
 use Rattle.rules.specs.Kinds.{ordinary, live, blockOf, blockEnd, isAt, holdsBlock}
@@ -31,9 +31,10 @@ use Rattle.rules.proofs.ShapeLaws.{read-head}
 use Rattle.rules.proofs.TiledLaws.{Tiled, tiled-cut, tiled-up}
 use Rattle.rules.proofs.AskLaws.{shown-first, shown-last}
 use Rattle.rules.proofs.SpotLaws.{spot-member, spot-splits, tiled}
-use Rattle.seek.specs.Seek.{placed, soughtIn, liveAt, hasBlock}
+use Rattle.seek.specs.Seek.{placed, soughtM, liveM, hasBlockM}
 use Rattle.seek.proofs.SeekLaws.{live-is, sought-none, sought-spot, sought-block}
-use Rattle.ask.specs.Questions.{sizeOf, numberIn, binNumber, chainFigure, asksOfBin, memberFigure, figureOf, toldOf, holderOf, askChunkM, askBinM}
+use Rattle.details.specs.Details.{sizeM, numberIn, binNumberM, ofPlaceM, asksOfBinM, ofMemberM, ofChunkM}
+use Rattle.ask.specs.Questions.{toldOf, holderOf, askChunkM, askBinM}
 
 -- the place of the last chunk is the last of the places
 last-place : (d : Entry) (es : List Entry) → lastOr d es .place ≡ lastOr (d .place) (placesOf es)
@@ -84,7 +85,7 @@ module _ (ws : List ℕ) (h : Heap) (k : Passes ws h) where
   -- the figures of a chunk of the chain, by question: bin number, next and previous in its bin if it is ordinary, block if it is live
   module _ (e : Entry) (m : Mem e (shape ws (h .bytes))) where
     number-is : (t : Bool) → ordinary h e ≡ t
-        → cond t (numberIn (binOf (tableOf h) (e .size))) 0 ≡ shown (numberOf (cond t (binOf (tableOf h) (e .size)) NoBin))
+        → cond t (numberIn (binOf (tableOf h) (e .size))) 0 ≡ shown (numberOfBin (cond t (binOf (tableOf h) (e .size)) NoBin))
     number-is false o = refl
     number-is true o =
         let r = k .binned e m o in
@@ -101,7 +102,7 @@ module _ (ws : List ℕ) (h : Heap) (k : Passes ws h) where
         let r = k .binned e m o in
         rw (r .1) (linked (binList ws h (r .0)) (k .bins (r .0) (r .2 .0) .links) (r .2 .1))
 
-    block-is : cond (liveAt (h .bytes) (e .place) (e .flags)) (blockAt (e .place)) 0 ≡ shown (onlyIf (live h e) (blockOf e))
+    block-is : cond (liveM (h .bytes) (e .place) (e .flags)) (blockAt (e .place)) 0 ≡ shown (onlyIf (live h e) (blockOf e))
     block-is =
         let l = shape-chain ws (h .bytes) .inside (some-bytes .0) e m in
         let a : blockAt (e .place) ≡ e .place + 8 = omega (arith, some-bytes .1) in
@@ -122,7 +123,7 @@ module _ (ws : List ℕ) (h : Heap) (k : Passes ws h) where
     size-is : here .here .place + here .here .size - here .here .place ≡ here .here .size
     size-is = omega arith
 
-    next-place : nextBy (h .bytes) (here .here) ≡ shown (firstOf (placesOf (here .high)))
+    next-place : nextBy (h .bytes) (here .here) ≡ shown (firstIn (placesOf (here .high)))
     next-place =
         let t = tiled-cut 0 (h .bytes) (here .low) (here .here ∷ here .high) (rw (spot-splits p (shape ws (h .bytes)) found .0) at (tiled ws h k)) in
         next-behind (h .bytes) (here .here) (here .high) (t .2 .2) ∙ shown-first (placesOf (here .high))
@@ -130,11 +131,11 @@ module _ (ws : List ℕ) (h : Heap) (k : Passes ws h) where
     -- what the code tells of it
     abbrev figure : ℕ → ℕ
     figure q =
-        figureOf ws (tableOf h) (h .bytes) (h .donor .0) (h .top .0) q
+        ofChunkM ws (tableOf h) (summaryOf h) q
         (placed (lastOr (entry 0 0 0) (here .low) .place) (here .here))
 
     figure-is : (q : ℕ) → 1 ≤ q → q ≤ 9 → (q ≡ 3 → ⊥) → figure q ≡ answerTo q (chunkAnswers (asRead ws h) here)
-    unfolding asRead figureOf asksOfBin chainFigure memberFigure binNumber sizeOf
+    unfolding asRead ofChunkM asksOfBinM ofPlaceM ofMemberM binNumberM sizeM
     figure-is zero lo hi n = absurd (omega arith)
     figure-is (suc zero) lo hi n = rw size-is (number-is (here .here) member (ordinary h (here .here)) refl)
     figure-is (suc (suc zero)) lo hi n = block-is (here .here) member
@@ -142,12 +143,12 @@ module _ (ws : List ℕ) (h : Heap) (k : Passes ws h) where
     figure-is (suc (suc (suc (suc zero)))) lo hi n = next-place
     figure-is (suc (suc (suc (suc (suc zero))))) lo hi n =
         rw size-is
-        (neighbour-is (here .here) member nextInBin (λ cs. shown (firstOf (past (eqb (here .here .place)) cs))) refl
+        (neighbour-is (here .here) member nextInBin (λ cs. shown (firstIn (past (eqb (here .here .place)) cs))) refl
         (λ cs l j. linked-next ws (here .here .place) 0 cs l j ∙ shown-first (past (eqb (here .here .place)) cs)) (ordinary h (here .here)) refl)
     figure-is (suc (suc (suc (suc (suc (suc zero)))))) lo hi n = last-place (entry 0 0 0) (here .low) ∙ shown-last (placesOf (here .low))
     figure-is (suc (suc (suc (suc (suc (suc (suc zero))))))) lo hi n =
         rw size-is
-        (neighbour-is (here .here) member previousInBin (λ cs. shown (lastOf (upTo (eqb (here .here .place)) cs))) refl
+        (neighbour-is (here .here) member previousInBin (λ cs. shown (lastIn (upTo (eqb (here .here .place)) cs))) refl
         (λ cs l j. linked-previous ws (here .here .place) 0 cs l j ∙ shown-last (upTo (eqb (here .here .place)) cs)) (ordinary h (here .here)) refl)
     figure-is (suc (suc (suc (suc (suc (suc (suc (suc zero)))))))) lo hi n = size-is
     figure-is (suc (suc (suc (suc (suc (suc (suc (suc (suc zero))))))))) lo hi n = refl
@@ -168,7 +169,7 @@ module _ (ws : List ℕ) (h : Heap) (k : Passes ws h) where
 
   -- question 3, of a block
   holder-is : (place : ℕ) (t : Bool) → any (holdsBlock h place) (shape ws (h .bytes)) ≡ t
-      → holderOf (soughtIn (hasBlock (h .bytes) place) 0 (shape ws (h .bytes)))
+      → holderOf (soughtM (hasBlockM (h .bytes) place) 0 (shape ws (h .bytes)))
       ≡ cond (not t) (Refused NotThere) (Told (spot (holdsBlock h place) (shape ws (h .bytes)) .here .place))
   unfolding holderOf
   holder-is place true e =
@@ -178,7 +179,7 @@ module _ (ws : List ℕ) (h : Heap) (k : Passes ws h) where
 
   -- every other, of a chunk
   told-is : (q place : ℕ) → (q ≡ 3 → ⊥) → (a t : Bool) → (leb 1 q && leb q 9) ≡ a → any (isAt place) (shape ws (h .bytes)) ≡ t
-      → cond a (toldOf ws (tableOf h) (h .bytes) (h .donor .0) (h .top .0) q (soughtIn (isAt place) 0 (shape ws (h .bytes)))) (Refused NotThere)
+      → cond a (toldOf ws (tableOf h) (summaryOf h) q (soughtM (isAt place) 0 (shape ws (h .bytes)))) (Refused NotThere)
       ≡ cond (not a || not t) (Refused NotThere) (Told (answerTo q (chunkAnswers (asRead ws h) (spot (isAt place) (shape ws (h .bytes))))))
   unfolding toldOf
   told-is q place n true true ea e =
@@ -189,19 +190,19 @@ module _ (ws : List ℕ) (h : Heap) (k : Passes ws h) where
   told-is q place n false t ea e = refl
 
   pub ask-chunk-is : (q place : ℕ)
-      → askChunkM ws (tableOf h) (h .bytes) (h .donor .0) (h .top .0) q place ≡ askChunk ws h q place .answer
+      → askChunkM ws (tableOf h) (summaryOf h) q place ≡ askChunk ws h q place .answer
   unfolding askChunkM asRead
   ask-chunk-is q place = go (ℕ-discrete q 3) ∙ sym (rule-chunk q place)
     where
       go : Dec (q ≡ 3)
-          → askChunkM ws (tableOf h) (h .bytes) (h .donor .0) (h .top .0) q place
+          → askChunkM ws (tableOf h) (summaryOf h) q place
           ≡ cond (not (isAsked q (answers q place)) || not (isThere (asRead ws h) q place)) (Refused NotThere) (Told (answerTo q (answers q place)))
       go (yes e) = rw e (holder-is place _ refl)
       go (no n) = rw (ne-eqb q 3 n) (told-is q place n _ _ refl refl)
 
   -- the answers about the list of a bin below the bin count
   list-is : (q i : ℕ) → i < h .bins
-      → askBinM ws (h .heads) (h .tails) (h .bins) (h .bytes) q i
+      → askBinM ws (h .heads) (h .tails) (summaryOf h) q i
       ≡ cond (not (isAsked q (binAnswers (binList ws h i))) || false) (Refused NotThere) (Told (answerTo q (binAnswers (binList ws h i))))
   unfolding askBinM members
   list-is zero i l = rw (lt-leb (h .bins) i l)
@@ -231,7 +232,7 @@ module _ (ws : List ℕ) (h : Heap) (k : Passes ws h) where
       judged-answer h (passes ws h) (not (isAsked q (binAnswers (binList ws h i))) || not (ltb i (h .bins))) (answerTo q (binAnswers (binList ws h i)))
       (passes-iff ws h .1 k)
 
-  pub ask-bin-is : (q i : ℕ) → askBinM ws (h .heads) (h .tails) (h .bins) (h .bytes) q i ≡ askBin ws h q i .answer
+  pub ask-bin-is : (q i : ℕ) → askBinM ws (h .heads) (h .tails) (summaryOf h) q i ≡ askBin ws h q i .answer
   unfolding askBinM
   ask-bin-is q i = go (decLt i (h .bins)) ∙ sym (rule-bin q i)
     where
@@ -240,7 +241,7 @@ module _ (ws : List ℕ) (h : Heap) (k : Passes ws h) where
       past-all false v = refl
 
       go : Dec (i < h .bins)
-          → askBinM ws (h .heads) (h .tails) (h .bins) (h .bytes) q i
+          → askBinM ws (h .heads) (h .tails) (summaryOf h) q i
           ≡ cond (not (isAsked q (binAnswers (binList ws h i))) || not (ltb i (h .bins))) (Refused NotThere) (Told (answerTo q (binAnswers (binList ws h i))))
       go (yes l) = rw (lt-ltb i (h .bins) l) (list-is q i l)
       go (no n) =

@@ -8,18 +8,20 @@ use lib.ListN.{length, getD, take, drop-of-length-le}
 use lib.Seq.{drop-cons}
 use borrow.Author.Tests.{eq-eqb, ne-eqb, le-leb, lt-leb, not-true, not-false}
 use Rattle.lists.specs.Lists.{numbersFrom}
+use Rattle.record.specs.declared.heap.Summary.{Summary}
 use Rattle.record.specs.Table.{validTable}
 use Rattle.rules.specs.Check.{unusedFrom}
 use Rattle.rules.specs.Shape.{shape}
+use Rattle.survey.specs.declared.Survey.{Survey}
+use Rattle.survey.specs.declared.Survey.the-variants.{Surveyed, Broken}
+use Rattle.survey.specs.declared.Tally.{Tally}
+use Rattle.survey.specs.Survey.{allSound, SurveyedIs, SurveyIs}
+use Rattle.sweep.specs.declared.Sweep.{Sweep}
+use Rattle.sweep.specs.declared.Sweep.the-variants.{Clean, Dirty}
+use Rattle.sweep.specs.Sweep.{allWhole, CleanIs, SweepIs}
+use Rattle.audit.specs.declared.Audit.{Audit}
 use Rattle.audit.specs.declared.Audit.the-variants.{Passes, Fails}
-use Rattle.audit.specs.declared.survey.Survey.{Survey}
-use Rattle.audit.specs.declared.survey.Survey.the-variants.{Surveyed, Broken}
-use Rattle.audit.specs.declared.survey.Tally.{Tally}
-use Rattle.audit.specs.declared.sweep.Sweep.{Sweep}
-use Rattle.audit.specs.declared.sweep.Sweep.the-variants.{Clean, Dirty}
-use Rattle.audit.specs.Survey.{allSound, SurveyIs}
-use Rattle.audit.specs.Sweep.{allWhole, SweepIs}
-use Rattle.audit.specs.Audit.{fitsLength, tabledAs, settled, noMarks, tally, marksOf, metAll, walksWell, WalkedIs}
+use Rattle.audit.specs.Audit.{fitsLengthM, isTabledM, isSettledM, noMarks, tally, marksOf, walksWell, WalkedIs}
 
 -- a conjunction of many parts: a part fails, and the rest does not matter; a part holds, and the next decides
 still : (b : Bool) {a : Bool} → false ≡ a → false ≡ (a && b)
@@ -29,25 +31,25 @@ hold : {a b t : Bool} → true ≡ a → t ≡ b → t ≡ (a && b)
 hold e k = rw (← e) k
 
 -- the same of a test t as the code makes it
-failed : {t a : Bool} → t ≡ a → not t ≡ true → false ≡ a
+pub failed : {t a : Bool} → t ≡ a → not t ≡ true → false ≡ a
 failed {t} e h = sym (not-true t h) ∙ e
 
-held : {t a : Bool} → t ≡ a → not t ≡ false → true ≡ a
+pub held : {t a : Bool} → t ≡ a → not t ≡ false → true ≡ a
 held {t} e h = sym (not-false t h) ∙ e
 
 -- the region's length
 module _ (words bytes : ℕ) where
-  pub too-few : words < 10 → false ≡ fitsLength words bytes
-  unfolding fitsLength
+  pub too-few : words < 10 → false ≡ fitsLengthM words bytes
+  unfolding fitsLengthM
   too-few h = rw (lt-leb 10 words h)
 
   module _ (enough : 10 ≤ words) where
-    pub too-many : 16384 < words → false ≡ fitsLength words bytes
-    unfolding fitsLength
+    pub too-many : 16384 < words → false ≡ fitsLengthM words bytes
+    unfolding fitsLengthM
     too-many h = rw (le-leb 10 words enough, lt-leb words 16384 h)
 
-    pub by-bytes : words ≤ 16384 → eqb (words / 2 * 8) bytes ≡ fitsLength words bytes
-    unfolding fitsLength
+    pub by-bytes : words ≤ 16384 → eqb (words / 2 * 8) bytes ≡ fitsLengthM words bytes
+    unfolding fitsLengthM
     by-bytes h = rw (le-leb 10 words enough, le-leb words 16384 h)
 
 -- the rest of an array is unused, one place after the other
@@ -61,129 +63,152 @@ module _ (l : List ℕ) (i : ℕ) where
 
 -- the table, and the unused places of the three arrays
 module _ (bins : ℕ) (sizes heads tails : List ℕ) where
-  pub too-long : length sizes < bins → false ≡ tabledAs bins sizes heads tails
-  unfolding tabledAs
+  pub too-long : length sizes < bins → false ≡ isTabledM bins sizes heads tails
+  unfolding isTabledM
   too-long h = rw (lt-leb bins (length sizes) h)
 
   module _ (fits : bins ≤ length sizes) {t : Bool} (et : t ≡ validTable (take bins sizes)) where
     long : true ≡ leb bins (length sizes)
     long = sym (le-leb bins (length sizes) fits)
 
-    pub not-valid : not t ≡ true → false ≡ tabledAs bins sizes heads tails
-    unfolding tabledAs
+    pub not-valid : not t ≡ true → false ≡ isTabledM bins sizes heads tails
+    unfolding isTabledM
     not-valid h = still _ (still _ (still _ (hold long (failed et h))))
 
     module _ (ht : not t ≡ false) {u : Bool} (eu : u ≡ unusedFrom bins sizes) where
-      pub sizes-used : not u ≡ true → false ≡ tabledAs bins sizes heads tails
-      unfolding tabledAs
+      pub sizes-used : not u ≡ true → false ≡ isTabledM bins sizes heads tails
+      unfolding isTabledM
       sizes-used h = still _ (still _ (hold (hold long (held et ht)) (failed eu h)))
 
       module _ (hu : not u ≡ false) {v : Bool} (ev : v ≡ unusedFrom bins heads) where
-        pub heads-used : not v ≡ true → false ≡ tabledAs bins sizes heads tails
-        unfolding tabledAs
+        pub heads-used : not v ≡ true → false ≡ isTabledM bins sizes heads tails
+        unfolding isTabledM
         heads-used h = still _ (hold (hold (hold long (held et ht)) (held eu hu)) (failed ev h))
 
-        pub by-tails : not v ≡ false → {w : Bool} → w ≡ unusedFrom bins tails → w ≡ tabledAs bins sizes heads tails
-        unfolding tabledAs
+        pub by-tails : not v ≡ false → {w : Bool} → w ≡ unusedFrom bins tails → w ≡ isTabledM bins sizes heads tails
+        unfolding isTabledM
         by-tails h ew = hold (hold (hold (hold long (held et ht)) (held eu hu)) (held ev h)) ew
 
 -- the tally: the chain reaches the end, and top and donor were met
-module _ (t : Tally) (bytes donor : ℕ) where
-  pub no-end : (t .end + 8 ≡ bytes → ⊥) → false ≡ settled t bytes donor
-  unfolding settled
-  no-end n = still _ (still _ (sym (ne-eqb (t .end + 8) bytes n)))
+module _ (t : Tally) (s : Summary) where
+  pub no-end : (t .end + 8 ≡ s .bytes → ⊥) → false ≡ isSettledM t s
+  unfolding isSettledM
+  no-end n = still _ (still _ (sym (ne-eqb (t .end + 8) (s .bytes) n)))
 
-  module _ (end : t .end + 8 ≡ bytes) where
-    pub no-top : t .tops ≡ 0 → false ≡ settled t bytes donor
-    unfolding settled
-    no-top e = still _ (hold (sym (eq-eqb (t .end + 8) bytes end)) (rw (eq-eqb (t .tops) 0 e)))
+  module _ (end : t .end + 8 ≡ s .bytes) where
+    pub no-top : t .tops ≡ 0 → false ≡ isSettledM t s
+    unfolding isSettledM
+    no-top e = still _ (hold (sym (eq-eqb (t .end + 8) (s .bytes) end)) (rw (eq-eqb (t .tops) 0 e)))
 
     module _ (top : t .tops ≡ 0 → ⊥) where
-      ended : true ≡ (eqb (t .end + 8) bytes && not (eqb (t .tops) 0))
-      ended = hold (sym (eq-eqb (t .end + 8) bytes end)) (rw (ne-eqb (t .tops) 0 top))
+      ended : true ≡ (eqb (t .end + 8) (s .bytes) && not (eqb (t .tops) 0))
+      ended = hold (sym (eq-eqb (t .end + 8) (s .bytes) end)) (rw (ne-eqb (t .tops) 0 top))
 
-      pub no-donor : donor ≡ 0 → true ≡ settled t bytes donor
-      unfolding settled
-      no-donor e = hold ended (rw (eq-eqb donor 0 e))
+      pub no-donor : s .donor .0 ≡ 0 → true ≡ isSettledM t s
+      unfolding isSettledM
+      no-donor e = hold ended (rw (eq-eqb (s .donor .0) 0 e))
 
-      pub by-donors : (donor ≡ 0 → ⊥) → not (eqb (t .donors) 0) ≡ settled t bytes donor
-      unfolding settled
-      by-donors n = hold ended (rw (ne-eqb donor 0 n))
+      pub by-donors : (s .donor .0 ≡ 0 → ⊥) → not (eqb (t .donors) 0) ≡ isSettledM t s
+      unfolding isSettledM
+      by-donors n = hold ended (rw (ne-eqb (s .donor .0) 0 n))
 
--- the two walks and the tests between them
-module _ (ws table heads tails : List ℕ) (bytes donor top used : ℕ) where
-  pub walk-broken : (ms : List ℕ) {r : Survey} → SurveyIs ws bytes donor top noMarks ms r → r ≡ Broken
-      → WalkedIs ws table heads tails bytes donor top used Fails
+-- what both walks come to, r. It is a record, so that the checker finds by itself what was lent to them
+pub record Walked (ws table heads tails : List ℕ) (s : Summary) (r : Audit) : Type 0 where
+  pub is : WalkedIs ws table heads tails s r
+
+pub walked : {ws table heads tails : List ℕ} {s : Summary} {r : Audit} → Walked ws table heads tails s r → WalkedIs ws table heads tails s r
+walked w = w .is
+
+-- the walk of the chain came through with the tally t and the marks ms
+pub surveyed : {ws : List ℕ} {s : Summary} {ms : List ℕ} {r : Survey} {t : Tally} → SurveyIs ws s noMarks ms r → r ≡ Surveyed t
+    → SurveyedIs ws s noMarks ms t
+surveyed {ws} {s} {ms} k e = subst (λ (q : Survey). SurveyIs ws s noMarks ms q) e k
+
+-- and passed the tests that follow it, of the tally and of the used bytes
+pub record WalkedChain (ws : List ℕ) (s : Summary) (t : Tally) (ms : List ℕ) : Type 0 where
+  pub survey : SurveyedIs ws s noMarks ms t
+  pub settled : true ≡ isSettledM t s
+  pub used : t .used ≡ s .used
+
+-- what the walk of the chain leaves of the tests that make the whole: their parts so far are true
+module _ (ws table heads tails : List ℕ) (s : Summary) where
+  abbrev whole : Tally
+  whole = tally ws table heads tails s
+
+  abbrev made : List ℕ
+  made = marksOf ws table heads tails s
+
+  module _ {ms : List ℕ} {t : Tally} (survey : SurveyedIs ws s noMarks ms t) where
+    settles : isSettledM t s ≡ isSettledM whole s
+    settles = ap (λ (u : Tally). isSettledM u s) (survey .tally)
+
+    first-two : true ≡ isSettledM t s → true ≡ (allSound ws s 0 (shape ws (s .bytes)) && isSettledM whole s)
+    first-two f = hold (sym (survey .sound)) (f ∙ settles)
+
+  module _ {ms : List ℕ} {t : Tally} (chain : WalkedChain ws s t ms) where
+    same-used : whole .used ≡ s .used
+    same-used = sym (ap (λ (u : Tally). u .used) (chain .survey .tally)) ∙ chain .used
+
+    first-three : true ≡ (allSound ws s 0 (shape ws (s .bytes)) && isSettledM whole s && eqb (whole .used) (s .used))
+    first-three = hold (first-two (chain .survey) (chain .settled)) (sym (eq-eqb (whole .used) (s .used) same-used))
+
+    -- the sweep was of the marks that the walk of the chain made
+    swept : (q : Sweep) → SweepIs ws table heads tails (s .bytes) ms q → {d : Sweep} → q ≡ d → SweepIs ws table heads tails (s .bytes) made d
+    swept q w e =
+        subst (SweepIs ws table heads tails (s .bytes) made) e
+        (subst (λ (m : List ℕ). SweepIs ws table heads tails (s .bytes) m q) (chain .survey .marks) w)
+
+    clean : (q : Sweep) → SweepIs ws table heads tails (s .bytes) ms q → {met : ℕ} → q ≡ Clean met → CleanIs ws table heads tails (s .bytes) made met
+    unfolding SweepIs
+    clean q w e = swept q w e
+
+    first-four : {met : ℕ} → CleanIs ws table heads tails (s .bytes) made met
+        → true
+        ≡ (allSound ws s 0 (shape ws (s .bytes)) && isSettledM whole s && eqb (whole .used) (s .used)
+        && allWhole ws table heads tails (s .bytes) made (numbersFrom 0 (length table)))
+    first-four c = hold first-three (sym (c .whole))
+
+-- so each test of the code decides the whole, or hands on to the next
+module _ {ws table heads tails : List ℕ} {s : Summary} where
+  pub walk-broken : (ms : List ℕ) {r : Survey} → SurveyIs ws s noMarks ms r → r ≡ Broken → Walked ws table heads tails s Fails
   unfolding WalkedIs walksWell
   walk-broken ms k e =
-      sym (still _ (still _ (still _ (still _ (sym (subst (λ (q : Survey). SurveyIs ws bytes donor top noMarks ms q) e k))))))
+      record { is = sym (still _ (still _ (still _ (still _ (sym (subst (SurveyIs ws s noMarks ms) e k)))))) }
 
-  module _ (ms : List ℕ) {r : Survey} (k : SurveyIs ws bytes donor top noMarks ms r) {t : Tally} (e : r ≡ Surveyed t) where
-    facts : SurveyIs ws bytes donor top noMarks ms (Surveyed t)
-    facts = subst (λ (q : Survey). SurveyIs ws bytes donor top noMarks ms q) e k
+  module _ {ms : List ℕ} {t : Tally} where
+    pub not-settled : SurveyedIs ws s noMarks ms t → false ≡ isSettledM t s → Walked ws table heads tails s Fails
+    unfolding WalkedIs walksWell
+    not-settled survey f =
+        record { is = sym (still _ (still _ (still _ (hold (sym (survey .sound)) (f ∙ settles ws table heads tails s survey))))) }
 
-    is-tally : t ≡ tally ws table heads tails bytes donor top used
-    is-tally = facts .1
+    pub other-used : SurveyedIs ws s noMarks ms t → true ≡ isSettledM t s → (t .used ≡ s .used → ⊥) → Walked ws table heads tails s Fails
+    unfolding WalkedIs walksWell
+    other-used survey f n =
+        let other : whole ws table heads tails s .used ≡ s .used → ⊥ = λ q. n (ap (λ (u : Tally). u .used) (survey .tally) ∙ q) in
+        record { is = sym (still _ (still _ (hold (first-two ws table heads tails s survey f) (sym (ne-eqb _ (s .used) other))))) }
 
-    walked : true ≡ allSound ws bytes donor top 0 (shape ws bytes)
-    walked = sym (facts .0)
+    module _ (chain : WalkedChain ws s t ms) (q : Sweep) (w : SweepIs ws table heads tails (s .bytes) ms q) where
+      pub lists-dirty : q ≡ Dirty → Walked ws table heads tails s Fails
+      unfolding WalkedIs walksWell SweepIs
+      lists-dirty e =
+          record { is = sym (still _ (hold (first-three ws table heads tails s chain) (sym (swept ws table heads tails s chain q w e)))) }
 
-    module _ {s : Bool} (es : s ≡ settled t bytes donor) where
-      settles : s ≡ settled (tally ws table heads tails bytes donor top used) bytes donor
-      settles = es ∙ ap (λ (u : Tally). settled u bytes donor) is-tally
-
-      pub not-settled : not s ≡ true → WalkedIs ws table heads tails bytes donor top used Fails
+      pub other-count : {met : ℕ} → q ≡ Clean met → (met ≡ t .ordinary → ⊥) → Walked ws table heads tails s Fails
       unfolding WalkedIs walksWell
-      not-settled h = sym (still _ (still _ (still _ (hold walked (failed settles h)))))
+      other-count e n =
+          let c = clean ws table heads tails s chain q w e in
+          let is-tally = ap (λ (u : Tally). u .ordinary) (chain .survey .tally) in
+          record { is = sym (hold (first-four ws table heads tails s chain c) (sym (ne-eqb _ _ (λ x. n (c .count ∙ x ∙ sym is-tally))))) }
 
-      module _ (hs : not s ≡ false) where
-        first-two : true ≡ (allSound ws bytes donor top 0 (shape ws bytes) && settled (tally ws table heads tails bytes donor top used) bytes donor)
-        first-two = hold walked (held settles hs)
-
-        pub other-used : (t .used ≡ used → ⊥) → WalkedIs ws table heads tails bytes donor top used Fails
-        unfolding WalkedIs walksWell
-        other-used n =
-            sym (still _ (still _ (hold first-two (sym (ne-eqb _ used (λ q. n (ap (λ (u : Tally). u .used) is-tally ∙ q)))))))
-
-        module _ (same : t .used ≡ used) (q : Sweep) (w : SweepIs ws table heads tails bytes ms q) where
-          first-three : true
-              ≡ (allSound ws bytes donor top 0 (shape ws bytes) && settled (tally ws table heads tails bytes donor top used) bytes donor
-              && eqb (tally ws table heads tails bytes donor top used .used) used)
-          first-three = hold first-two (sym (eq-eqb _ used (sym (ap (λ (u : Tally). u .used) is-tally) ∙ same)))
-
-          swept : SweepIs ws table heads tails bytes (marksOf ws table heads tails bytes donor top used) q
-          swept = subst (λ (m : List ℕ). SweepIs ws table heads tails bytes m q) (facts .2) w
-
-          pub lists-dirty : q ≡ Dirty → WalkedIs ws table heads tails bytes donor top used Fails
-          unfolding WalkedIs walksWell SweepIs
-          lists-dirty eq =
-              sym (still _ (hold first-three (sym (subst (λ (x : Sweep). SweepIs ws table heads tails bytes (marksOf ws table heads tails bytes donor top used) x) eq swept))))
-
-          module _ {met : ℕ} (eq : q ≡ Clean met) where
-            clean : SweepIs ws table heads tails bytes (marksOf ws table heads tails bytes donor top used) (Clean met)
-            clean = subst (λ (x : Sweep). SweepIs ws table heads tails bytes (marksOf ws table heads tails bytes donor top used) x) eq swept
-
-            first-four : true
-                ≡ (allSound ws bytes donor top 0 (shape ws bytes) && settled (tally ws table heads tails bytes donor top used) bytes donor
-                && eqb (tally ws table heads tails bytes donor top used .used) used
-                && allWhole ws table heads tails bytes (marksOf ws table heads tails bytes donor top used) (numbersFrom 0 (length table)))
-            unfolding SweepIs
-            first-four = hold first-three (sym (clean .0))
-
-            counts : met ≡ metAll ws table heads tails bytes donor top used
-            unfolding SweepIs
-            counts = clean .1
-
-            pub other-count : (met ≡ t .ordinary → ⊥) → WalkedIs ws table heads tails bytes donor top used Fails
-            unfolding WalkedIs walksWell
-            other-count n =
-                sym (hold first-four (sym (ne-eqb _ _ (λ x. n (counts ∙ x ∙ sym (ap (λ (u : Tally). u .ordinary) is-tally))))))
-
-            pub all-well : met ≡ t .ordinary
-                → WalkedIs ws table heads tails bytes donor top used
-                (Passes (record { chunks = t .chunks; ordinary = t .ordinary; used = t .used; free = t .free }))
-            unfolding WalkedIs walksWell
-            all-well m = (
-              sym (hold first-four (sym (eq-eqb _ _ (sym counts ∙ m ∙ ap (λ (u : Tally). u .ordinary) is-tally)))),
+      pub all-well : {met : ℕ} → q ≡ Clean met → met ≡ t .ordinary
+          → Walked ws table heads tails s (Passes (record { chunks = t .chunks; ordinary = t .ordinary; used = t .used; free = t .free }))
+      unfolding WalkedIs walksWell
+      all-well e m =
+          let c = clean ws table heads tails s chain q w e in
+          let is-tally = chain .survey .tally in
+          record {
+            is = (
+              sym (hold (first-four ws table heads tails s chain c) (sym (eq-eqb _ _ (sym (c .count) ∙ m ∙ ap (λ (u : Tally). u .ordinary) is-tally)))),
               ap (λ (u : Tally). record { chunks = u .chunks; ordinary = u .ordinary; used = u .used; free = u .free }) is-tally,
-            )
+            );
+          }

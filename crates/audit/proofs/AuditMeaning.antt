@@ -11,7 +11,7 @@ use Rattle.record.specs.declared.answers.Answer.the-variants.{Counted, Refused}
 use Rattle.record.specs.declared.answers.Counts.{Counts}
 use Rattle.record.specs.declared.answers.Refusal.the-variants.{HeapFails}
 use Rattle.record.specs.declared.heap.Heap.{Heap}
-use Rattle.record.specs.Heap.{tableOf}
+use Rattle.record.specs.Heap.{tableOf, summaryOf}
 use Rattle.record.specs.Table.{validTable}
 use Rattle.record.proofs.TableLaws.{valid-iff}
 use Rattle.rules.specs.Check.{Tabled, unusedFrom, countsOf, passes, Passes, Fits}
@@ -21,7 +21,7 @@ use Rattle.rules.proofs.CheckLaws.{passes-iff}
 use Rattle.rules.proofs.EvenLaws.{evenPart, even-passes, even-fits, even-agrees, same-shape}
 use Rattle.audit.specs.declared.Audit.{Audit}
 use Rattle.audit.specs.declared.Audit.the-variants as found
-use Rattle.audit.specs.Audit.{fitsLength, tabledAs, countsIn, walksWell, WalkedIs, AuditIs}
+use Rattle.audit.specs.Audit.{fitsLengthM, isTabledM, countsIn, walksWell, WalkedIs, AuditIs}
 use Rattle.audit.proofs.SurveyMeaning.{tally-ordinary, tally-used, tally-free, tallyFor}
 use Rattle.audit.proofs.WalksMeaning.{Rest, well-iff}
 
@@ -32,15 +32,15 @@ pub record Places (h : Heap) : Type 0 where
   pub tails : length (h .tails) ≡ 32
 
 -- the test of the length, and the test of the table
-length-iff : (ws : List ℕ) (h : Heap) → Decides (fitsLength (length ws) (h .bytes)) (Fits ws h)
-unfolding fitsLength
+length-iff : (ws : List ℕ) (h : Heap) → Decides (fitsLengthM (length ws) (h .bytes)) (Fits ws h)
+unfolding fitsLengthM
 length-iff ws h =
     meaning (both (both (at-most 10 (length ws)) (at-most (length ws) 16384)) (number-is (length ws / 2 * 8) (h .bytes)))
     (λ ((enough, most), bytes). record { enough = enough; notTooMany = most; bytes = omega (arith, bytes) })
     (λ f. ((f .enough, f .notTooMany), omega (arith, f .bytes)))
 
-tabled-iff : (h : Heap) → Places h → Decides (tabledAs (h .bins) (h .sizes) (h .heads) (h .tails)) (Tabled h)
-unfolding tabledAs
+tabled-iff : (h : Heap) → Places h → Decides (isTabledM (h .bins) (h .sizes) (h .heads) (h .tails)) (Tabled h)
+unfolding isTabledM
 tabled-iff h p =
     meaning
     (both (both (both (both
@@ -64,16 +64,16 @@ tabled-iff h p =
 
 -- what is found by each test in turn is what the check of the rules says
 module _ (ws : List ℕ) (h : Heap) where
-  pub audit-short : fitsLength (length ws) (h .bytes) ≡ false → AuditIs ws h found.Fails
+  pub audit-short : fitsLengthM (length ws) (h .bytes) ≡ false → AuditIs ws h found.Fails
   unfolding AuditIs
   audit-short e = not-so (passes-iff ws h) (λ p. false≢true (sym e ∙ length-iff ws h .1 (p .fits)))
 
   module _ (places : Places h) where
-    pub audit-untabled : tabledAs (h .bins) (h .sizes) (h .heads) (h .tails) ≡ false → AuditIs ws h found.Fails
+    pub audit-untabled : isTabledM (h .bins) (h .sizes) (h .heads) (h .tails) ≡ false → AuditIs ws h found.Fails
     unfolding AuditIs
     audit-untabled e = not-so (passes-iff ws h) (λ p. false≢true (sym e ∙ tabled-iff h places .1 (p .table)))
 
-    module _ (long : fitsLength (length ws) (h .bytes) ≡ true) (right : tabledAs (h .bins) (h .sizes) (h .heads) (h .tails) ≡ true) where
+    module _ (long : fitsLengthM (length ws) (h .bytes) ≡ true) (right : isTabledM (h .bins) (h .sizes) (h .heads) (h .tails) ≡ true) where
       fits : Fits ws h
       fits = length-iff ws h .0 long
 
@@ -83,7 +83,7 @@ module _ (ws : List ℕ) (h : Heap) where
       even-is : take (h .bytes / 4) ws ≡ evenPart ws
       even-is = let e : h .bytes / 4 ≡ length ws / 2 * 2 = omega (arith, fits .bytes) in rw e
 
-      walks : Decides (walksWell (evenPart ws) (tableOf h) (h .heads) (h .tails) (h .bytes) (h .donor .0) (h .top .0) (h .used)) (Rest (evenPart ws) h)
+      walks : Decides (walksWell (evenPart ws) (tableOf h) (h .heads) (h .tails) (summaryOf h)) (Rest (evenPart ws) h)
       walks =
           well-iff (evenPart ws) h (omega (arith, fits .bytes, fits .enough)) (omega (arith, fits .bytes, fits .notTooMany)) table
 
@@ -125,7 +125,7 @@ module _ (ws : List ℕ) (h : Heap) where
 
       -- the counts over the even part are those over the region
       counts-are : Passes ws h
-          → countsIn (evenPart ws) (tableOf h) (h .heads) (h .tails) (h .bytes) (h .donor .0) (h .top .0) (h .used) ≡ countsOf h (shape ws (h .bytes))
+          → countsIn (evenPart ws) (tableOf h) (h .heads) (h .tails) (summaryOf h) ≡ countsOf h (shape ws (h .bytes))
       counts-are p =
           let s = same-shape ws (evenPart ws) h (even-agrees ws h fits) p in
           rw s (counts (shape ws (h .bytes)))
@@ -137,7 +137,7 @@ module _ (ws : List ℕ) (h : Heap) where
           counts ds = rw (tally-ordinary h ds, tally-used h ds, tally-free h ds)
 
       pub audit-walked : (r : Audit)
-          → WalkedIs (take (h .bytes / 4) ws) (take (h .bins) (h .sizes)) (h .heads) (h .tails) (h .bytes) (h .donor .0) (h .top .0) (h .used) r
+          → WalkedIs (take (h .bytes / 4) ws) (take (h .bins) (h .sizes)) (h .heads) (h .tails) (summaryOf h) r
           → AuditIs ws h r
       unfolding AuditIs WalkedIs
       audit-walked found.Fails k =
@@ -148,14 +148,14 @@ module _ (ws : List ℕ) (h : Heap) where
           (passes-iff ws h .1 p, j .1 ∙ counts-are p)
 
 -- what the code lends on is there
-pub lent-words : (words bytes : ℕ) → fitsLength words bytes ≡ true → bytes / 4 ≤ words
-unfolding fitsLength
+pub lent-words : (words bytes : ℕ) → fitsLengthM words bytes ≡ true → bytes / 4 ≤ words
+unfolding fitsLengthM
 lent-words words bytes e =
     let t = both (both (at-most 10 words) (at-most words 16384)) (number-is (words / 2 * 8) bytes) .0 e in
     omega (arith, t .1)
 
-pub lent-sizes : (bins : ℕ) (sizes heads tails : List ℕ) → tabledAs bins sizes heads tails ≡ true → bins ≤ length sizes
-unfolding tabledAs
+pub lent-sizes : (bins : ℕ) (sizes heads tails : List ℕ) → isTabledM bins sizes heads tails ≡ true → bins ≤ length sizes
+unfolding isTabledM
 lent-sizes bins sizes heads tails e =
     both
     (both (both (both (at-most bins (length sizes)) (itself (validTable (take bins sizes)))) (itself (unusedFrom bins sizes)))

@@ -1,8 +1,5 @@
-pub mod ChunkLaws
-pub mod SurveyLaws
 pub mod SurveyMeaning
 pub mod MarksMeaning
-pub mod SweepLaws
 pub mod SweepMeaning
 pub mod AuditLaws
 pub mod WalksMeaning

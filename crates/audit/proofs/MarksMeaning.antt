@@ -14,12 +14,13 @@ use Rattle.lists.proofs.ListsLaws.{Decides, is-member}
 use Rattle.marks.specs.Marks.{marked, flipped}
 use Rattle.marks.proofs.MarksLaws.{length-flipped, flip-same, flip-other, clear-marks}
 use Rattle.record.specs.declared.heap.Heap.{Heap}
+use Rattle.record.specs.Heap.{summaryOf}
 use Rattle.rules.specs.Ask.{placesOf}
 use Rattle.rules.specs.Check.{Chained}
 use Rattle.rules.specs.Shape.{Entry, shape}
 use Rattle.rules.specs.Kinds.{ordinary}
 use Rattle.rules.proofs.ChainLaws.{Rising, places-once, shape-chain}
-use Rattle.audit.specs.Survey.{marking, markAll}
+use Rattle.survey.specs.Survey.{markM, markAll}
 use Rattle.audit.proofs.SurveyMeaning.{ChainFacts}
 
 -- the places of the ordinary chunks, as they come in the chain
@@ -34,28 +35,28 @@ abbrev Fit : Entry → Type 0
 Fit e = (e .place % 8 ≡ 0) × (e .place < 65536)
 
 -- no multiple of 8 from c on is marked
-abbrev Clear : List ℕ → ℕ → Type 0
-Clear ms c = (d : ℕ) → d % 8 ≡ 0 → c ≤ d → marked ms d ≡ false
+abbrev UnmarkedFrom : List ℕ → ℕ → Type 0
+UnmarkedFrom ms c = (d : ℕ) → d % 8 ≡ 0 → c ≤ d → marked ms d ≡ false
 
 -- a flip of a clear mark sets it and leaves those above clear
-clear-flipped : (ms : List ℕ) (c p : ℕ) → p % 8 ≡ 0 → c ≤ p → Clear ms c → Clear (flipped ms p) (suc p)
+clear-flipped : (ms : List ℕ) (c p : ℕ) → p % 8 ≡ 0 → c ≤ p → UnmarkedFrom ms c → UnmarkedFrom (flipped ms p) (suc p)
 clear-flipped ms c p z l u d y k = flip-other ms p d (λ s. omega arith) ∙ u d y (omega arith)
 
-set-flipped : (ms : List ℕ) (c p : ℕ) → length ms ≡ 256 → p < 65536 → p % 8 ≡ 0 → c ≤ p → Clear ms c
+set-flipped : (ms : List ℕ) (c p : ℕ) → length ms ≡ 256 → p < 65536 → p % 8 ≡ 0 → c ≤ p → UnmarkedFrom ms c
     → marked (flipped ms p) p ≡ true
 set-flipped ms c p n b z l u = flip-same ms p (omega arith) ∙ ap not (u p z l)
 
 -- the marks after the walk of a list of chunks
 abbrev marksFor : Heap → List ℕ → List Entry → List ℕ
-marksFor h ms es = markAll (h .bytes) (h .donor .0) (h .top .0) ms es
+marksFor h ms es = markAll (summaryOf h) ms es
 
 -- chunks that go up each flip a mark of their own, so a place is marked after them if it was before or an ordinary chunk is there
 abbrev MarkedAfter : Heap → List ℕ → List Entry → ℕ → Type 0
 MarkedAfter h ms es d = marked (marksFor h ms es) d ≡ (any (eqb d) (ordinaries h es) || marked ms d)
 
-walk-marks : (h : Heap) (ms : List ℕ) (c : ℕ) (es : List Entry) → length ms ≡ 256 → Clear ms c → Rising c es
+walk-marks : (h : Heap) (ms : List ℕ) (c : ℕ) (es : List Entry) → length ms ≡ 256 → UnmarkedFrom ms c → Rising c es
     → ((e : Entry) → Mem e es → Fit e) → (d : ℕ) → d % 8 ≡ 0 → MarkedAfter h ms es d
-unfolding marking
+unfolding markM
 walk-marks h ms c [] n u r f d z = refl
 walk-marks h ms c (e ∷ es) n u r f d z =
     let fit = f e (List·Memᴰ·head refl) in

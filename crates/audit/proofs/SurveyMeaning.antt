@@ -12,15 +12,16 @@ use Rattle.lists.proofs.TotalLaws.{total-ones, some-of-total, total-of-some, to
 use Rattle.record.specs.declared.heap.Heap.{Heap}
 use Rattle.record.specs.declared.kinds.Kind.{Kind}
 use Rattle.record.specs.declared.kinds.Kind.the-variants.{Start, InUse, Ordinary, Donor, Top, End}
+use Rattle.record.specs.Heap.{summaryOf}
 use Rattle.region.specs.Words.{word, forward, backward, size, nextInBin, previousInBin, bin}
 use Rattle.rules.specs.Shape.{Entry, flagsAt, shape}
 use Rattle.rules.specs.Kinds.{kindOf, ordinary, isFree, live, ordinaryKind, freeKind, liveKind, outside}
 use Rattle.rules.specs.Check.{Chained, Ended, Backed, Sound, Unbinned, Reserved, TopIs, DonorIs, usedBytes, freeBytes}
 use Rattle.rules.proofs.ChainLaws.{same-place, Chain, shape-chain}
 use Rattle.rules.proofs.KindsLaws.{Being, being, kind-start, kind-end, kind-top, kind-donor}
-use Rattle.audit.specs.declared.survey.Tally.{Tally}
-use Rattle.audit.specs.Chunks.{backedBy, sizedAt, startIs, endIs, reservedAt, donorAt, topAt, soundAs, soundAt}
-use Rattle.audit.specs.Survey.{shareOf, allSound, tallyOf}
+use Rattle.survey.specs.declared.Tally.{Tally}
+use Rattle.survey.specs.Chunks.{isBackedM, isSizedM, isStartM, isEndM, isReservedM, isDonorM, isTopM, isSoundM, soundAt}
+use Rattle.survey.specs.Survey.{shareOf, allSound, tallyOf}
 
 -- the facts of a heap that passes which speak of the chain alone
 pub record ChainFacts (ws : List ℕ) (h : Heap) (es : List Entry) : Type 0 where
@@ -33,11 +34,11 @@ pub record ChainFacts (ws : List ℕ) (h : Heap) (es : List Entry) : Type 0 wher
 
 -- the tally of a list of chunks, with the record's bytes, donor and top
 abbrev pub tallyFor : Heap → List Entry → Tally
-tallyFor h es = tallyOf (h .bytes) (h .donor .0) (h .top .0) es
+tallyFor h es = tallyOf (summaryOf h) es
 
 -- what the walk and the tests after it find
 pub record Found (ws : List ℕ) (h : Heap) : Type 0 where
-  pub sound : allSound ws (h .bytes) (h .donor .0) (h .top .0) 0 (shape ws (h .bytes)) ≡ true
+  pub sound : allSound ws (summaryOf h) 0 (shape ws (h .bytes)) ≡ true
   pub end : tallyFor h (shape ws (h .bytes)) .end + 8 ≡ h .bytes
   pub top : 0 < tallyFor h (shape ws (h .bytes)) .tops
   pub donor : 0 < h .donor .0 → 0 < tallyFor h (shape ws (h .bytes)) .donors
@@ -65,20 +66,20 @@ module _ (ws : List ℕ) (h : Heap) where
   As e Top = (Sized e × Unbinned ws (e .place)) × (e .place + e .size + 8 ≡ h .bytes)
   As e End = (e .flags ≡ 1) × (word ws (e .place) forward ≡ 0)
 
-  sized-iff : (e : Entry) → Decides (sizedAt ws (e .place) (e .size)) (Sized e)
-  unfolding sizedAt
+  sized-iff : (e : Entry) → Decides (isSizedM ws (e .place) (e .size)) (Sized e)
+  unfolding isSizedM
   sized-iff e = both (at-most 24 (e .size)) (number-is (word ws (e .place) size) (e .size))
 
-  reserved-iff : (e : Entry) → Decides (reservedAt ws (e .place) (e .size)) (Sized e × Unbinned ws (e .place))
-  unfolding reservedAt
+  reserved-iff : (e : Entry) → Decides (isReservedM ws (e .place) (e .size)) (Sized e × Unbinned ws (e .place))
+  unfolding isReservedM
   reserved-iff e =
       both (sized-iff e) (meaning
       (both (both (number-is (word ws (e .place) nextInBin) 0) (number-is (word ws (e .place) previousInBin) 0)) (number-is (word ws (e .place) bin) 0))
       (λ t. record { next = t .0 .0; previous = t .0 .1; bin = t .1 })
       (λ u. ((u .next, u .previous), u .bin)))
 
-  as-iff : (e : Entry) (k : Kind) → Decides (soundAs ws (h .bytes) (h .donor .0) (h .top .0) e k) (As e k)
-  unfolding startIs endIs donorAt topAt
+  as-iff : (e : Entry) (k : Kind) → Decides (isSoundM ws (summaryOf h) e k) (As e k)
+  unfolding isStartM isEndM isDonorM isTopM
   as-iff e Start = both (number-is (e .size) 8) (number-is (e .flags) 1)
   as-iff e InUse = at-most 24 (e .size)
   as-iff e Ordinary = sized-iff e
@@ -87,14 +88,14 @@ module _ (ws : List ℕ) (h : Heap) where
   as-iff e End = both (number-is (e .flags) 1) (number-is (word ws (e .place) forward) 0)
 
   -- what the walk finds of a chunk, but for its backward link
-  record Seen (e : Entry) : Type 0 where
+  record SeenFacts (e : Entry) : Type 0 where
     eight : e .place % 8 ≡ 0
     flags : e .flags ≤ 1
     kind : As e (kindOf h e)
 
   seen-iff : (p : ℕ) (e : Entry) → e .flags ≡ flagsAt ws (e .place)
-      → Decides (soundAt ws (h .bytes) (h .donor .0) (h .top .0) p e) ((word ws (e .place) backward ≡ p + e .flags) × Seen e)
-  unfolding soundAt backedBy
+      → Decides (soundAt ws (summaryOf h) p e) ((word ws (e .place) backward ≡ p + e .flags) × SeenFacts e)
+  unfolding soundAt isBackedM
   seen-iff p e f =
       meaning
       (both (both (both (number-is (e .place % 8) 0) (at-most (flagsAt ws (e .place)) 1)) (number-is (word ws (e .place) backward - flagsAt ws (e .place)) p))
@@ -104,7 +105,7 @@ module _ (ws : List ℕ) (h : Heap) where
 
   -- the walk finds a chain with backward links all of whose chunks are so
   all-iff : (p : ℕ) (es : List Entry) → ((e : Entry) → Mem e es → e .flags ≡ flagsAt ws (e .place))
-      → Decides (allSound ws (h .bytes) (h .donor .0) (h .top .0) p es) (Backed ws p es × ((e : Entry) → Mem e es → Seen e))
+      → Decides (allSound ws (summaryOf h) p es) (Backed ws p es × ((e : Entry) → Mem e es → SeenFacts e))
   all-iff p [] f = (λ t. (tt, λ e m. absurd (List·Memᴰ·not-nil m)), λ t. refl)
   all-iff p (e ∷ es) f =
       meaning (both (seen-iff p e (f e (List·Memᴰ·head refl))) (all-iff (e .place) es (λ d m. f d (List·Memᴰ·tail m))))
@@ -119,7 +120,7 @@ module _ (ws : List ℕ) (h : Heap) where
   is e = being (h .bytes) (h .donor .0) (h .top .0) e
 
   -- so a chunk that the walk has seen is as the check asks
-  module _ (e : Entry) (s : Seen e) where
+  module _ (e : Entry) (s : SeenFacts e) where
     by-kind : (k : Kind) → Is e k → As e k
         → (0 < e .place → e .place + 8 < h .bytes → 24 ≤ e .size) × (e .flags ≡ 0 → word ws (e .place) size ≡ e .size)
     by-kind Start b a = (λ p l. omega arith, λ f. omega arith)
@@ -217,7 +218,7 @@ module _ (ws : List ℕ) (h : Heap) where
           ((sized (b .0) (b .1) (b .2), rw (b .3) (t .2 .0 .out)), rw (same (t .1) (b .3 ∙ sym (t .2 .0 .here))) (t .2 .1))
       as-kind End b = ends (b .1)
 
-      all-seen : Seen e
+      all-seen : SeenFacts e
       all-seen =
           record {
             eight = facts .chain .eights e m;

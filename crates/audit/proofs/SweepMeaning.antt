@@ -20,8 +20,8 @@ use Rattle.region.specs.Words.{word, size, nextInBin, previousInBin, bin}
 use Rattle.rules.specs.Check.{Linked}
 use Rattle.rules.specs.Shape.{membersFrom}
 use Rattle.rules.proofs.ShapeLaws.{read-head}
-use Rattle.audit.proofs.SweepLaws.{off-eights}
-use Rattle.audit.specs.Sweep.{flipAll, listedAt, combed, beyond, listAt, allWhole}
+use Rattle.sweep.proofs.SweepLaws.{tested, off-eights}
+use Rattle.sweep.specs.Sweep.{flipAll, isListedM, combed, beyond, listAt, allWhole}
 
 module _ (ws table : List ℕ) (valid : ValidTable table) (all : List ℕ) where
   -- the marks say which chunks of `all` have not been met yet
@@ -44,11 +44,11 @@ module _ (ws table : List ℕ) (valid : ValidTable table) (all : List ℕ) where
     pub takes : binOf table (word ws c size) ≡ Bin i
 
   -- the five tests of a member decide that
-  listed-iff : (i : ℕ) (ms met : List ℕ) → Marks ms met → (p c : ℕ) → Decides (listedAt ws table i ms p c) (MemberIs i met p c)
-  unfolding listedAt
+  listed-iff : (i : ℕ) (ms met : List ℕ) → Marks ms met → (p c : ℕ) → Decides (isListedM ws table i ms p c) (MemberIs i met p c)
+  unfolding isListedM
   listed-iff i ms met k p c = go (ℕ-discrete (c % 8) 0)
     where
-      go : Dec (c % 8 ≡ 0) → Decides (listedAt ws table i ms p c) (MemberIs i met p c)
+      go : Dec (c % 8 ≡ 0) → Decides (isListedM ws table i ms p c) (MemberIs i met p c)
       go (yes e) =
           meaning
           (both (both (both (both (number-is (c % 8) 0) (k c e)) (number-is (word ws c bin) (i % 32 * 8)))
@@ -57,7 +57,7 @@ module _ (ws table : List ℕ) (valid : ValidTable table) (all : List ℕ) where
           record { eight = eight; known = known; new = new; bins = bins; back = back; takes = takes })
           (λ m. ((((m .eight, (m .known, m .new)), m .bins), m .back), m .takes))
       go (no n) =
-          (λ h. absurd (false≢true (off-eights ws table i ms p c n ∙ h)), λ m. absurd (n (m .eight)))
+          (λ h. absurd (false≢true (tested (off-eights n) ∙ h)), λ m. absurd (n (m .eight)))
 
   -- all of a list, one behind the other
   abbrev pub CombedIs : ℕ → List ℕ → ℕ → List ℕ → Type 0

@@ -14,21 +14,22 @@ use Rattle.lists.proofs.MembersLaws.{kept-from, kept-has, kept-few}
 use Rattle.marks.specs.Marks.{flipped}
 use Rattle.marks.proofs.MarksLaws.{length-flipped}
 use Rattle.record.specs.declared.heap.Heap.{Heap}
+use Rattle.record.specs.declared.heap.Summary.{Summary}
 use Rattle.record.specs.declared.kinds.Kind.{Kind}
-use Rattle.record.specs.Heap.{tableOf}
+use Rattle.record.specs.Heap.{tableOf, summaryOf}
 use Rattle.region.specs.Words.{word, size}
 use Rattle.rules.specs.Check.{Tabled, Listed, InItsBin, BelongsTo, usedBytes}
-use Rattle.rules.specs.Kinds.{ordinary, ordinaryKind, kindAt}
+use Rattle.rules.specs.Kinds.{ordinary, ordinaryKind, kindOf}
 use Rattle.rules.specs.Shape.{Entry, shape, binList, members, membersFrom}
 use Rattle.rules.proofs.CheckLaws.{table-bins}
 use Rattle.rules.proofs.ChainLaws.{shape-chain}
 use Rattle.rules.proofs.KindsLaws.{ordinary-free}
 use Rattle.rules.proofs.ShapeLaws.{shape-is}
-use Rattle.audit.specs.Audit.{settled, noMarks, marksOf, metAll, walksWell}
-use Rattle.audit.specs.Survey.{allSound, marking, markAll}
-use Rattle.audit.specs.Sweep.{listAt, allWhole}
-use Rattle.audit.specs.declared.survey.Tally.{Tally}
-use Rattle.audit.proofs.SurveyLaws.{chunks-few}
+use Rattle.audit.specs.Audit.{isSettledM, noMarks, marksOf, metAll, walksWell}
+use Rattle.survey.specs.Survey.{allSound, markM, markAll}
+use Rattle.sweep.specs.Sweep.{listAt, allWhole}
+use Rattle.survey.specs.declared.Tally.{Tally}
+use Rattle.survey.proofs.SurveyLaws.{chunks-few}
 use Rattle.audit.proofs.SurveyMeaning.{ChainFacts, found-facts, facts-found, tally-ordinary, tally-used, tallyFor}
 use Rattle.audit.proofs.MarksMeaning.{ordinaries, ordinaries-once, marks-are}
 use Rattle.audit.proofs.SweepMeaning.{Marks, MemberFacts, BinIs, Combs, Covered, combs-bins, bins-combs}
@@ -40,9 +41,9 @@ pub record Rest (ws : List ℕ) (h : Heap) : Type 0 where
   pub binned : (e : Entry) → Mem e (shape ws (h .bytes)) → ordinary h e ≡ true → InItsBin ws h e
   pub used : h .used ≡ usedBytes h (shape ws (h .bytes))
 
--- marking keeps the bitmap's length
-marked-long : (ms : List ℕ) (k : Kind) (c : ℕ) → length (marking ms k c) ≡ length ms
-unfolding marking
+-- markM keeps the bitmap's length
+marked-long : (ms : List ℕ) (k : Kind) (c : ℕ) → length (markM ms k c) ≡ length ms
+unfolding markM
 marked-long ms k c = go (ordinaryKind k)
   where
     go : (t : Bool) → length (cond t (flipped ms c) ms) ≡ length ms
@@ -50,21 +51,21 @@ marked-long ms k c = go (ordinaryKind k)
     go false = refl
 
 -- the tests after the walk of the chain
-settled-iff : (t : Tally) (bytes donor : ℕ)
-    → Decides (settled t bytes donor) ((t .end + 8 ≡ bytes) × (0 < t .tops) × (0 < donor → 0 < t .donors))
-unfolding settled
-settled-iff t bytes donor =
+settled-iff : (t : Tally) (s : Summary)
+    → Decides (isSettledM t s) ((t .end + 8 ≡ s .bytes) × (0 < t .tops) × (0 < s .donor .0 → 0 < t .donors))
+unfolding isSettledM
+settled-iff t s =
     meaning
-    (both (both (number-is (t .end + 8) bytes) (denied (number-is (t .tops) 0)))
-    (or-else (number-is donor 0) (denied (number-is (t .donors) 0))))
-    (λ q. (q .0 .0, omega (arith, q .0 .1), λ l. donors (q .1) l))
-    (λ q. ((q .0, λ e. omega (arith, q .1)), back (q .2) (ℕ-discrete donor 0)))
+    (both (both (number-is (t .end + 8) (s .bytes)) (denied (number-is (t .tops) 0)))
+    (or-else (number-is (s .donor .0) 0) (denied (number-is (t .donors) 0))))
+    (λ ((end, tops), donor). (end, omega arith, λ l. donors donor l))
+    (λ (end, top, donor). ((end, λ e. omega arith), back donor (ℕ-discrete (s .donor .0) 0)))
   where
-    donors : (donor ≡ 0) ⊎ (t .donors ≡ 0 → ⊥) → 0 < donor → 0 < t .donors
+    donors : (s .donor .0 ≡ 0) ⊎ (t .donors ≡ 0 → ⊥) → 0 < s .donor .0 → 0 < t .donors
     donors (inl e) l = absurd (omega arith)
     donors (inr n) l = omega arith
 
-    back : (0 < donor → 0 < t .donors) → Dec (donor ≡ 0) → (donor ≡ 0) ⊎ (t .donors ≡ 0 → ⊥)
+    back : (0 < s .donor .0 → 0 < t .donors) → Dec (s .donor .0 ≡ 0) → (s .donor .0 ≡ 0) ⊎ (t .donors ≡ 0 → ⊥)
     back f (yes e) = inl e
     back f (no n) = let l = f (omega arith) in inr (λ e. omega arith)
 
@@ -77,7 +78,7 @@ module _ (ws : List ℕ) (h : Heap) (big : 40 ≤ h .bytes) (small : h .bytes �
 
   -- the marks after the walk of the chain
   abbrev markedAll : List ℕ
-  markedAll = marksOf ws (tableOf h) (h .heads) (h .tails) (h .bytes) (h .donor .0) (h .top .0) (h .used)
+  markedAll = marksOf ws (tableOf h) (h .heads) (h .tails) (summaryOf h)
 
   -- an ordinary chunk's place is one of `all`, and the other way
   known-of : (e : Entry) → Mem e es → ordinary h e ≡ true → Mem (e .place) all
@@ -182,14 +183,14 @@ module _ (ws : List ℕ) (h : Heap) (big : 40 ≤ h .bytes) (small : h .bytes �
   marks-long : length markedAll ≡ 256
   marks-long = all-long noMarks es (length-replicate {A = ℕ} 256 0)
     where
-      all-long : (ms : List ℕ) (ds : List Entry) → length ms ≡ 256 → length (markAll (h .bytes) (h .donor .0) (h .top .0) ms ds) ≡ 256
+      all-long : (ms : List ℕ) (ds : List Entry) → length ms ≡ 256 → length (markAll (summaryOf h) ms ds) ≡ 256
       all-long ms [] l = l
-      all-long ms (d ∷ ds) l = all-long (marking ms (kindAt (h .bytes) (h .donor .0) (h .top .0) d) (d .place)) ds (marked-long ms (kindAt (h .bytes) (h .donor .0) (h .top .0) d) (d .place) ∙ l)
+      all-long ms (d ∷ ds) l = all-long (markM ms (kindOf h d) (d .place)) ds (marked-long ms (kindOf h d) (d .place) ∙ l)
 
   -- where both walks come through, the facts hold; and the other way
   rest : ChainFacts ws h es
       → allWhole ws (tableOf h) (h .heads) (h .tails) (h .bytes) markedAll (numbersFrom 0 (length (tableOf h))) ≡ true
-      → metAll ws (tableOf h) (h .heads) (h .tails) (h .bytes) (h .donor .0) (h .top .0) (h .used) ≡ length (keep (ordinary h) es)
+      → metAll ws (tableOf h) (h .heads) (h .tails) (summaryOf h) ≡ length (keep (ordinary h) es)
       → tallyFor h es .used ≡ h .used → Rest ws h
   rest facts d e u =
       let r =
@@ -214,16 +215,16 @@ module _ (ws : List ℕ) (h : Heap) (big : 40 ≤ h .bytes) (small : h .bytes �
       (λ i l. of-listed (r .chain) i l (r .bins i l)) (binned-covered (r .chain) (r .binned))
 
   -- the walks come through exactly when the facts hold
-  pub well-iff : Decides (walksWell ws (tableOf h) (h .heads) (h .tails) (h .bytes) (h .donor .0) (h .top .0) (h .used)) (Rest ws h)
+  pub well-iff : Decides (walksWell ws (tableOf h) (h .heads) (h .tails) (summaryOf h)) (Rest ws h)
   unfolding walksWell
   well-iff =
       meaning
       (both (both (both (both
-      (itself (allSound ws (h .bytes) (h .donor .0) (h .top .0) 0 es))
-      (settled-iff (tallyFor h es) (h .bytes) (h .donor .0)))
+      (itself (allSound ws (summaryOf h) 0 es))
+      (settled-iff (tallyFor h es) (summaryOf h)))
       (number-is (tallyFor h es .used) (h .used)))
       (itself (allWhole ws (tableOf h) (h .heads) (h .tails) (h .bytes) markedAll (numbersFrom 0 (length (tableOf h))))))
-      (number-is (metAll ws (tableOf h) (h .heads) (h .tails) (h .bytes) (h .donor .0) (h .top .0) (h .used)) (tallyFor h es .ordinary)))
+      (number-is (metAll ws (tableOf h) (h .heads) (h .tails) (summaryOf h)) (tallyFor h es .ordinary)))
       (λ ((((sound, (end, top, donor)), used), whole), count).
       rest (found-facts ws h big (record { sound = sound; end = end; top = top; donor = donor }))
       whole (count ∙ tally-ordinary h es) used)

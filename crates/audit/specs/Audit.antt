@@ -9,40 +9,43 @@ use lib.ListN.{length, take, replicate}
 use Rattle.lists.specs.Lists.{total, numbersFrom}
 use Rattle.record.specs.declared.answers.Counts.{Counts}
 use Rattle.record.specs.declared.heap.Heap.{Heap}
+use Rattle.record.specs.declared.heap.Summary.{Summary}
+use Rattle.record.specs.Heap.{recordOf}
 use Rattle.record.specs.Table.{validTable}
-use Rattle.region.specs.declared.Chunk.{Chunk}
 use Rattle.rules.specs.Check.{unusedFrom, passes, countsOf}
 use Rattle.rules.specs.Shape.{shape}
+use Rattle.survey.specs.declared.Tally.{Tally}
+use Rattle.survey.specs.Survey.{allSound, markAll, tallyOf}
+use Rattle.sweep.specs.Sweep.{listAt, allWhole}
 use Rattle.audit.specs.declared.Audit.{Audit}
 use Rattle.audit.specs.declared.Audit.the-variants.{Passes, Fails}
-use Rattle.audit.specs.declared.survey.Tally.{Tally}
-use Rattle.audit.specs.Survey.{allSound, markAll, tallyOf}
-use Rattle.audit.specs.Sweep.{listAt, allWhole}
 
-unfoldable pub fitsLength : ℕ → ℕ → Bool
-fitsLength words bytes = leb 10 words && leb words 16384 && eqb (words / 2 * 8) bytes
+unfoldable pub fitsLengthM : ℕ → ℕ → Bool
+fitsLengthM words bytes = leb 10 words && leb words 16384 && eqb (words / 2 * 8) bytes
 
-unfoldable pub tabledAs : ℕ → List ℕ → List ℕ → List ℕ → Bool
-tabledAs bins sizes heads tails =
+unfoldable pub isTabledM : ℕ → List ℕ → List ℕ → List ℕ → Bool
+isTabledM bins sizes heads tails =
     leb bins (length sizes) && validTable (take bins sizes) && unusedFrom bins sizes && unusedFrom bins heads
     && unusedFrom bins tails
 
-unfoldable pub settled : Tally → ℕ → ℕ → Bool
-settled t bytes donor = eqb (t .end + 8) bytes && not (eqb (t .tops) 0) && (eqb donor 0 || not (eqb (t .donors) 0))
+unfoldable pub isSettledM : Tally → Summary → Bool
+isSettledM t s =
+    eqb (t .end + 8) (s .bytes) && not (eqb (t .tops) 0) && (eqb (s .donor .0) 0 || not (eqb (t .donors) 0))
 
 -- no chunk is marked
 abbrev pub noMarks : List ℕ
 noMarks = replicate 256 0
 
-module _ (ws table heads tails : List ℕ) (bytes donor top used : ℕ) where
+-- the words, the table, the heads and the tails that the walks are lent, and the summary
+module _ (ws table heads tails : List ℕ) (s : Summary) where
   abbrev pub tally : Tally
-  tally = tallyOf bytes donor top (shape ws bytes)
+  tally = tallyOf s (shape ws (s .bytes))
 
   abbrev pub marksOf : List ℕ
-  marksOf = markAll bytes donor top noMarks (shape ws bytes)
+  marksOf = markAll s noMarks (shape ws (s .bytes))
 
   abbrev pub metAll : ℕ
-  metAll = total (λ i. length (listAt ws table heads tails bytes i)) (numbersFrom 0 (length table)) % 2 ^ 32
+  metAll = total (λ i. length (listAt ws table heads tails (s .bytes) i)) (numbersFrom 0 (length table)) % 2 ^ 32
 
   abbrev pub countsIn : Counts
   countsIn = record { chunks = tally .chunks; ordinary = tally .ordinary; used = tally .used; free = tally .free }
@@ -50,10 +53,10 @@ module _ (ws table heads tails : List ℕ) (bytes donor top used : ℕ) where
   -- both walks come through, and what they count agrees
   unfoldable pub walksWell : Bool
   walksWell =
-      allSound ws bytes donor top 0 (shape ws bytes)
-      && settled tally bytes donor
-      && eqb (tally .used) used
-      && allWhole ws table heads tails bytes marksOf (numbersFrom 0 (length table))
+      allSound ws s 0 (shape ws (s .bytes))
+      && isSettledM tally s
+      && eqb (tally .used) (s .used)
+      && allWhole ws table heads tails (s .bytes) marksOf (numbersFrom 0 (length table))
       && eqb metAll (tally .ordinary)
 
   unfoldable pub WalkedIs : Audit → Type 0
@@ -65,23 +68,7 @@ unfoldable pub AuditIs : List ℕ → Heap → Audit → Type 0
 AuditIs ws h Fails = passes ws h ≡ false
 AuditIs ws h (Passes c) = (passes ws h ≡ true) × (c ≡ countsOf h (shape ws (h .bytes)))
 
--- a record of these parts, whatever its merge setting
-abbrev pub recordWith : Bool → ℕ → ℕ → List ℕ → List ℕ → List ℕ → Chunk → Chunk → ℕ → Heap
-recordWith merge bytes bins sizes heads tails donor top used =
-    record {
-      bytes = bytes;
-      bins = bins;
-      sizes = sizes;
-      heads = heads;
-      tails = tails;
-      donor = donor;
-      top = top;
-      merge = merge;
-      used = used;
-    }
-
 -- what a look at the parts of a record finds, if its arrays have their places
-abbrev pub LookIs : List ℕ → ℕ → ℕ → List ℕ → List ℕ → List ℕ → Chunk → Chunk → ℕ → Audit → Type 0
-LookIs ws bytes bins sizes heads tails donor top used r =
-    (merge : Bool) → length sizes ≡ 32 → length heads ≡ 32 → length tails ≡ 32
-    → AuditIs ws (recordWith merge bytes bins sizes heads tails donor top used) r
+abbrev pub LookIs : List ℕ → Summary → List ℕ → List ℕ → List ℕ → Audit → Type 0
+LookIs ws s sizes heads tails r =
+    length sizes ≡ 32 → length heads ≡ 32 → length tails ≡ 32 → AuditIs ws (recordOf s sizes heads tails) r

@@ -1,4 +1,1 @@
-pub mod Chunks
-pub mod Survey
-pub mod Sweep
 pub mod Audit

@@ -1,24 +1,24 @@
 // The check, in time linear in the chunks: one walk of the chain that marks each ordinary chunk, one walk of each
 // bin's list that clears the marks. Nothing is written into the region.
 ghost use mathlib.Core.Path.{_≡_};
-ghost use Rattle.audit.specs.Audit.{fitsLength, settled, tabledAs, WalkedIs, LookIs};
+ghost use Rattle.audit.specs.Audit.{fitsLengthM, isSettledM, isTabledM, WalkedIs, LookIs};
 ghost use Rattle.rules.specs.Check.{passes, unusedFrom};
 ghost use Rattle.rules.specs.Merge.{checked};
-use crate::survey::Survey;
-use crate::survey::Tally;
-use crate::survey::walk;
-use crate::sweep::Sweep;
-use crate::sweep::sweep_bins;
+use marks::MARK_WORDS;
 use record::answers::Answer;
 use record::answers::Counts;
 use record::answers::Refusal;
 use record::heap::Heap;
+use record::heap::Summary;
 use record::table::valid;
-use region::Chunk;
-
-pub mod chunks;
-pub mod survey;
-pub mod sweep;
+use region::END_SIZE;
+use region::FEWEST_WORDS;
+use region::MOST_WORDS;
+use survey::Survey;
+use survey::Tally;
+use survey::walk;
+use sweep::Sweep;
+use sweep::sweep_bins;
 
 pub enum Audit {
     Passes(Counts),
@@ -27,18 +27,18 @@ pub enum Audit {
 
 // The region has a permitted number of words, and the heap bytes are all of them but an odd last one.
 pub fn fits_length(words: usize, bytes: u32) -> bool
-    ensures { λ r. ⌜ r ≡ fitsLength words bytes ⌝ }
+    ensures { λ r. ⌜ r ≡ fitsLengthM words bytes ⌝ }
 {
-    if words < 10 {
+    if words < FEWEST_WORDS {
         return false;
     }
-    if 16384 < words {
+    if MOST_WORDS < words {
         return false;
     }
     words / 2 * 8 == bytes as usize
 }
 
-// From a place of an array on there is nothing but 0. Without an early end the loop takes several places at a time.
+// From a place of an array on there is nothing but 0. The loop has no early exit, so that the compiler can test several places at a time.
 pub fn is_unused(array: &[u32], from: usize) -> bool
     ensures { λ r. ⌜ r ≡ unusedFrom from (now (array .entry)) ⌝ }
 {
@@ -53,7 +53,7 @@ pub fn is_unused(array: &[u32], from: usize) -> bool
 
 // The table is valid, and the places past the bin count are unused.
 pub fn is_tabled<'a>(bins: usize, sizes: &[u32], heads: &'a [u32], tails: &'a [u32]) -> bool
-    ensures { λ r. ⌜ r ≡ tabledAs bins (now (sizes .entry)) (now (heads .entry)) (now (tails .entry)) ⌝ }
+    ensures { λ r. ⌜ r ≡ isTabledM bins (now (sizes .entry)) (now (heads .entry)) (now (tails .entry)) ⌝ }
 {
     if sizes.len() < bins {
         return false;
@@ -70,17 +70,17 @@ pub fn is_tabled<'a>(bins: usize, sizes: &[u32], heads: &'a [u32], tails: &'a [u
     is_unused(tails, bins)
 }
 
-// What the walk of the chain must have come to: the end chunk, a top, and a donor if there is one.
-pub fn is_settled(tally: Tally, bytes: u32, donor: Chunk) -> bool
-    ensures { λ r. ⌜ r ≡ settled tally bytes (donor .0) ⌝ }
+// What the walk of the chain must have come to: the end chunk, a top, and a donor if the record names one.
+pub fn is_settled(tally: Tally, summary: Summary) -> bool
+    ensures { λ r. ⌜ r ≡ isSettledM tally summary ⌝ }
 {
-    if tally.end as u64 + 8 != bytes as u64 {
+    if tally.end as u64 + END_SIZE as u64 != summary.bytes as u64 {
         return false;
     }
     if tally.tops == 0 {
         return false;
     }
-    if donor.0 == 0 {
+    if summary.donor.0 == 0 {
         return true;
     }
     tally.donors != 0
@@ -92,25 +92,22 @@ pub fn walk_all<'a>(
     table: &[u32],
     heads: &'a [u32],
     tails: &'a [u32],
-    bytes: u32,
-    donor: Chunk,
-    top: Chunk,
-    used: u32,
+    summary: Summary,
 ) -> Audit
-    ensures { λ r. ⌜ WalkedIs (now (region .entry)) (now (table .entry)) (now (heads .entry)) (now (tails .entry)) bytes (donor .0) (top .0) used r ⌝ }
+    ensures { λ r. ⌜ WalkedIs (now (region .entry)) (now (table .entry)) (now (heads .entry)) (now (tails .entry)) summary r ⌝ }
 {
-    let mut marks = [0u32; 256];
-    let survey = walk(region, bytes, donor, top, &mut marks);
+    let mut marks = [0u32; MARK_WORDS];
+    let survey = walk(region, summary, &mut marks);
     let Survey::Surveyed(tally) = survey else {
         return Audit::Fails;
     };
-    if !is_settled(tally, bytes, donor) {
+    if !is_settled(tally, summary) {
         return Audit::Fails;
     }
-    if tally.used != used {
+    if tally.used != summary.used {
         return Audit::Fails;
     }
-    let sweep = sweep_bins(region, &mut marks, table, heads, tails, bytes);
+    let sweep = sweep_bins(region, &mut marks, table, heads, tails, summary.bytes);
     let Sweep::Clean(met) = sweep else {
         return Audit::Fails;
     };
@@ -125,55 +122,33 @@ pub fn walk_all<'a>(
     })
 }
 
-// The whole check, of a record's parts: they are lent, so that no record need be copied for it.
-// An odd last word is not lent to the walks, so that nothing below can reach it.
+// The whole check, of a record's parts: its arrays are lent, so that they are not copied for it.
+// An odd last word is not lent to the walks, so that no function below can read it.
 pub fn look<'a>(
     region: &[u32],
-    bytes: u32,
-    bins: usize,
+    summary: Summary,
     sizes: &'a [u32],
     heads: &'a [u32],
     tails: &'a [u32],
-    donor: Chunk,
-    top: Chunk,
-    used: u32,
 ) -> Audit
-    ensures { λ r. ⌜ LookIs (now (region .entry)) bytes bins (now (sizes .entry)) (now (heads .entry)) (now (tails .entry)) donor top used r ⌝ }
+    ensures { λ r. ⌜ LookIs (now (region .entry)) summary (now (sizes .entry)) (now (heads .entry)) (now (tails .entry)) r ⌝ }
 {
-    if !fits_length(region.len(), bytes) {
+    if !fits_length(region.len(), summary.bytes) {
         return Audit::Fails;
     }
+    let bins = summary.bins as usize;
     if !is_tabled(bins, sizes, heads, tails) {
         return Audit::Fails;
     }
-    let even = (bytes / 4) as usize;
-    walk_all(
-        &region[..even],
-        &sizes[..bins],
-        heads,
-        tails,
-        bytes,
-        donor,
-        top,
-        used,
-    )
+    let even = (summary.bytes / 4) as usize;
+    walk_all(&region[..even], &sizes[..bins], heads, tails, summary)
 }
 
 // The check as a call answers it: the four counts, or the refusal.
 pub fn verdict(region: &[u32], h: Heap) -> Answer
     ensures { λ r. ⌜ r ≡ checked (now (region .entry)) h ⌝ }
 {
-    let found = look(
-        region,
-        h.bytes,
-        h.bins as usize,
-        &h.sizes,
-        &h.heads,
-        &h.tails,
-        h.donor,
-        h.top,
-        h.used,
-    );
+    let found = look(region, h.summary(), &h.sizes, &h.heads, &h.tails);
     match found {
         Audit::Passes(counts) => Answer::Counted(counts),
         Audit::Fails => Answer::Refused(Refusal::HeapFails),
@@ -184,17 +159,7 @@ pub fn verdict(region: &[u32], h: Heap) -> Answer
 pub fn passes(region: &[u32], h: Heap) -> bool
     ensures { λ r. ⌜ r ≡ passes (now (region .entry)) h ⌝ }
 {
-    let found = look(
-        region,
-        h.bytes,
-        h.bins as usize,
-        &h.sizes,
-        &h.heads,
-        &h.tails,
-        h.donor,
-        h.top,
-        h.used,
-    );
+    let found = look(region, h.summary(), &h.sizes, &h.heads, &h.tails);
     match found {
         Audit::Passes(_) => true,
         Audit::Fails => false,

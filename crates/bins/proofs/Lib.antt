@@ -1,6 +1,3 @@
-pub mod BooksSteps
-pub mod RunsLaws
-pub mod BooksLaws
+pub mod BinsSteps
+pub mod BinsMeaning
 pub mod SearchLaws
-pub mod HeapBooks
-pub mod WayLaws

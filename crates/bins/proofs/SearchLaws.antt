@@ -10,7 +10,7 @@ use borrow.Author.Tests.{eq-eqb, ne-eqb}
 use Rattle.lists.specs.Lists.{Mem, headOr, keep, gathered, numbersFrom}
 use Rattle.region.specs.Words.{word, size, nextInBin}
 use Rattle.rules.proofs.ShapeLaws.{Leads}
-use Rattle.bins.specs.Books.{firstFitM, someEnd, nextOccupiedM}
+use Rattle.bins.specs.Bins.{steps, firstFitM, someEnd, nextOccupiedM}
 
 pub first-fit-steps : (left : ℕ) (ws : List ℕ) (need : ℕ) (cs : List ℕ) → length cs ≤ left → Leads ws cs
     → firstFitM left ws need (headOr 0 cs) ≡ headOr 0 (keep (λ c. leb need (word ws c size)) cs)
@@ -29,9 +29,9 @@ first-fit-steps (suc left) ws need (c ∷ cs) h l =
     go true e = refl
     go false e = rw (l .1) e
 
-pub first-fit-is : (ws : List ℕ) (need : ℕ) (cs : List ℕ) → Leads ws cs → length cs ≤ 8192
-    → firstFitM 8192 ws need (headOr 0 cs) ≡ headOr 0 (keep (λ c. leb need (word ws c size)) cs)
-first-fit-is ws need cs l h = first-fit-steps 8192 ws need cs h l
+pub first-fit-is : (ws : List ℕ) (need : ℕ) (cs : List ℕ) → Leads ws cs → length cs ≤ steps
+    → firstFitM steps ws need (headOr 0 cs) ≡ headOr 0 (keep (λ c. leb need (word ws c size)) cs)
+first-fit-is ws need cs l h = first-fit-steps steps ws need cs h l
 
 module _ (heads : List ℕ) (lists : ℕ → List ℕ) (bins : ℕ)
     (ends : (j : ℕ) → j < bins → getD heads j 0 ≡ headOr 0 (lists j))

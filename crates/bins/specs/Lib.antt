@@ -1,1 +1,1 @@
-pub mod Books
+pub mod Bins

@@ -1,26 +1,39 @@
-// The bins' doubly linked lists: leaving one, putting into one, and the two searches. Head and tail of a bin stand in
-// two slices, the links in the region. Which bin a chunk belongs in is not known here.
+// The bins' free lists, which are doubly linked: leaving one, putting into one, first fit in one, and the next bin that is not empty.
+// Head and tail of a bin stand in two slices, the links in the region. Which bin a chunk belongs in is not known here.
 ghost use mathlib.Core.Path.{_≡_};
 ghost use Prim.Native.Nat.{_*_, _%_};
 ghost use lib.ListN.{getD, set};
-ghost use Rattle.bins.specs.Books.{books, side, linkM, leaveM, putM, firstFitM, nextOccupiedM, putIntoM};
+ghost use Rattle.books.specs.Books.{books};
+ghost use Rattle.bins.specs.Bins.{side, linkM, leaveM, putM, firstFitM, nextOccupiedM, putIntoM, slot, steps};
+use record::heap::PLACES;
 use region::BIN;
 use region::Chunk;
+use region::MOST_WORDS;
 use region::NEXT_IN_BIN;
 use region::PREVIOUS_IN_BIN;
 use region::SIZE;
 use region::store;
 use region::word;
 
-// A number past the last bin has no list: its ends read 0.
-pub fn end_of(ends: &[u32], bin: usize) -> u32
+// More steps along a list than the largest region has chunks, each of which has two words at least: damaged links might form a ring.
+const STEPS: u32 = MOST_WORDS as u32 / 2;
+
+// A place in a bin's list: between the chunks at `before` and at `after`, or 0 where the list ends.
+pub struct Slot {
+    pub bin: usize,
+    pub before: u32,
+    pub after: u32,
+}
+
+// An end of the list of a bin, from the slice of all heads or of all tails. A number past the last bin has no list: its ends read 0.
+pub fn list_end(ends: &[u32], bin: usize) -> u32
     ensures { λ r. ⌜ r ≡ getD (now (ends .entry)) bin 0 ⌝ }
 {
     if bin < ends.len() { ends[bin] } else { 0 }
 }
 
-// Of a number past the last bin nothing is kept.
-pub fn set_end(ends: &mut [u32], bin: usize, place: u32)
+// A number past the last bin has no list: nothing is written.
+pub fn set_list_end(ends: &mut [u32], bin: usize, place: u32)
     ensures { λ _. ⌜ now (ends .exit) ≡ set (now (ends .entry)) bin place ⌝ }
 {
     if bin < ends.len() {
@@ -28,11 +41,11 @@ pub fn set_end(ends: &mut [u32], bin: usize, place: u32)
     }
 }
 
-// There are at most 32 bins, so the remainder changes no bin's number: it keeps the product small.
+// There are at most 32 bins, so that the remainder changes no bin's number. With it the product fits, whatever the caller hands in.
 pub fn bin_word(bin: usize) -> u32
     ensures { λ r. ⌜ r ≡ bin % 32 * 8 ⌝ }
 {
-    (bin % 32) as u32 * 8
+    (bin % PLACES) as u32 * 8
 }
 
 // The start chunk, at 0, is in no list: a link from 0 is the end of the list.
@@ -40,7 +53,7 @@ fn link(region: &mut [u32], ends: &mut [u32], bin: usize, from: u32, number: u32
     ensures { λ _. ⌜ side (now (region .exit)) (now (ends .exit)) ≡ linkM (side (now (region .entry)) (now (ends .entry))) bin from number to ⌝ }
 {
     if from == 0 {
-        set_end(ends, bin, to);
+        set_list_end(ends, bin, to);
         return;
     }
     store(region, Chunk(from), number, to);
@@ -57,43 +70,49 @@ pub fn leave(region: &mut [u32], heads: &mut [u32], tails: &mut [u32], chunk: Ch
     link(region, tails, bin, next, PREVIOUS_IN_BIN, previous);
 }
 
-// `before` and `after` are neighbours in the bin's list, or 0 where the list ends.
 pub fn put_between(
     region: &mut [u32],
     heads: &mut [u32],
     tails: &mut [u32],
-    bin: usize,
-    before: u32,
+    slot: Slot,
     chunk: Chunk,
-    after: u32,
 )
-    ensures { λ _. ⌜ books (now (region .exit)) (now (heads .exit)) (now (tails .exit)) ≡ putM (books (now (region .entry)) (now (heads .entry)) (now (tails .entry))) bin before (chunk .0) after ⌝ }
+    ensures { λ _. ⌜ books (now (region .exit)) (now (heads .exit)) (now (tails .exit)) ≡ putM (books (now (region .entry)) (now (heads .entry)) (now (tails .entry))) slot (chunk .0) ⌝ }
 {
-    link(region, heads, bin, before, NEXT_IN_BIN, chunk.0);
-    store(region, chunk, PREVIOUS_IN_BIN, before);
-    store(region, chunk, NEXT_IN_BIN, after);
-    link(region, tails, bin, after, PREVIOUS_IN_BIN, chunk.0);
+    let bin = slot.bin;
+    link(region, heads, bin, slot.before, NEXT_IN_BIN, chunk.0);
+    store(region, chunk, PREVIOUS_IN_BIN, slot.before);
+    store(region, chunk, NEXT_IN_BIN, slot.after);
+    link(region, tails, bin, slot.after, PREVIOUS_IN_BIN, chunk.0);
     store(region, chunk, BIN, bin_word(bin));
 }
 
-// Bins of the small array are filled from here: the chunk freed last is found first.
+// Bins of the small array are last in, first out.
 pub fn put_head(region: &mut [u32], heads: &mut [u32], tails: &mut [u32], bin: usize, chunk: Chunk)
-    ensures { λ _. ⌜ books (now (region .exit)) (now (heads .exit)) (now (tails .exit)) ≡ putM (books (now (region .entry)) (now (heads .entry)) (now (tails .entry))) bin 0 (chunk .0) (getD (now (heads .entry)) bin 0) ⌝ }
+    ensures { λ _. ⌜ books (now (region .exit)) (now (heads .exit)) (now (tails .exit)) ≡ putM (books (now (region .entry)) (now (heads .entry)) (now (tails .entry))) (slot bin 0 (getD (now (heads .entry)) bin 0)) (chunk .0) ⌝ }
 {
-    let first = end_of(heads, bin);
-    put_between(region, heads, tails, bin, 0, chunk, first);
+    let slot = Slot {
+        bin: bin,
+        before: 0,
+        after: list_end(heads, bin),
+    };
+    put_between(region, heads, tails, slot, chunk);
 }
 
-// The other bins are filled from here: the chunk freed first is found first.
+// All other bins are first in, first out.
 pub fn put_tail(region: &mut [u32], heads: &mut [u32], tails: &mut [u32], bin: usize, chunk: Chunk)
-    ensures { λ _. ⌜ books (now (region .exit)) (now (heads .exit)) (now (tails .exit)) ≡ putM (books (now (region .entry)) (now (heads .entry)) (now (tails .entry))) bin (getD (now (tails .entry)) bin 0) (chunk .0) 0 ⌝ }
+    ensures { λ _. ⌜ books (now (region .exit)) (now (heads .exit)) (now (tails .exit)) ≡ putM (books (now (region .entry)) (now (heads .entry)) (now (tails .entry))) (slot bin (getD (now (tails .entry)) bin 0) 0) (chunk .0) ⌝ }
 {
-    let last = end_of(tails, bin);
-    put_between(region, heads, tails, bin, last, chunk, 0);
+    let slot = Slot {
+        bin: bin,
+        before: list_end(tails, bin),
+        after: 0,
+    };
+    put_between(region, heads, tails, slot, chunk);
 }
 
-// Where a chunk is put: at the head of a bin of the small array, whose chunks are all of one size, at the tail of any other.
-pub fn put(
+// Where a chunk is put: at the head of a bin of the small array, at the tail of any other. `small` is the number of the small array's bins.
+pub fn put_into(
     region: &mut [u32],
     heads: &mut [u32],
     tails: &mut [u32],
@@ -110,12 +129,12 @@ pub fn put(
     put_tail(region, heads, tails, bin, chunk);
 }
 
-// More steps than the largest region has chunks: damaged links might go round for ever.
+// First fit: the first chunk of a list, in its order, that has the need. Chunk(0), the start chunk, says that there is none.
 pub fn first_fit(region: &[u32], first: Chunk, need: u32) -> Chunk
-    ensures { λ r. ⌜ r .0 ≡ firstFitM 8192 (now (region .entry)) need (first .0) ⌝ }
+    ensures { λ r. ⌜ r .0 ≡ firstFitM steps (now (region .entry)) need (first .0) ⌝ }
 {
     let mut at = first.0;
-    let mut left: u32 = 8192;
+    let mut left = STEPS;
     while left > 0 {
         if at == 0 {
             return Chunk(0);
@@ -129,7 +148,7 @@ pub fn first_fit(region: &[u32], first: Chunk, need: u32) -> Chunk
     Chunk(0)
 }
 
-// Every chunk of a bin above is large enough, so its head will do.
+// The head of the next bin above this one that is not empty: each chunk of it is larger than every need of this bin.
 pub fn next_occupied(heads: &[u32], above: usize, bins: usize) -> Chunk
     ensures { λ r. ⌜ r .0 ≡ nextOccupiedM (now (heads .entry)) above bins ⌝ }
 {
@@ -138,7 +157,7 @@ pub fn next_occupied(heads: &[u32], above: usize, bins: usize) -> Chunk
     }
     let mut i = above + 1;
     while i < bins {
-        let head = end_of(heads, i);
+        let head = list_end(heads, i);
         if head != 0 {
             return Chunk(head);
         }

@@ -5,8 +5,12 @@ ghost use lib.ListN.{length, replicate};
 ghost use Rattle.blocks.specs.Blocks.{clearedM, copiedM};
 use region::Block;
 use region::Chunk;
+use region::OVERHEAD;
 use region::store;
 use region::word;
+
+// The first word of a block, by its number in the chunk: it follows the two links.
+const FIRST: u32 = OVERHEAD / 4;
 
 fn clear(words: &mut [u32])
     ensures { λ _. ⌜ now (words .exit) ≡ replicate (length (now (words .entry))) 0 ⌝ }
@@ -18,7 +22,7 @@ fn clear(words: &mut [u32])
     }
 }
 
-// Up to `end`, where the block's chunk ends. Where this is no part of the region, which no heap that passes has, nothing is done.
+// Up to `end`, where the block's chunk ends. A part that is not inside the region, which no heap that passes has, is left alone.
 pub fn clear_block(region: &mut [u32], block: Block, end: u32)
     ensures { λ _. ⌜ now (region .exit) ≡ clearedM (now (region .entry)) (block .0) end ⌝ }
 {
@@ -37,7 +41,7 @@ pub fn clear_block(region: &mut [u32], block: Block, end: u32)
 pub fn copy_block(region: &mut [u32], from: Chunk, to: Chunk, words: u32)
     ensures { λ _. ⌜ now (region .exit) ≡ copiedM (words - 2) (now (region .entry)) (from .0) (to .0) 2 ⌝ }
 {
-    let mut number = 2;
+    let mut number = FIRST;
     while number < words {
         let value = word(region, from, number);
         store(region, to, number, value);

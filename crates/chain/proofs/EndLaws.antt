@@ -9,22 +9,22 @@ use Rattle.lists.proofs.ListsLaws.{less, both, not-so}
 use Rattle.region.specs.Words.{word, forward}
 use Rattle.rules.specs.Shape.{Entry, entry, flagsAt}
 use Rattle.rules.proofs.ShapeLaws.{Up, up?, chainFrom, shape-goes, shape-stops}
-use Rattle.chain.specs.Chain.{endOf}
+use Rattle.chain.specs.Chain.{endM}
 
 module _ (ws : List ℕ) (bytes : ℕ) where
   -- the chunk at c, as the code finds it
   abbrev pub endAt : ℕ → ℕ
-  endAt c = endOf bytes c (word ws c forward)
+  endAt c = endM bytes c (word ws c forward)
 
   abbrev pub hereAt : ℕ → Entry
   hereAt c = entry c (endAt c - c) (flagsAt ws c)
 
   end-up : (c : ℕ) → Up ws bytes c → endAt c ≡ word ws c forward
-  unfolding endOf
+  unfolding endM
   end-up c u = rw (lt-ltb c (word ws c forward) (u .0), lt-ltb (word ws c forward) bytes (u .1))
 
   end-stop : (c : ℕ) → (Up ws bytes c → ⊥) → endAt c ≡ bytes
-  unfolding endOf
+  unfolding endM
   end-stop c n = rw (not-so (both (less c (word ws c forward)) (less (word ws c forward) bytes)) n)
 
   -- the chain from c on is this chunk alone, or goes on where it ends
@@ -52,7 +52,7 @@ module _ (ws : List ℕ) (bytes : ℕ) where
       go (no k) = absurd (n (end-stop c k))
 
 -- a chunk does not end below its place
-pub end-above : (ws : List ℕ) (bytes c : ℕ) {n e : ℕ} → n ≡ word ws c forward → e ≡ endOf bytes c n → c ≤ bytes → c ≤ e
+pub end-above : (ws : List ℕ) (bytes c : ℕ) {n e : ℕ} → n ≡ word ws c forward → e ≡ endM bytes c n → c ≤ bytes → c ≤ e
 end-above ws bytes c en ee h = rw (ee, en) (go (ℕ-discrete (endAt ws bytes c) bytes))
   where
     go : Dec (endAt ws bytes c ≡ bytes) → c ≤ endAt ws bytes c

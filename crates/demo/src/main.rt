@@ -4,15 +4,11 @@ use io::print_decimal;
 use io::write_all;
 use record::answers::Answer;
 use record::heap::Heap;
+use record::questions::BIN_NUMBER;
+use record::questions::NEXT;
+use record::questions::SIZE;
+use record::questions::TYPE;
 use region::Block;
-
-const NEXT: u32 = 4;
-
-const BIN: u32 = 1;
-
-const SIZE: u32 = 8;
-
-const TYPE: u32 = 9;
 
 fn told(answer: Answer) -> u32 {
     match answer {
@@ -47,7 +43,7 @@ fn print_free(region: &mut [u32], heap: Heap, chunk: u32) {
         return;
     }
     write_all(1, b"free ");
-    print_decimal(1, ask(region, heap, BIN, chunk) as u64);
+    print_decimal(1, ask(region, heap, BIN_NUMBER, chunk) as u64);
     write_all(1, b"\n");
 }
 
@@ -73,10 +69,15 @@ fn print_chunk(region: &mut [u32], heap: Heap, chunk: u32) {
     print_kind(region, heap, chunk);
 }
 
-// A heap of 64 words has no more than 32 chunks.
+// The words of the demonstration's region.
+const REGION_WORDS: usize = 64;
+
+// Every chunk has two words at least.
+const MOST_CHUNKS: u32 = REGION_WORDS as u32 / 2;
+
 fn print_chunks(region: &mut [u32], heap: Heap) {
     let mut chunk = 0;
-    let mut left = 32u32;
+    let mut left = MOST_CHUNKS;
     while left != 0 {
         print_chunk(region, heap, chunk);
         chunk = ask(region, heap, NEXT, chunk);
@@ -104,7 +105,7 @@ fn churn(region: &mut [u32], full: Heap) -> Heap {
 }
 
 fn main() {
-    let mut region = [0u32; 64];
+    let mut region = [0u32; REGION_WORDS];
     let table = [24u32, 32, 40, 128];
     let fresh = heap::setup(&mut region, &table, 64, true).heap;
     let full = fill(&mut region, fresh);

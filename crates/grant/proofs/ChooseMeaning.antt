@@ -8,8 +8,8 @@ use native.Mathlib.Omega.{arith}
 use lib.Dec.{leb}
 use lib.ListN.{length}
 use borrow.Author.Tests.{eq-eqb}
-use Rattle.bins.specs.Books.{firstFitM, nextOccupiedM}
-use Rattle.bins.proofs.HeapBooks.{member-entry, list-head, list-nodes, list-short, leads-is}
+use Rattle.bins.specs.Bins.{firstFitM, nextOccupiedM, steps}
+use Rattle.books.proofs.HeapBooks.{member-entry, list-head, list-nodes, list-short, leads-is}
 use Rattle.bins.proofs.SearchLaws.{first-fit-is, next-occupied-is}
 use Rattle.lists.specs.Lists.{Mem, headOr}
 use Rattle.lists.proofs.MembersLaws.{kept-same}
@@ -17,7 +17,7 @@ use Rattle.record.specs.declared.heap.Heap.{Heap}
 use Rattle.record.specs.declared.sources.Source.the-variants.{FromDonor, FromTop, Nowhere}
 use Rattle.record.specs.declared.table.Binned.{Binned}
 use Rattle.record.specs.declared.table.Binned.the-variants.{Bin, NoBin}
-use Rattle.record.specs.Heap.{tableOf}
+use Rattle.record.specs.Heap.{tableOf, summaryOf}
 use Rattle.record.specs.Table.{TakenBy, small, binOf}
 use Rattle.record.proofs.TableLaws.{bin-taken}
 use Rattle.region.specs.Words.{word, size}
@@ -26,23 +26,20 @@ use Rattle.rules.specs.Check.{Passes}
 use Rattle.rules.specs.Draft.{asRead}
 use Rattle.rules.specs.Serve.{sizeOn, fromBin, ownBin, tryDonor, largerBin, tryTop, chosen}
 use Rattle.rules.specs.Shape.{Entry, shape, binList}
-use Rattle.rules.proofs.SpotLaws.{spot-at}
+use Rattle.rules.proofs.SpotLaws.{size-on}
 use Rattle.rules.proofs.NamedLaws.{top-here, donor-here}
 use Rattle.rules.proofs.CheckLaws.{table-bins}
 use Rattle.grant.specs.Choose.{ownM, largerM, donorM, topM, chooseM}
 
 module _ (ws : List ℕ) (h : Heap) (p : Passes ws h) (n : ℕ) where
-  abbrev pub es : List Entry
+  abbrev es : List Entry
   es = shape ws (h .bytes)
 
   -- the size word of a member, of the donor and of the top is the distance to the next chunk
-  pub size-on : (c : ℕ) (e : Entry) → Mem e es → e .place ≡ c → sizeOn es c ≡ e .size
-  size-on c e m q = ap (λ (d : Entry). d .size) (spot-at ws h p c e m q .1)
-
   member-size : (i c : ℕ) → i < h .bins → Mem c (binList ws h i) → word ws c size ≡ sizeOn es c
   member-size i c l m =
       let r = member-entry ws h p i c l m in
-      r .1 .sized ∙ sym (size-on c (r .0) (r .1 .member) (r .1 .place))
+      r .1 .sized ∙ sym (size-on ws h p c (r .0) (r .1 .member) (r .1 .place))
 
   top-size : word ws (h .top .0) size ≡ sizeOn es (h .top .0)
   top-size = let t = top-here ws h p in rw (t .place) at (t .free .sized)
@@ -56,7 +53,7 @@ module _ (ws : List ℕ) (h : Heap) (p : Passes ws h) (n : ℕ) where
   own-is (Bin i) k =
       let l : i < h .bins = rw (table-bins h (p .table)) at (k .inside) in
       ap fromBin
-      (ap (firstFitM 8192 ws n) (list-head ws h p i)
+      (ap (firstFitM steps ws n) (list-head ws h p i)
       ∙ first-fit-is ws n (binList ws h i) (leads-is ws h p i l) (list-short ws h p i)
       ∙ ap (headOr 0) (kept-same _ _ (binList ws h i) (λ c m. ap (leb n) (member-size i c l m))))
   own-is NoBin k = refl
@@ -86,7 +83,7 @@ module _ (ws : List ℕ) (h : Heap) (p : Passes ws h) (n : ℕ) where
   unfolding topM
   top-is = rw top-size
 
-  pub choose-is : chooseM ws (tableOf h) (h .heads) (h .donor .0) (h .top .0) n ≡ sourceOf n (asRead ws h)
+  pub choose-is : chooseM ws (tableOf h) (h .heads) (summaryOf h) n ≡ sourceOf n (asRead ws h)
   unfolding chooseM chosen asRead
   choose-is =
       let t = bin-taken (tableOf h) n in

@@ -13,9 +13,10 @@ use borrow.Author.Tests.{eq-eqb, ne-eqb, le-leb, lt-leb}
 use Rattle.lists.specs.Lists.{Mem, headOr, lastOr}
 use Rattle.lists.proofs.SplitLaws.{in-split}
 use Rattle.record.specs.declared.heap.Heap.{Heap}
+use Rattle.record.specs.declared.heap.Summary.{Summary}
 use Rattle.record.specs.declared.kinds.Kind.{Kind}
 use Rattle.record.specs.declared.kinds.Kind.the-variants.{Start, InUse, Ordinary, Donor, Top, End}
-use Rattle.record.specs.Heap.{at, tableOf, with, withUsed}
+use Rattle.record.specs.Heap.{at, tableOf, summaryOf, usedNow, withSummary, withEnds, withUsed}
 use Rattle.region.proofs.WordsLaws.{written-append}
 use Rattle.headers.specs.Headers.{aboveWords, freeWords, usedWords}
 use Rattle.rules.specs.Shape.{Entry, entry, shape, binList, flagsAt}
@@ -23,17 +24,18 @@ use Rattle.rules.specs.Kinds.{kindOf, ordinaryKind, freeKind, ordinary, unused,
 use Rattle.rules.specs.Check.{Passes}
 use Rattle.rules.specs.Draft.{Draft, asRead, relink, settle}
 use Rattle.rules.specs.Cut.{Grant, grantAt, leaveAs}
-use Rattle.rules.proofs.SpotLaws.{Around, bounds, inside, around, apart, one-chunk}
+use Rattle.rules.proofs.SpotLaws.{Around, bounds, inside, around, chunks-apart, one-chunk}
 use Rattle.rules.proofs.NamedLaws.{Free}
-use Rattle.rules.proofs.KindsLaws.{ordinary-kind, free-kinds}
-use Rattle.bins.specs.Books.{books}
-use Rattle.bins.proofs.BooksLaws.{Far}
-use Rattle.bins.proofs.HeapBooks.{member-entry, member-below, ordinary-listed}
-use Rattle.settling.specs.Settling.{leaveBinM, alsoWritten, donorAfter, topAfter}
-use Rattle.settling.proofs.DraftLaws.{booksOf, Clears, Follows, Settled, begins, leave-step, relink-follows, settle-step}
+use Rattle.rules.proofs.KindsLaws.{free-kinds}
+use Rattle.books.specs.Books.{books, booksOf}
+use Rattle.books.proofs.BooksLaws.{Far}
+use Rattle.books.proofs.HeapBooks.{member-entry, member-below, ordinary-listed}
+use Rattle.settling.specs.Settling.{leaveBinM, alsoWritten, settledM}
+use Rattle.settling.proofs.SettledLaws.{settled-keeps, settled-ordinary}
+use Rattle.settling.proofs.DraftLaws.{Clears, Follows, Settled, follows-begins, leave-step, relink-follows, settle-step}
 use Rattle.grant.specs.declared.cut.Cut.{Cut}
 use Rattle.grant.specs.Cut.{grantedM, cutM, takeM}
-use Rattle.grant.proofs.CutLaws.{grants-part, grants-all}
+use Rattle.drafts.proofs.CutLaws.{grants-part, grants-all}
 
 -- the chunk e of kind k, between low and high, from which n bytes can be granted
 pub record Serving (ws : List ℕ) (h : Heap) (n : ℕ) (k : Kind) (low : List Entry) (e : Entry) (high : List Entry) : Type 0 where
@@ -55,21 +57,20 @@ unfolding grantedM
 granted-all n s l = rw (lt-leb (n + 24) s l)
 
 -- a record that says m bytes more are used
-more-used : (h : Heap) {a : Heap} {heads tails : List ℕ} {donor top : ℕ} (m : ℕ) → a ≡ with h heads tails donor top (h .merge) (h .used)
-    → withUsed a (a .used + m - 0) ≡ with h heads tails donor top (h .merge) (h .used + m)
-more-used h m q = rw (q, sub-zero)
+more-used : (h : Heap) {a : Heap} {heads tails : List ℕ} {s : Summary} (m : ℕ) → s .used ≡ h .used → a ≡ withEnds (withSummary h s) heads tails
+    → withUsed a (a .used + m - 0) ≡ withEnds (withSummary h (usedNow s (h .used + m))) heads tails
+more-used h m u q = rw (q, u, sub-zero)
 
 -- the words, the bins' ends and the record after the grant g of m bytes, for which n were asked, from the chunk e of kind k
 pub record Taken (ws : List ℕ) (h : Heap) (n : ℕ) (k : Kind) (e : Entry) (m : ℕ) (g : Grant) : Type 0 where
   pub is : takeM (books ws (h .heads) (h .tails)) (tableOf h) k (cutM ws (e .place) n) ≡ booksOf ws (g .draft)
   pub rest : cutM ws (e .place) n .rest .0 ≡ e .place + m
   pub granted : g .granted ≡ entry (e .place) m used
-  pub housed : g .draft .homeless ≡ false
   pub heap : g .draft .heap
-      ≡ with h (g .draft .heap .heads) (g .draft .heap .tails) (donorAfter k (e .place + m) (h .donor .0)) (topAfter k (e .place + m) (h .top .0)) (h .merge) (h .used + m)
+      ≡ withEnds (withSummary h (usedNow (settledM (summaryOf h) k (e .place + m)) (h .used + m))) (g .draft .heap .heads) (g .draft .heap .tails)
 
 -- the chunk e has left its bin, if it was in one
-record LeftBin (ws : List ℕ) (h : Heap) (e : Entry) (k : Kind) (after : Draft) : Type 0 where
+record OutOfBin (ws : List ℕ) (h : Heap) (e : Entry) (k : Kind) (after : Draft) : Type 0 where
   pub is : leaveBinM (booksOf ws (asRead ws h)) (ordinaryKind k) (e .place) ≡ booksOf ws after
   pub follows : Follows ws h after
   pub others : (j x : ℕ) → j < h .bins → Mem x (after .lists j) → x ≢ e .place
@@ -83,18 +84,18 @@ module _ {ws : List ℕ} {h : Heap} (p : Passes ws h) where
       false≢true (sym o ∙ ap (ordinary h) (sym s) ∙ r .1 .kind)
 
   -- a free chunk leaves its bin as its kind has it
-  leaves-as : (k : Kind) (e : Entry) → Mem e (shape ws (h .bytes)) → kindOf h e ≡ k → freeKind k ≡ true → LeftBin ws h e k (leaveAs k e (asRead ws h))
+  leaves-as : (k : Kind) (e : Entry) → Mem e (shape ws (h .bytes)) → kindOf h e ≡ k → freeKind k ≡ true → OutOfBin ws h e k (leaveAs k e (asRead ws h))
   unfolding leaveBinM asRead
   leaves-as Start e m q f = absurd (false≢true f)
   leaves-as InUse e m q f = absurd (false≢true f)
   leaves-as Ordinary e m q f =
       let b = ordinary-listed ws h p e m (ap ordinaryKind q) in
-      let g = leave-step ws h (asRead ws h) (begins ws h p) e (b .0) (b .1) (b .2) (b .3) in
+      let g = leave-step ws h (asRead ws h) (follows-begins ws h p) e (b .0) (b .1) (b .2) (b .3) in
       record { is = g .is; follows = g .follows; others = λ j x l k z. let a = g .far j x l k in omega arith }
   leaves-as Donor e m q f =
-      record { is = refl; follows = begins ws h p; others = λ j x l k. not-listed e m (ap ordinaryKind q) j x l (begins ws h p .from j x l k) }
+      record { is = refl; follows = follows-begins ws h p; others = λ j x l k. not-listed e m (ap ordinaryKind q) j x l (follows-begins ws h p .from j x l k) }
   leaves-as Top e m q f =
-      record { is = refl; follows = begins ws h p; others = λ j x l k. not-listed e m (ap ordinaryKind q) j x l (begins ws h p .from j x l k) }
+      record { is = refl; follows = follows-begins ws h p; others = λ j x l k. not-listed e m (ap ordinaryKind q) j x l (follows-begins ws h p .from j x l k) }
   leaves-as End e m q f = absurd (false≢true f)
 
   module _ {n : ℕ} (large : 24 ≤ n) (eight : n % 8 ≡ 0) {k : Kind} {low : List Entry} {e : Entry} {high : List Entry} (s : Serving ws h n k low e high) where
@@ -113,15 +114,15 @@ module _ {ws : List ℕ} {h : Heap} (p : Passes ws h) where
     abbrev out : Draft
     out = leaveAs k e (asRead ws h)
 
-    gone : LeftBin ws h e k out
+    gone : OutOfBin ws h e k out
     gone = leaves-as k e here (s .kind) (s .isFree)
 
     left-is : leaveBinM (books ws (h .heads) (h .tails)) (ordinaryKind k) (e .place) ≡ booksOf ws out
     unfolding asRead
     left-is = gone .is
 
-    -- where the chunk begins and ends, and what is below and above it
-    record Lies : Type 0 where
+    -- where the chunk follows-begins and ends, and what is below and above it
+    record CutBounds : Type 0 where
       pub place : e .place % 8 ≡ 0
       pub size : e .size % 8 ≡ 0
       pub down : below .place < 65536
@@ -130,8 +131,8 @@ module _ {ws : List ℕ} {h : Heap} (p : Passes ws h) where
       pub flags : above .flags ≤ 1
       pub fits : blockEnd e ≤ 4 * length ws
 
-    lies : Lies
-    lies =
+    bounded : CutBounds
+    bounded =
         let i = inside ws h p e here in
         let a = inside ws h p above (sides .above) in
         let b = s .free .between in
@@ -151,7 +152,7 @@ module _ {ws : List ℕ} {h : Heap} (p : Passes ws h) where
         → cutM ws (e .place) n ≡ record { below = at (below .place); chunk = at (e .place); rest = at (e .place + m); end = at (blockEnd e); flags = above .flags }
     unfolding cutM
     cut-reads m g u =
-        let l = lies in
+        let l = bounded in
         let r : (e .place + m) % 2 ^ 32 ≡ e .place + m = omega arith in
         let b : below .place + e .flags ≡ below .place = omega (arith, s .free .flags) in
         let f : flagsAt ws (blockEnd e) ≡ above .flags = ap (flagsAt ws) (sym (sides .abovePlace)) ∙ sym (inside ws h p above (sides .above) .stands) in
@@ -163,11 +164,11 @@ module _ {ws : List ℕ} {h : Heap} (p : Passes ws h) where
       listed = gone .follows .from j x lj m
 
       clears-here : Clears x (e .place)
-      clears-here = (lies .place, λ l. member-below ws h p j x lj listed e here l)
+      clears-here = (bounded .place, λ l. member-below ws h p j x lj listed e here l)
 
       clears-above : Clears x (above .place)
       clears-above =
-          let l = lies in
+          let l = bounded in
           (omega arith, λ u. member-below ws h p j x lj listed above (sides .above) u)
 
       -- it lies below the chunk or above it
@@ -175,14 +176,14 @@ module _ {ws : List ℕ} {h : Heap} (p : Passes ws h) where
       outside-it =
           let r = member-entry ws h p j x lj listed in
           let b = r .1 .is .free .between in
-          go (r .0) (r .1 .place) (b .some) (apart ws h p (r .0) e (r .1 .member) here (λ q. gone .others j x lj m (sym (r .1 .place) ∙ q)))
+          go (r .0) (r .1 .place) (b .some) (chunks-apart ws h p (r .0) e (r .1 .member) here (λ q. gone .others j x lj m (sym (r .1 .place) ∙ q)))
         where
           go : (d : Entry) → d .place ≡ x → 24 ≤ d .size → (blockEnd d ≤ e .place) ⊎ (blockEnd e ≤ d .place) → (x + 24 ≤ e .place) ⊎ (blockEnd e ≤ x)
           go d q z (inl l) = inl (omega arith)
           go d q z (inr l) = inr (omega arith)
 
       clears-rest : n + 24 ≤ e .size → Clears x (e .place + n)
-      clears-rest u = (let l = lies in omega arith, λ l. go outside-it l)
+      clears-rest u = (let l = bounded in omega arith, λ l. go outside-it l)
         where
           go : (x + 24 ≤ e .place) ⊎ (blockEnd e ≤ x) → x < e .place + n → x + 24 ≤ e .place + n
           go (inl a) l = omega arith
@@ -223,7 +224,7 @@ module _ {ws : List ℕ} {h : Heap} (p : Passes ws h) where
           ≡ booksOf ws cutUp
       unfolding relink usedWords freeWords aboveWords
       part-words =
-          let i = lies in
+          let i = bounded in
           let b : (below .place + 1) % 2 ^ 32 ≡ below .place + 1 = omega arith in
           let a : (e .place + n + above .flags) % 2 ^ 32 ≡ e .place + n + above .flags = omega arith in
           let z : e .place + n + (e .size - n) ≡ blockEnd e = omega arith in
@@ -233,7 +234,7 @@ module _ {ws : List ℕ} {h : Heap} (p : Passes ws h) where
       part-settles : (k₁ : Kind) → freeKind k₁ ≡ true → Settled ws h (booksOf ws cutUp) k₁ (e .place + n) (e .size - n) (settle k₁ rest cutUp)
       unfolding relink
       part-settles k₁ f =
-          let i = lies in
+          let i = bounded in
           let t =
           settle-step ws h cutUp part-follows p (e .place + n) (e .size - n) unused (omega arith)
           (record { eight = omega arith; some = omega arith; fits = omega arith }) (λ j x lj m. rest-far j x lj m l) in
@@ -254,8 +255,7 @@ module _ {ws : List ℕ} {h : Heap} (p : Passes ws h) where
             is = part-taken;
             rest = ap (λ (x : Cut). x .rest .0) (cut-reads n (granted-part n (e .size) l) (omega arith));
             granted = refl;
-            housed = t .housed;
-            heap = more-used h n (t .heap);
+            heap = more-used h n (settled-keeps (summaryOf h) k (e .place + n) .used) (t .heap);
           })
 
     -- nothing is left, so the chunk is ordinary
@@ -267,7 +267,7 @@ module _ {ws : List ℕ} {h : Heap} (p : Passes ws h) where
           ≡ booksOf ws (relink low (all ∷ []) high out)
       unfolding relink usedWords aboveWords
       all-words =
-          let i = lies in
+          let i = bounded in
           let b : (below .place + 1) % 2 ^ 32 ≡ below .place + 1 = omega arith in
           let a : (e .place + above .flags) % 2 ^ 32 ≡ e .place + above .flags = omega arith in
           rw (b, a, i .next, append-assoc, written-append)
@@ -284,9 +284,6 @@ module _ {ws : List ℕ} {h : Heap} (p : Passes ws h) where
           go true f = refl
           go false f = let g = f refl in absurd (omega arith)
 
-      stays : (k₁ : Kind) → ordinaryKind k₁ ≡ true → (c x : ℕ) → (donorAfter k₁ c x ≡ x) × (topAfter k₁ c x ≡ x)
-      stays k₁ o c x = rw (ordinary-kind k₁ o) (refl, refl)
-
       takes-all : Taken ws h n k e (e .size) grantRuled
       unfolding relink
       takes-all =
@@ -295,10 +292,8 @@ module _ {ws : List ℕ} {h : Heap} (p : Passes ws h) where
             is = all-taken;
             rest = ap (λ (x : Cut). x .rest .0) (cut-reads (e .size) (granted-all n (e .size) l) (omega arith));
             granted = refl;
-            housed = gone .follows .housed;
             heap =
-                rw (stays k is-ordinary (blockEnd e) (h .donor .0) .0, stays k is-ordinary (blockEnd e) (h .top .0) .1)
-                (more-used h (e .size) (gone .follows .heap));
+                rw (settled-ordinary (summaryOf h) k (blockEnd e) is-ordinary) (more-used h (e .size) refl (gone .follows .heap));
           })
 
     -- either way

@@ -1,14 +1,7 @@
-pub mod NeedLaws
 pub mod ChooseLaws
 pub mod ChooseMeaning
-pub mod SourceLaws
 pub mod CutSteps
-pub mod CutLaws
 pub mod CutMeaning
-pub mod CutKept
-pub mod PartKept
-pub mod GrantKept
-pub mod GrantedChunk
-pub mod GrantSpares
 pub mod ServeSteps
 pub mod ServeMeaning
+pub mod NeedMeaning

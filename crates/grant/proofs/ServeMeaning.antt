@@ -1,16 +1,15 @@
 -- A request for room that something can serve is met as the rules say: the words, the record, and the chunk that is granted (`serve-is`).
 -- Whether something can is ChooseMeaning's. Assumes nothing.
 use mathlib.Core.Path.{_≡_, sym, ap, _∙_}
-use mathlib.Core.Bool.{false}
 use mathlib.Core.List.{List}
 use Prim.Native.Nat.{ℕ, _+_, _-_, _%_, _^_, _≤_, _<_}
 use native.Mathlib.Decide.{decLt}
 use native.Mathlib.Omega.{arith}
 use borrow.Author.Tests.{le-leb, lt-leb}
-use Rattle.bins.specs.Books.{books}
+use Rattle.books.specs.Books.{books}
 use Rattle.record.specs.declared.heap.Heap.{Heap}
 use Rattle.record.specs.declared.kinds.Kind.{Kind}
-use Rattle.record.specs.Heap.{at, tableOf}
+use Rattle.record.specs.Heap.{at, tableOf, summaryOf}
 use Rattle.region.specs.Words.{written}
 use Rattle.rules.specs.Cut.{Grant, grantAt}
 use Rattle.rules.specs.Draft.{asRead}
@@ -18,18 +17,20 @@ use Rattle.rules.specs.Kinds.{used}
 use Rattle.rules.specs.Shape.{Entry, entry}
 use Rattle.rules.proofs.SpotLaws.{bounds, inside, used-few}
 use Rattle.grant.specs.Cut.{grantedM}
-use Rattle.grant.specs.Serve.{kindIn, Leaves, leaves, takenM, serveM, servedM}
-use Rattle.grant.proofs.SourceLaws.{Grantable, free-source}
+use Rattle.drafts.specs.Sources.{kindIn}
+use Rattle.grant.specs.Serve.{AfterGrant, afterGrant, takenM, serveM, servedM}
+use Rattle.drafts.proofs.SourceLaws.{Grantable, free-source}
+use Rattle.settling.proofs.SettledLaws.{settled-keeps}
 use Rattle.grant.proofs.CutMeaning.{Serving, Taken, chunk-taken}
-use Rattle.grant.proofs.GrantKept.{source, given, chosen, can, low, high}
+use Rattle.drafts.proofs.GrantKept.{source, theGrant, sourceChunk, can, low, high}
 
 -- what is left where the rule's grant was written, with this record and this chunk
-abbrev granting : List ℕ → Grant → Heap → Entry → Leaves
+abbrev granting : List ℕ → Grant → Heap → Entry → AfterGrant
 granting ws g h e = record { words = written ws (g .draft .stores); heap = h; chunk = at (e .place); size = e .size }
 
 -- the rule's grant, as the code hands it back
-abbrev pub handed : List ℕ → Grant → Leaves
-handed ws g = granting ws g (g .draft .heap) (g .granted)
+abbrev pub handedOn : List ℕ → Grant → AfterGrant
+handedOn ws g = granting ws g (g .draft .heap) (g .granted)
 
 -- no more is granted than the chunk has
 granted-few : (n s : ℕ) → n ≤ s → grantedM n s ≤ s
@@ -40,9 +41,9 @@ granted-few n s l = go (decLt s (n + 24))
     go (yes k) = rw (lt-leb (n + 24) s k) (omega arith)
     go (no k) = rw (le-leb (n + 24) s (omega arith)) l
 
--- m bytes of the chunk e, which were taken as the rule says, are handed back as its grant
+-- m bytes of the chunk e, which were taken as the rule says, are handedOn back as its grant
 taken-is : {ws : List ℕ} {h : Heap} {n : ℕ} {k : Kind} {e : Entry} {m : ℕ} {g : Grant} → m + h .used < 2 ^ 32 → Taken ws h n k e m g
-    → leaves h (takenM (books ws (h .heads) (h .tails)) (tableOf h) (h .donor .0) (h .top .0) k (e .place) n) ≡ handed ws g
+    → afterGrant h (takenM (books ws (h .heads) (h .tails)) (tableOf h) (summaryOf h) k (e .place) n) ≡ handedOn ws g
 unfolding takenM
 taken-is {ws} {h} {e = e} {m = m} {g = g} few t =
     let z : e .place + m - e .place ≡ m = omega arith in
@@ -52,7 +53,7 @@ taken-is {ws} {h} {e = e} {m = m} {g = g} few t =
 
 module _ {ws : List ℕ} {h : Heap} {n : ℕ} (room : Grantable ws h n) where
   abbrev e : Entry
-  e = chosen room
+  e = sourceChunk room
 
   abbrev kind : Kind
   kind = kindIn (source room)
@@ -71,14 +72,14 @@ module _ {ws : List ℕ} {h : Heap} {n : ℕ} (room : Grantable ws h n) where
       }
 
   -- the rule's grant is of this chunk
-  ruled : grantAt kind (record { low = low room; here = e; high = high room }) n (asRead ws h) ≡ given room
+  ruled : grantAt kind (record { low = low room; here = e; high = high room }) n (asRead ws h) ≡ theGrant room
   ruled =
       ap (λ (x : Entry). grantAt kind (record { low = low room; here = x; high = high room }) n (asRead ws h)) (sym (can room .here)) ∙ sym (can room .is)
 
-  taken : Taken ws h n kind e (grantedM n (e .size)) (given room)
+  taken : Taken ws h n kind e (grantedM n (e .size)) (theGrant room)
   taken = rw ruled at (chunk-taken (room .well) (room .large) (room .eight) serving)
 
-  pub serve-is : servedM ws (tableOf h) h (source room) n ≡ handed ws (given room)
+  pub serve-is : servedM ws (tableOf h) h (source room) n ≡ handedOn ws (theGrant room)
   unfolding servedM serveM
   serve-is =
       let c = can room in
@@ -87,10 +88,8 @@ module _ {ws : List ℕ} {h : Heap} {n : ℕ} (room : Grantable ws h n) where
       let b = bounds ws h (room .well) in
       rw (sym (c .place)) (taken-is (omega (arith, used-few ws h (room .well))) taken)
 
-  -- a bin takes what is left
-  pub grant-housed : given room .draft .homeless ≡ false
-  grant-housed = taken .housed
-
   -- a grant leaves the table
-  pub grant-table : tableOf (given room .draft .heap) ≡ tableOf h
-  grant-table = ap tableOf (taken .heap)
+  pub grant-table : tableOf (theGrant room .draft .heap) ≡ tableOf h
+  grant-table =
+      let kept = settled-keeps (summaryOf h) kind (e .place + grantedM n (e .size)) in
+      ap tableOf (taken .heap) ∙ rw (kept .bins)

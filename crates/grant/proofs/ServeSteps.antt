@@ -2,33 +2,41 @@
 use mathlib.Core.Path.{_≡_, sym}
 use mathlib.Core.List.{List}
 use Prim.Native.Nat.{ℕ, _+_, _-_, _%_, _^_}
-use Rattle.bins.specs.Books.{Books, books}
+use Rattle.books.specs.Books.{Books, books}
 use Rattle.record.specs.declared.heap.Heap.{Heap}
+use Rattle.record.specs.declared.heap.Summary.{Summary}
 use Rattle.record.specs.declared.kinds.Kind.{Kind}
-use Rattle.record.specs.declared.sources.Source.{Source}
-use Rattle.record.specs.Heap.{with}
+use Rattle.record.specs.Heap.{summaryOf, usedNow, withSummary, withEnds}
 use Rattle.region.specs.declared.Chunk.{Chunk}
-use Rattle.settling.specs.Settling.{donorAfter, topAfter}
+use Rattle.settling.specs.Settling.{settledM}
 use Rattle.grant.specs.declared.cut.Cut.{Cut}
-use Rattle.grant.specs.declared.serve.Grant.{Grant}
+use Rattle.grant.specs.declared.serve.Portion.{Portion}
+use Rattle.grant.specs.declared.serve.Order.{Order}
 use Rattle.grant.specs.Cut.{cutM, takeM}
-use Rattle.grant.specs.Serve.{kindIn, placeIn, served, takenM, serveM, servedM}
+use Rattle.drafts.specs.Sources.{kindIn, placeIn}
+use Rattle.grant.specs.Serve.{Served, served, takenM, serveM, servedM}
 
-module _ (b : Books) (table : List ℕ) (donor top : ℕ) (source : Source) (n : ℕ) where
-  pub serves-by : {kind : Kind} → kind ≡ kindIn source → {chunk : Chunk} → chunk .0 ≡ placeIn donor top source
-      → {t : Cut} → t ≡ cutM (b .words) (chunk .0) n → {size : ℕ} → size ≡ t .rest .0 - chunk .0
+-- what the code's calls leave is the grant of an order. It is a record, so that the checker finds by itself what was ordered
+pub record Serves (b : Books) (table : List ℕ) (s : Summary) (o : Order) (after : Served) : Type 0 where
+  pub is : after ≡ serveM b table s o
+
+pub serving : {b : Books} {table : List ℕ} {s : Summary} {o : Order} {after : Served} → Serves b table s o after → after ≡ serveM b table s o
+serving r = r .is
+
+module _ {b : Books} {table : List ℕ} {s : Summary} {o : Order} where
+  pub serves-by : {kind : Kind} → kind ≡ kindIn (o .source) → {chunk : Chunk} → chunk .0 ≡ placeIn (s .donor .0) (s .top .0) (o .source)
+      → {t : Cut} → t ≡ cutM (b .words) (chunk .0) (o .need) → {size : ℕ} → size ≡ t .rest .0 - chunk .0
       → {after : Books} → after ≡ takeM b table kind t
-      → {donor₁ top₁ : Chunk} → donor₁ .0 ≡ donorAfter kind (t .rest .0) donor → top₁ .0 ≡ topAfter kind (t .rest .0) top
-      → served after (record { chunk = chunk; size = size; donor = donor₁; top = top₁ }) ≡ serveM b table donor top source n
+      → {used : ℕ} → used ≡ (s .used + size) % 2 ^ 32 → {s₁ s₂ : Summary} → s₁ ≡ settledM s kind (t .rest .0) → s₂ ≡ usedNow s₁ used
+      → Serves b table s o (served after (record { chunk = chunk; size = size; summary = s₂ }))
   unfolding serveM takenM
-  serves-by ek ec et es ea ed etop = rw (sym ek, sym ec, ed, etop, es, sym et, sym ea)
+  serves-by ek ec et es ea eu e₁ e₂ = record { is = rw (e₂, e₁, eu, sym ek, sym ec, es, sym et, sym ea) }
 
 -- the record that a caller makes of it
-module _ (ws table : List ℕ) (h : Heap) (source : Source) (n : ℕ) where
-  pub served-recorded : (b : Books) (g : Grant)
-      → served b g ≡ serveM (books ws (h .heads) (h .tails)) table (h .donor .0) (h .top .0) source n
-      → (used : ℕ) → used ≡ (h .used + g .size) % 2 ^ 32
-      → (after : Heap) → after ≡ with h (b .heads) (b .tails) (g .donor .0) (g .top .0) (h .merge) used
-      → record { words = b .words; heap = after; chunk = g .chunk; size = g .size } ≡ servedM ws table h source n
+module _ (ws table : List ℕ) (h : Heap) (o : Order) where
+  pub served-recorded : {s₀ : Summary} → s₀ ≡ summaryOf h
+      → {b : Books} {g : Portion} → served b g ≡ serveM (books ws (h .heads) (h .tails)) table s₀ o
+      → {after : Heap} → after ≡ withEnds (withSummary h (g .summary)) (b .heads) (b .tails)
+      → record { words = b .words; heap = after; chunk = g .chunk; size = g .size } ≡ servedM ws table h (o .source) (o .need)
   unfolding servedM
-  served-recorded b g eg used eu after ea = rw (ea, eu, sym eg)
+  served-recorded e₀ eg ea = rw (ea, ← e₀, sym eg)

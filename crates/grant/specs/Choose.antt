@@ -5,7 +5,8 @@ use mathlib.Core.List.{List, [], _∷_}
 use Prim.Native.Nat.{ℕ, _+_}
 use lib.Dec.{eqb, leb}
 use lib.ListN.{length, getD}
-use Rattle.bins.specs.Books.{firstFitM, nextOccupiedM}
+use Rattle.bins.specs.Bins.{firstFitM, nextOccupiedM, steps}
+use Rattle.record.specs.declared.heap.Summary.{Summary}
 use Rattle.record.specs.declared.sources.Source.{Source}
 use Rattle.record.specs.declared.sources.Source.the-variants.{FromDonor, FromTop, Nowhere}
 use Rattle.record.specs.declared.table.Binned.{Binned}
@@ -15,7 +16,7 @@ use Rattle.region.specs.Words.{word, size}
 use Rattle.rules.specs.Serve.{fromBin, firstOf}
 
 unfoldable pub ownM : List ℕ → List ℕ → ℕ → Binned → ℕ
-ownM ws heads n (Bin i) = firstFitM 8192 ws n (getD heads i 0)
+ownM ws heads n (Bin i) = firstFitM steps ws n (getD heads i 0)
 ownM ws heads n NoBin = 0
 
 unfoldable pub largerM : List ℕ → ℕ → Binned → ℕ
@@ -28,11 +29,11 @@ donorM ws table donor n = small table n && not (eqb donor 0) && leb (n + 24) (wo
 unfoldable pub topM : List ℕ → ℕ → ℕ → Bool
 topM ws top n = leb (n + 24) (word ws top size)
 
-unfoldable pub chooseM : List ℕ → List ℕ → List ℕ → ℕ → ℕ → ℕ → Source
-chooseM ws table heads donor top n =
+unfoldable pub chooseM : List ℕ → List ℕ → List ℕ → Summary → ℕ → Source
+chooseM ws table heads s n =
     firstOf
     (fromBin (ownM ws heads n (binOf table n))
-    ∷ cond (donorM ws table donor n) FromDonor Nowhere
+    ∷ cond (donorM ws table (s .donor .0) n) FromDonor Nowhere
     ∷ fromBin (largerM heads (length table) (binOf table n))
-    ∷ cond (topM ws top n) FromTop Nowhere
+    ∷ cond (topM ws (s .top .0) n) FromTop Nowhere
     ∷ [])

@@ -4,7 +4,7 @@ use mathlib.Core.Bool.{cond}
 use mathlib.Core.List.{List}
 use Prim.Native.Nat.{ℕ, _+_, _-_, _%_, _^_}
 use lib.Dec.{eqb, leb}
-use Rattle.bins.specs.Books.{Books}
+use Rattle.books.specs.Books.{Books}
 use Rattle.grant.specs.declared.cut.Cut.{Cut}
 use Rattle.headers.specs.Headers.{aboveWords, freeWords, usedWords}
 use Rattle.record.specs.declared.kinds.Kind.{Kind}
@@ -12,7 +12,7 @@ use Rattle.record.specs.Heap.{at}
 use Rattle.region.specs.Words.{word, forward, backward, size}
 use Rattle.rules.specs.Kinds.{ordinaryKind}
 use Rattle.rules.specs.Shape.{flagsAt}
-use Rattle.settling.specs.Settling.{leaveBinM, alsoWritten, settleM}
+use Rattle.settling.specs.Settling.{arrival, leaveBinM, alsoWritten, settleM}
 
 unfoldable pub grantedM : ℕ → ℕ → ℕ
 grantedM n s = cond (leb (n + 24) s) n s
@@ -34,4 +34,4 @@ takeM b table kind t =
     let left : Books = alsoWritten used (freeWords (t .chunk .0) (t .rest .0) (t .end .0)) in
     cond (eqb (t .rest .0) (t .end .0))
     (alsoWritten used (aboveWords (t .chunk .0) (t .end .0) (t .flags)))
-    (settleM (alsoWritten left (aboveWords (t .rest .0) (t .end .0) (t .flags))) table kind (t .rest .0) (t .end .0 - t .rest .0))
+    (settleM (alsoWritten left (aboveWords (t .rest .0) (t .end .0) (t .flags))) table (arrival kind (t .rest .0) (t .end .0 - t .rest .0)))

@@ -1,7 +1,7 @@
 // A free chunk is cut: its lowest bytes are granted, and what is left above them takes its place again, as what the chunk was.
-// Which chunk it is was chosen before, and the record is the caller's to set.
+// Which chunk it is was chosen before; the caller sets the record.
 ghost use mathlib.Core.Path.{_≡_};
-ghost use Rattle.bins.specs.Books.{books};
+ghost use Rattle.books.specs.Books.{books};
 ghost use Rattle.grant.specs.Cut.{cutM, grantedM, takeM};
 use chain::is_ordinary;
 use headers::distance;
@@ -12,8 +12,10 @@ use record::kinds::Kind;
 use region::BACKWARD;
 use region::Chunk;
 use region::FORWARD;
+use region::LEAST;
 use region::SIZE;
 use region::word;
+use settling::Arrival;
 use settling::leave_bin;
 use settling::settle;
 
@@ -26,11 +28,11 @@ pub struct Cut {
     pub flags: u32,
 }
 
-// Less than 24 bytes can't be a chunk: they are granted too.
+// What is left may be smaller than any chunk: then all of it is granted too.
 pub fn granted(need: u32, size: u32) -> u32
     ensures { λ r. ⌜ r ≡ grantedM need size ⌝ }
 {
-    if need as u64 + 24 <= size as u64 {
+    if need as u64 + LEAST as u64 <= size as u64 {
         need
     } else {
         size
@@ -73,6 +75,12 @@ pub fn take(
     }
     write_free(region, cut.chunk, cut.rest, cut.end);
     write_above(region, cut.rest, cut.end, cut.flags);
-    let size = distance(cut.rest.0, cut.end.0);
-    settle(region, heads, tails, table, kind, cut.rest, size);
+    let rest = cut.rest;
+    let size = distance(rest.0, cut.end.0);
+    let arrival = Arrival {
+        becomes: kind,
+        chunk: rest,
+        size: size,
+    };
+    settle(region, heads, tails, table, arrival);
 }

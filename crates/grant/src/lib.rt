@@ -1,5 +1,5 @@
 // Granting a block: how many bytes it needs, from where they come, and the cut that makes it. The check and the refusals come before.
-// The record is not known here, but for its parts.
+// Of the record the summary and the arrays that are used come in; the caller sets it.
 pub mod choose;
 pub mod cut;
 pub mod need;

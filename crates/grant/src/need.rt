@@ -1,7 +1,15 @@
-// How many bytes a request needs: with the two links of its chunk, in eights, and no less than a free chunk has.
+// How many bytes a request needs: with the two links of its chunk, rounded up to a multiple of 8, and no less than a free chunk has.
 ghost use mathlib.Core.Path.{_≡_};
 ghost use Rattle.grant.specs.Need.{needM};
 ghost use Rattle.rules.specs.Serve.{permitted};
+use region::LEAST;
+use region::OVERHEAD;
+
+// The largest request that is permitted.
+const MOST_BYTES: u32 = 65488;
+
+// The links of the chunk, and what makes a division by 8 round up.
+const ROUNDING: u32 = OVERHEAD + 7;
 
 pub fn is_permitted(z: u64) -> bool
     ensures { λ r. ⌜ r ≡ permitted z ⌝ }
@@ -9,16 +17,16 @@ pub fn is_permitted(z: u64) -> bool
     if z < 1 {
         return false;
     }
-    z <= 65488
+    z <= MOST_BYTES as u64
 }
 
-// Of a size that is not permitted, which no call comes here with, 0.
+// Of a size that is not permitted the need is 0: callers have refused it before.
 pub fn need_of(z: u32) -> u32
     ensures { λ r. ⌜ r ≡ needM z ⌝ }
 {
-    if 65488 < z {
+    if MOST_BYTES < z {
         return 0;
     }
-    let n = (z + 15) / 8 * 8;
-    if n < 24 { 24 } else { n }
+    let n = (z + ROUNDING) / 8 * 8;
+    if n < LEAST { LEAST } else { n }
 }

@@ -1,24 +1,30 @@
-// A request for room, met from its source by a cut. The record is the caller's to set: its ends are lent, donor and top handed back.
-// Where nothing can serve, the caller refuses before.
+// A request for room, met from its source by a cut. The bins' ends are lent, and the summary is handed back: the caller sets the record.
+// Where nothing can serve, the caller has refused before.
 ghost use mathlib.Core.Path.{_≡_};
-ghost use Rattle.bins.specs.Books.{books};
-ghost use Rattle.grant.specs.Serve.{kindIn, placeIn, served, serveM};
+ghost use Rattle.books.specs.Books.{books};
+ghost use Rattle.drafts.specs.Sources.{kindIn, placeIn};
+ghost use Rattle.grant.specs.Serve.{served, serveM};
 ghost use Rattle.rules.specs.Serve.{nowhere};
 use crate::cut::cut_of;
 use crate::cut::take;
 use headers::distance;
+use record::heap::Summary;
 use record::kinds::Kind;
 use record::sources::Source;
 use region::Chunk;
-use settling::donor_after;
-use settling::top_after;
+use settling::settled;
 
-// The granted chunk, and where donor and top are then.
-pub struct Grant {
+// What is asked for: so many bytes, from the source that was chosen.
+pub struct Order {
+    pub source: Source,
+    pub need: u32,
+}
+
+// The granted chunk, and the summary after the grant.
+pub struct Portion {
     pub chunk: Chunk,
     pub size: u32,
-    pub donor: Chunk,
-    pub top: Chunk,
+    pub summary: Summary,
 }
 
 pub fn is_nowhere(source: Source) -> bool
@@ -43,39 +49,39 @@ fn kind_in(source: Source) -> Kind
     }
 }
 
-fn place_in(donor: Chunk, top: Chunk, source: Source) -> Chunk
-    ensures { λ r. ⌜ r .0 ≡ placeIn (donor .0) (top .0) source ⌝ }
+fn place_in(summary: Summary, source: Source) -> Chunk
+    ensures { λ r. ⌜ r .0 ≡ placeIn (summary .donor .0) (summary .top .0) source ⌝ }
 {
     match source {
         Source::FromBin(chunk) => chunk,
-        Source::FromDonor => donor,
-        Source::FromTop => top,
+        Source::FromDonor => summary.donor,
+        Source::FromTop => summary.top,
         Source::Nowhere => Chunk(0),
     }
 }
 
+// The sum of used bytes never wraps: it is at most the heap bytes.
 pub fn serve(
     region: &mut [u32],
     heads: &mut [u32],
     tails: &mut [u32],
     table: &[u32],
-    donor: Chunk,
-    top: Chunk,
-    source: Source,
-    need: u32,
-) -> Grant
-    ensures { λ r. ⌜ served (books (now (region .exit)) (now (heads .exit)) (now (tails .exit))) r ≡ serveM (books (now (region .entry)) (now (heads .entry)) (now (tails .entry))) (now (table .entry)) (donor .0) (top .0) source need ⌝ }
+    summary: Summary,
+    order: Order,
+) -> Portion
+    ensures { λ r. ⌜ served (books (now (region .exit)) (now (heads .exit)) (now (tails .exit))) r ≡ serveM (books (now (region .entry)) (now (heads .entry)) (now (tails .entry))) (now (table .entry)) summary order ⌝ }
 {
+    let source = order.source;
     let kind = kind_in(source);
-    let chunk = place_in(donor, top, source);
-    let cut = cut_of(region, chunk, need);
+    let chunk = place_in(summary, source);
+    let cut = cut_of(region, chunk, order.need);
     let rest = cut.rest;
     let size = distance(chunk.0, rest.0);
     take(region, heads, tails, table, kind, cut);
-    Grant {
+    let used = std::num::wrapping_add_u32(summary.used, size);
+    Portion {
         chunk: chunk,
         size: size,
-        donor: donor_after(kind, rest, donor),
-        top: top_after(kind, rest, top),
+        summary: settled(summary, kind, rest).with_used(used),
     }
 }

@@ -12,9 +12,10 @@ use region::FORWARD;
 use region::NEXT_IN_BIN;
 use region::PREVIOUS_IN_BIN;
 use region::SIZE;
+use region::USED;
 use region::store;
 
-// Of places in the wrong order, which no heap that passes has, the distance is 0.
+// Of places in the wrong order, which no heap that passes has, the distance is 0: the function needs no requirement.
 pub fn distance(from: u32, to: u32) -> u32
     ensures { λ r. ⌜ r ≡ to - from ⌝ }
 {
@@ -48,7 +49,7 @@ pub fn write_used(region: &mut [u32], before: Chunk, chunk: Chunk, next: Chunk)
         region,
         chunk,
         BACKWARD,
-        std::num::wrapping_add_u32(before.0, 1),
+        std::num::wrapping_add_u32(before.0, USED),
     );
 }
 

@@ -1,6 +1,6 @@
 -- What a call's reply must be, by what the check says: the refusal for a heap that fails, and the questions' answers
 -- found on the even part of the region. Assumes nothing.
-use mathlib.Core.Path.{_≡_, refl, ap, _∙_}
+use mathlib.Core.Path.{_≡_, refl, _∙_}
 use mathlib.Core.Bool.{Bool, true, false, not, _||_}
 use mathlib.Core.List.{List, [], _∷_}
 use Prim.Native.Nat.{ℕ, _*_, _/_, _≤_}
@@ -10,8 +10,10 @@ use lib.ListN.{length, take}
 use Rattle.record.specs.declared.answers.Answer.{Answer}
 use Rattle.record.specs.declared.answers.Answer.the-variants.{Done, Told}
 use Rattle.record.specs.declared.answers.Refusal.the-variants.{HeapFails, NotThere}
+use Rattle.record.specs.declared.answers.Reply.{Reply}
 use Rattle.record.specs.declared.heap.Heap.{Heap}
-use Rattle.record.specs.Heap.{tableOf, withMerge}
+use Rattle.record.specs.declared.heap.Summary.{Summary}
+use Rattle.record.specs.Heap.{tableOf, summaryOf, withMerge}
 use Rattle.rules.specs.Check.{Passes, passes}
 use Rattle.rules.specs.Draft.{asRead}
 use Rattle.rules.specs.Outcome.{Outcome, judged, unchanged}
@@ -22,7 +24,7 @@ use Rattle.rules.proofs.CheckLaws.{passes-iff}
 use Rattle.rules.proofs.EvenLaws.{evenPart, even-read, even-passes}
 use Rattle.ask.specs.Questions.{askChunkM, askBinM}
 use Rattle.ask.proofs.AskMeaning.{ask-chunk-is, ask-bin-is}
-use Rattle.replies.specs.Replies.{reply, refusing}
+use Rattle.replies.specs.Replies.{reply, refusedReply}
 
 -- a question leaves the heap as it came, refused or not
 question-keeps : (h : Heap) (t u : Bool) (v : ℕ)
@@ -55,55 +57,73 @@ module _ (ws : List ℕ) (h : Heap) (q : passes ws h ≡ true) where
   even-well : Passes (evenPart ws) h
   even-well = even-passes ws h (well .fits) .0 well
 
-  pub asks-chunk : (a : Answer) (question place : ℕ)
-      → a ≡ askChunkM (take (h .bytes / 4) ws) (tableOf h) (h .bytes) (h .donor .0) (h .top .0) question place
-      → Meets ws (askChunk ws h question place) (reply h a) ws
+-- a reply about a chunk, or about a bin, and the words after it are what the rule says. They are records, so that the checker finds by
+-- itself what the call was handed
+pub record AskedChunk (ws : List ℕ) (h : Heap) (question place : ℕ) (r : Reply) (words : List ℕ) : Type 0 where
+  pub meets : Meets ws (askChunk ws h question place) r words
+
+pub asked-chunk : {ws : List ℕ} {h : Heap} {question place : ℕ} {r : Reply} {words : List ℕ} → AskedChunk ws h question place r words
+    → Meets ws (askChunk ws h question place) r words
+asked-chunk a = a .meets
+
+pub record AskedBin (ws : List ℕ) (h : Heap) (question bin : ℕ) (r : Reply) (words : List ℕ) : Type 0 where
+  pub meets : Meets ws (askBin ws h question bin) r words
+
+pub asked-bin : {ws : List ℕ} {h : Heap} {question bin : ℕ} {r : Reply} {words : List ℕ} → AskedBin ws h question bin r words
+    → Meets ws (askBin ws h question bin) r words
+asked-bin a = a .meets
+
+module _ {ws : List ℕ} {h : Heap} {question place : ℕ} where
+  pub fails-chunk : passes ws h ≡ false → AskedChunk ws h question place (refusedReply h HeapFails) ws
   unfolding askChunk
-  asks-chunk a question place r =
+  fails-chunk q = record { meets = rw q refl }
+
+  pub asks-chunk : passes ws h ≡ true → {s : Summary} → s ≡ summaryOf h
+      → {a : Answer} → a ≡ askChunkM (take (h .bytes / 4) ws) (tableOf h) s question place
+      → AskedChunk ws h question place (reply h a) ws
+  unfolding askChunk
+  asks-chunk q e {a} r =
       let d = asRead ws h in
       let answers = chunkAnswers d (askedSpot d question place) in
-      tells ws h (askChunk ws h question place) a
-      (question-keeps h (not (passes ws h)) (not (isAsked question answers) || not (isThere d question place)) (answerTo question answers))
-      (r ∙ ap (λ (w : List ℕ). askChunkM w (tableOf h) (h .bytes) (h .donor .0) (h .top .0) question place) lent-even
-      ∙ ask-chunk-is (evenPart ws) h even-well question place
-      ∙ same-answer)
+      record {
+        meets =
+            tells ws h (askChunk ws h question place) a
+            (question-keeps h (not (passes ws h)) (not (isAsked question answers) || not (isThere d question place)) (answerTo question answers))
+            (r ∙ rw (e, lent-even ws h q) (ask-chunk-is (evenPart ws) h (even-well ws h q) question place) ∙ same-answer);
+      }
     where
       same-answer : askChunk (evenPart ws) h question place .answer ≡ askChunk ws h question place .answer
-      same-answer = rw (passes-iff (evenPart ws) h .1 even-well, q, even-read ws h well) refl
+      same-answer = rw (passes-iff (evenPart ws) h .1 (even-well ws h q), q, even-read ws h (well ws h q)) refl
 
-  pub asks-bin : (a : Answer) (question bin : ℕ)
-      → a ≡ askBinM (take (h .bytes / 4) ws) (h .heads) (h .tails) (h .bins) (h .bytes) question bin
-      → Meets ws (askBin ws h question bin) (reply h a) ws
+module _ {ws : List ℕ} {h : Heap} {question bin : ℕ} where
+  pub fails-bin : passes ws h ≡ false → AskedBin ws h question bin (refusedReply h HeapFails) ws
   unfolding askBin
-  asks-bin a question bin r =
+  fails-bin q = record { meets = rw q refl }
+
+  pub asks-bin : passes ws h ≡ true → {s : Summary} → s ≡ summaryOf h
+      → {a : Answer} → a ≡ askBinM (take (h .bytes / 4) ws) (h .heads) (h .tails) s question bin
+      → AskedBin ws h question bin (reply h a) ws
+  unfolding askBin
+  asks-bin q e {a} r =
       let answers = binAnswers (asRead ws h .lists bin) in
-      tells ws h (askBin ws h question bin) a
-      (question-keeps h (not (passes ws h)) (not (isAsked question answers) || not (ltb bin (h .bins))) (answerTo question answers))
-      (r ∙ ap (λ (w : List ℕ). askBinM w (h .heads) (h .tails) (h .bins) (h .bytes) question bin) lent-even
-      ∙ ask-bin-is (evenPart ws) h even-well question bin
-      ∙ same-answer)
+      record {
+        meets =
+            tells ws h (askBin ws h question bin) a
+            (question-keeps h (not (passes ws h)) (not (isAsked question answers) || not (ltb bin (h .bins))) (answerTo question answers))
+            (r ∙ rw (e, lent-even ws h q) (ask-bin-is (evenPart ws) h (even-well ws h q) question bin) ∙ same-answer);
+      }
     where
       same-answer : askBin (evenPart ws) h question bin .answer ≡ askBin ws h question bin .answer
-      same-answer = rw (passes-iff (evenPart ws) h .1 even-well, q, even-read ws h well) refl
+      same-answer = rw (passes-iff (evenPart ws) h .1 (even-well ws h q), q, even-read ws h (well ws h q)) refl
 
 pub sets-merge : (ws : List ℕ) (h : Heap) (on : Bool) → passes ws h ≡ true
     → Meets ws (setMerge ws h on) (reply (withMerge h on) Done) ws
 unfolding setMerge
 sets-merge ws h on q = rw q refl
 
-pub fails-merge : (ws : List ℕ) (h : Heap) (on : Bool) → passes ws h ≡ false → Meets ws (setMerge ws h on) (refusing h HeapFails) ws
+pub fails-merge : (ws : List ℕ) (h : Heap) (on : Bool) → passes ws h ≡ false → Meets ws (setMerge ws h on) (refusedReply h HeapFails) ws
 unfolding setMerge
 fails-merge ws h on q = rw q refl
-
-pub fails-chunk : (ws : List ℕ) (h : Heap) (question place : ℕ) → passes ws h ≡ false
-    → Meets ws (askChunk ws h question place) (refusing h HeapFails) ws
-unfolding askChunk
-fails-chunk ws h question place q = rw q refl
-
-pub fails-bin : (ws : List ℕ) (h : Heap) (question bin : ℕ) → passes ws h ≡ false
-    → Meets ws (askBin ws h question bin) (refusing h HeapFails) ws
-unfolding askBin
-fails-bin ws h question bin q = rw q refl
 
 pub checks : (ws : List ℕ) (h : Heap) (a : Answer) → a ≡ checked ws h → Meets ws (check ws h) (reply h a) ws
 unfolding check

@@ -1,5 +1,4 @@
 pub mod CallLaws
-pub mod FreeLaws
-pub mod GrantLaws
 pub mod AllocateLaws
+pub mod FreeLaws
 pub mod ReallocateLaws

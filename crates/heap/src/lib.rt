@@ -1,25 +1,24 @@
 // The public calls: each takes the region and the record, and hands the record back beside its answer.
 // Each asks the check first; setup needs none. How chunks are found, joined and written is in the layers below.
-ghost use Rattle.rules.specs.Statements.{Allocates, AllocatesCleared, AsksBin, AsksChunk, Checks, Frees, Reallocates, SetsMerge, SetsUp};
-use crate::grants::allocate_with;
+ghost use Rattle.rules.specs.Allocate.{allocateWith};
+ghost use Rattle.rules.specs.Statements.{Allocates, AllocatesCleared, AsksBin, AsksChunk, Checks, Frees, Meets, Reallocates, SetsMerge, SetsUp};
+ghost use Rattle.supply.specs.Supply.{fillStores};
 use audit::passes;
 use audit::verdict;
 use grant::need::is_permitted;
 use grant::need::need_of;
-use headers::distance;
+use reclaim::reclaim;
 use record::answers::Answer;
 use record::answers::Refusal;
 use record::answers::Reply;
 use record::heap::Heap;
 use region::Block;
-use release::give::give_up;
-use replies::change;
 use replies::refused;
 use resize::resize;
 use seek::Sought;
 use seek::find_block;
-
-mod grants;
+use supply::Want;
+use supply::supply;
 
 pub fn setup(region: &mut [u32], table: &[u32], donor: u32, merge: bool) -> Reply
     ensures { λ r. ⌜ SetsUp (now (region .entry)) (now (table .entry)) donor merge r (now (region .exit)) ⌝ }
@@ -55,19 +54,11 @@ pub fn ask_chunk(region: &mut [u32], heap: Heap, question: u32, place: u32) -> R
     if !passes(region, heap) {
         return refused(heap, Refusal::HeapFails);
     }
-    let bytes = heap.bytes;
-    let even = (bytes / 4) as usize;
+    let even = (heap.bytes / 4) as usize;
     let bins = heap.bins as usize;
     let sizes = heap.sizes;
-    let answer = ask::ask_chunk(
-        &region[..even],
-        &sizes[..bins],
-        bytes,
-        heap.donor,
-        heap.top,
-        question,
-        place,
-    );
+    let summary = heap.summary();
+    let answer = ask::ask_chunk(&region[..even], &sizes[..bins], summary, question, place);
     Reply {
         answer: answer,
         heap: heap,
@@ -80,22 +71,48 @@ pub fn ask_bin(region: &mut [u32], heap: Heap, question: u32, bin: u32) -> Reply
     if !passes(region, heap) {
         return refused(heap, Refusal::HeapFails);
     }
-    let bytes = heap.bytes;
-    let even = (bytes / 4) as usize;
+    let even = (heap.bytes / 4) as usize;
     let heads = heap.heads;
     let tails = heap.tails;
-    let answer = ask::ask_bin(
-        &region[..even],
-        &heads,
-        &tails,
-        heap.bins,
-        bytes,
-        question,
-        bin,
-    );
+    let summary = heap.summary();
+    let answer = ask::ask_bin(&region[..even], &heads, &tails, summary, question, bin);
     Reply {
         answer: answer,
         heap: heap,
+    }
+}
+
+// What both allocates come to, once the size is one number.
+fn allocate_with(region: &mut [u32], heap: Heap, z: u64, clears: bool) -> Reply
+    ensures { λ r. ⌜ Meets (now (region .entry)) (allocateWith (fillStores clears) (now (region .entry)) heap z) r (now (region .exit)) ⌝ }
+{
+    if !passes(region, heap) {
+        return refused(heap, Refusal::HeapFails);
+    }
+    if !is_permitted(z) {
+        return refused(heap, Refusal::BlockSize);
+    }
+    let need = need_of(z as u32);
+    let bins = heap.bins as usize;
+    let sizes = heap.sizes;
+    let want = Want {
+        need: need,
+        clears: clears,
+    };
+    let mut heads = heap.heads;
+    let mut tails = heap.tails;
+    let supplied = supply(
+        region,
+        &mut heads,
+        &mut tails,
+        &sizes[..bins],
+        heap.summary(),
+        want,
+    );
+    let answer = supplied.answer;
+    Reply {
+        answer: answer,
+        heap: heap.with_books(heads, tails, supplied.summary),
     }
 }
 
@@ -105,7 +122,7 @@ pub fn allocate(region: &mut [u32], heap: Heap, z: u32) -> Reply
     allocate_with(region, heap, z as u64, false)
 }
 
-// The product is that of two numbers, which 64 bits always hold.
+// The product of two 32-bit numbers always fits 64 bits.
 pub fn allocate_cleared(region: &mut [u32], heap: Heap, count: u32, size: u32) -> Reply
     ensures { λ r. ⌜ AllocatesCleared (now (region .entry)) heap count size r (now (region .exit)) ⌝ }
 {
@@ -126,29 +143,25 @@ pub fn free(region: &mut [u32], heap: Heap, block: Block) -> Reply
         };
     }
     let sought = find_block(region, heap.bytes, block);
-    let Sought::Found(found) = sought else {
+    let Sought::Found(place) = sought else {
         return refused(heap, Refusal::NotLive);
     };
     let bins = heap.bins as usize;
     let sizes = heap.sizes;
     let mut heads = heap.heads;
     let mut tails = heap.tails;
-    let reserve = give_up(
+    let freed = reclaim(
         region,
         &mut heads,
         &mut tails,
         &sizes[..bins],
-        heap.bytes,
-        heap.donor,
-        heap.top,
-        heap.merge,
-        found,
+        heap.summary(),
+        place,
     );
-    let size = distance(found.chunk.0, found.end);
-    let used = distance(size, heap.used);
+    let answer = freed.answer;
     Reply {
-        answer: Answer::Returned(change(size, 0)),
-        heap: heap.with_books(heads, tails, reserve.donor, reserve.top, used),
+        answer: answer,
+        heap: heap.with_books(heads, tails, freed.summary),
     }
 }
 

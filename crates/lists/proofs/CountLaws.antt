@@ -1,5 +1,5 @@
--- Counting: a list in which no member stands twice is no longer than a list that has all its members,
--- and if it is as long, it has all of the other's. And lists gathered one after the other. Assumes nothing.
+-- Counting: a list without repetitions is no longer than a list that has all its members (pigeonhole),
+-- and if it is as long, it has all the other's members. Also several lists, appended in order. Assumes nothing.
 use mathlib.Core.Path.{_≡_, refl, ap}
 use mathlib.Core.Logic.{_⊎_, inl, inr}
 use mathlib.Core.List.{List, [], _∷_, _++_, List·Memᴰ·head, List·Memᴰ·tail, List·Memᴰ·not-nil, List·Memᴰ·append-cases, Memᴰ·append-left, Memᴰ·append-right}
@@ -18,11 +18,11 @@ member? c xs = decided (is-member c xs)
 
 pub distinct-fits : (xs ys : List ℕ) → Distinct xs → ((x : ℕ) → Mem x xs → Mem x ys) → length xs ≤ length ys
 distinct-fits [] ys u h = omega arith
-distinct-fits (x ∷ xs) ys u h =
+distinct-fits (x ∷ xs) ys (new, rest) h =
     let us : List ℕ = upTo (eqb x) ys in
     let vs : List ℕ = past (eqb x) ys in
     let s : ys ≡ us ++ x ∷ vs = split-at-member (h x (List·Memᴰ·head refl)) in
-    let r = distinct-fits xs (us ++ vs) (u .1) (elsewhere us vs s) in
+    let r = distinct-fits xs (us ++ vs) rest (elsewhere us vs s) in
     let l : length ys ≡ length (us ++ x ∷ vs) = ap length s in
     omega (arith, length-append us vs, length-append us (x ∷ vs))
   where
@@ -30,7 +30,7 @@ distinct-fits (x ∷ xs) ys u h =
     elsewhere us vs s z m = go (member-without us x vs (rw s at (h z (List·Memᴰ·tail m))))
       where
         go : (z ≡ x) ⊎ Mem z (us ++ vs) → Mem z (us ++ vs)
-        go (inl e) = absurd (u .0 (rw e at m))
+        go (inl e) = absurd (new (rw e at m))
         go (inr k) = k
 
 pub distinct-covers : (xs ys : List ℕ) → Distinct xs → ((x : ℕ) → Mem x xs → Mem x ys) → length ys ≤ length xs
@@ -45,7 +45,7 @@ distinct-covers xs ys u h l y m = go (member? y xs)
     go (yes k) = k
     go (no n) = let r = distinct-fits (y ∷ xs) ys (n, u) (with-y n) in absurd (omega arith)
 
--- lists gathered one after the other: their length, their members, and when no member stands twice
+-- lists appended in order: their length, their members, and when no member occurs twice
 module _ (lists : ℕ → List ℕ) where
   pub gathered-length : (is : List ℕ) → length (gathered lists is) ≡ total (λ i. length (lists i)) is
   gathered-length [] = refl
@@ -60,7 +60,7 @@ module _ (lists : ℕ → List ℕ) where
       go : (Mem c (gathered lists (numbersFrom (suc b) n)) → (i : ℕ) × ((suc b ≤ i) × (i < suc b + n)) × Mem c (lists i))
           → Mem c (lists b) ⊎ Mem c (gathered lists (numbersFrom (suc b) n)) → (i : ℕ) × ((b ≤ i) × (i < b + suc n)) × Mem c (lists i)
       go f (inl k) = (b, (omega arith, omega arith), k)
-      go f (inr k) = let r = f k in (r .0, (omega (arith, r .1 .0), omega (arith, r .1 .1)), r .2)
+      go f (inr k) = let (i, (lo, hi), m) = f k in (i, (omega arith, omega arith), m)
 
   pub gathered-has : (n b i : ℕ) {c : ℕ} → b ≤ i → i < b + n → Mem c (lists i) → Mem c (gathered lists (numbersFrom b n))
   gathered-has zero b i lo hi m = absurd (omega arith)
@@ -80,5 +80,5 @@ module _ (lists : ℕ → List ℕ) where
       (record {
         left = u b (omega arith) (omega arith);
         right = gathered-once n (suc b) (λ i lo hi. u i (omega arith) (omega arith)) (λ i j lo l hi. a i j (omega arith) l (omega arith));
-        none = λ c m k. let r = gathered-from n (suc b) k in a b (r .0) (omega arith) (omega (arith, r .1 .0)) (omega (arith, r .1 .1)) c m (r .2);
+        none = λ c m k. let (i, (lo, hi), l) = gathered-from n (suc b) k in a b i (omega arith) (omega arith) (omega arith) c m l;
       })

@@ -1,4 +1,4 @@
--- What the tests over lists and numbers decide, so that a conjunction of tests is read as a list of facts; and lists of zeros. Assumes nothing.
+-- What tests over lists and numbers decide, so that a conjunction of tests reads as a list of facts; and lists of zeros. Assumes nothing.
 use mathlib.Core.Path.{_≡_, refl}
 use mathlib.Core.Logic.{_↔_, _⊎_, inl, inr}
 use mathlib.Core.Bool.{Bool, true, false, not, _&&_, _||_, true≢false, false≢true}
@@ -12,7 +12,7 @@ use lib.ListN.{drop, getD, replicate}
 use lib.Seq.{drop-nil}
 use Rattle.lists.specs.Lists.{Mem, every, any, distinct, Distinct, numbersFrom}
 
--- a test decides a fact
+-- the test holds exactly when the fact does
 abbrev pub Decides : Bool → Type 0 → Type 0
 Decides t P = (t ≡ true) ↔ P
 
@@ -29,7 +29,7 @@ module _ {P Q : Type 0} where
   pub meaning : {t : Bool} → Decides t P → (P → Q) → (Q → P) → Decides t Q
   meaning d f g = (λ h. f (d .0 h), λ q. d .1 (g q))
 
-  -- the second test need decide its fact only where the first holds
+  -- the second test has to decide its fact only if the first fact holds
   pub both-if : {s t : Bool} → Decides s P → (P → Decides t Q) → Decides (s && t) (P × Q)
   both-if {s} {t} = go s t
     where
@@ -61,7 +61,7 @@ denied {t} {P} = go t
     go true d = (λ h p. false≢true h, λ f. absurd (f (d .0 refl)))
     go false d = (λ h p. false≢true (d .1 p), λ f. refl)
 
--- what does not hold fails its test
+-- the test of a fact that does not hold fails
 pub not-so : {t : Bool} {P : Type 0} → Decides t P → (P → ⊥) → t ≡ false
 not-so {t} {P} = go t
   where
@@ -77,7 +77,7 @@ decided {t} {P} = go t
     go true d = yes (d .0 refl)
     go false d = no (λ p. false≢true (d .1 p))
 
--- what holds of the first and of all others holds of each
+-- what holds of the first member and of all others holds of every member
 pub each-cons : {A : Type 0} {P : A → Type 0} {x : A} {xs : List A} → P x → ((y : A) → Mem y xs → P y)
     → (y : A) → Mem y (x ∷ xs) → P y
 each-cons here rest y (List·Memᴰ·head e) = rw e here
@@ -135,13 +135,13 @@ module _ {P : ℕ → Type 0} {p : ℕ → Bool} (d : (j : ℕ) → Decides (p j
   for-below n =
       meaning (for-numbers n 0) (λ f j h. f j (omega arith) (omega arith)) (λ f j lo hi. f j (omega arith))
 
--- a list of zeros reads 0 everywhere, past its end too
+-- a list of zeros reads 0 at every index, past its end too
 pub zero-at : (n i : ℕ) → getD (replicate {A = ℕ} n 0) i 0 ≡ 0
 zero-at zero i = refl
 zero-at (suc n) zero = refl
 zero-at (suc n) (suc i) = zero-at n i
 
--- from place n of a list on there is nothing but 0
+-- from index n on a list holds only 0
 pub zeros-from : (n : ℕ) (l : List ℕ)
     → Decides (every (λ v. eqb v 0) (drop n l)) ((i : ℕ) → n ≤ i → getD l i 0 ≡ 0)
 zeros-from n [] = meaning (for-each (λ v. number-is v 0) (drop n [])) (λ f i h. refl) (λ f v m. none m)
@@ -162,7 +162,7 @@ zeros-from (suc n) (v ∷ l) =
     at rest zero h = absurd (omega arith)
     at rest (suc i) h = rest i (omega arith)
 
--- a conjunction that is tested part by part: where a part fails, and where it holds and the rest is s
+-- a conjunction tested part by part: the part t fails, so the whole is false; it holds, so the whole is the rest
 pub stops-at : {a t : Bool} (b : Bool) → t ≡ a → not t ≡ true → false ≡ (a && b)
 stops-at {a} {t} b e h = rw (← e) (go t h)
   where

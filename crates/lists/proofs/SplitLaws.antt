@@ -1,4 +1,4 @@
--- A list taken apart: at its ends, at the first member for which a test holds, at a member, and around a middle part. Assumes nothing.
+-- A list split: at its ends, at the first member for which a test holds, at a member, and around a middle part. Assumes nothing.
 use mathlib.Core.Path.{_≡_, refl, sym, ap, _∙_}
 use mathlib.Core.Logic.{_⊎_, inl, inr}
 use mathlib.Core.Bool.{Bool, true, false, cond, _||_, false≢true}
@@ -10,7 +10,7 @@ use borrow.Author.Tests.{eqb-true}
 use Rattle.lists.specs.Lists.{Mem, headOr, lastOr, butLast, any, keep, upTo, past}
 use Rattle.lists.proofs.ListsLaws.{is-member}
 
--- a list that is not empty, taken apart at its beginning and at its end
+-- a list that is not empty, split at its first and at its last member
 module _ {A : Type 0} (o : A) where
   pub begins-with : (l : List A) → (l ≡ [] → ⊥) → l ≡ headOr o l ∷ drop 1 l
   begins-with [] n = absurd (n refl)
@@ -24,7 +24,7 @@ module _ {A : Type 0} (o : A) where
       go x [] = refl
       go x (y ∷ ys) = ap (λ (l : List A). x ∷ l) (go y ys)
 
--- its ends are its own
+-- the first member stays when a list is appended, and the default for the last does not matter
 pub first-stays : {A : Type 0} (b : A) (xs ys : List A) → (xs ≡ [] → ⊥) → headOr b (xs ++ ys) ≡ headOr b xs
 first-stays b [] ys n = absurd (n refl)
 first-stays b (x ∷ xs) ys n = refl
@@ -36,7 +36,7 @@ last-stays b c (y ∷ ys) n = refl
 pub in-split : {A : Type 0} {l : List A} (low : List A) (e : A) (high : List A) → l ≡ low ++ e ∷ high → Mem e l
 in-split low e high s = rw s (Memᴰ·append-right low (List·Memᴰ·head refl))
 
--- at the first member for which a test holds
+-- split at the first member for which a test holds
 module _ {A : Type 0} (q : A → Bool) where
   pub first-splits : (o : A) (l : List A) → any q l ≡ true
       → (l ≡ upTo q l ++ headOr o (keep q l) ∷ past q l) × (q (headOr o (keep q l)) ≡ true)
@@ -48,9 +48,9 @@ module _ {A : Type 0} (q : A → Bool) where
           → (x ∷ xs ≡ cond t [] (x ∷ upTo q xs) ++ headOr o (cond t (x ∷ keep q xs) (keep q xs)) ∷ cond t xs (past q xs))
           × (q (headOr o (cond t (x ∷ keep q xs) (keep q xs))) ≡ true)
       go true e a f = (refl, e)
-      go false e a f = let r = f a in (ap (λ (l : List A). x ∷ l) (r .0), r .1)
+      go false e a f = let (split, holds) = f a in (ap (λ (l : List A). x ∷ l) split, holds)
 
-  -- what stands before and after it is of the list
+  -- the members before and after it are members of the list
   pub before-from : (l : List A) {d : A} → Mem d (upTo q l) → Mem d l
   before-from [] m = absurd (List·Memᴰ·not-nil m)
   before-from (x ∷ xs) {d} m = go (q x) m (λ k. before-from xs k)
@@ -68,13 +68,13 @@ module _ {A : Type 0} (q : A → Bool) where
       go true k f = List·Memᴰ·tail k
       go false k f = List·Memᴰ·tail (f k)
 
--- at a member
+-- split at a member
 pub split-at-member : {c : ℕ} {cs : List ℕ} → Mem c cs → cs ≡ upTo (eqb c) cs ++ c ∷ past (eqb c) cs
 split-at-member {c} {cs} m =
-    let s = first-splits (eqb c) 0 cs (is-member c cs .1 m) in
-    s .0 ∙ ap (λ (x : ℕ). upTo (eqb c) cs ++ x ∷ past (eqb c) cs) (sym (eqb-true c _ (s .1)))
+    let (split, holds) = first-splits (eqb c) 0 cs (is-member c cs .1 m) in
+    split ∙ ap (λ (x : ℕ). upTo (eqb c) cs ++ x ∷ past (eqb c) cs) (sym (eqb-true c _ holds))
 
--- members of a list with something put into its middle
+-- members of a list in three parts
 module _ {A : Type 0} {x : A} (low mid high : List A) where
   pub among : Mem x (low ++ mid ++ high) → Mem x (low ++ high) ⊎ Mem x mid
   among m = go (List·Memᴰ·append-cases (low ++ mid) m)
@@ -97,7 +97,7 @@ module _ {A : Type 0} {x : A} (low mid high : List A) where
   pub middle-in : Mem x mid → Mem x (low ++ mid ++ high)
   middle-in m = Memᴰ·append-left high (Memᴰ·append-right low m)
 
--- all members but the one in the middle
+-- every member but the one in the middle is in an outer part
 pub all-but : {A : Type 0} (low : List A) (e : A) (high : List A) {x : A} → Mem x (low ++ e ∷ [] ++ high) → (x ≡ e → ⊥) → Mem x (low ++ high)
 all-but low e high {x} m n = go (among low (e ∷ []) high m)
   where

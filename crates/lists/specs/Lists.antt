@@ -1,4 +1,4 @@
--- The words about lists in which the rules are written. Nothing here knows of a heap.
+-- The list functions that the rules are written in. Nothing here speaks of a heap.
 use mathlib.Core.Bool.{Bool, true, false, not, _&&_, _||_, cond}
 use mathlib.Core.List.{List, [], _∷_, _++_, List·Memᴰ}
 use Prim.Native.Nat.{ℕ, zero, suc, _+_}
@@ -8,7 +8,7 @@ module _ {A : Type 0} where
   abbrev pub Mem : A → List A → Type 0
   Mem x xs = List·Memᴰ x xs
 
-  -- the first and the last, or d of an empty list
+  -- the first and the last member; d for an empty list
   abbrev pub headOr : A → List A → A
   headOr d [] = d
   headOr d (x ∷ xs) = x
@@ -31,17 +31,17 @@ module _ {A : Type 0} where
   any p [] = false
   any p (x ∷ xs) = p x || any p xs
 
-  -- those for which the test holds, in their order
+  -- the members for which the test holds, in order
   abbrev pub keep : (A → Bool) → List A → List A
   keep p [] = []
   keep p (x ∷ xs) = cond (p x) (x ∷ keep p xs) (keep p xs)
 
-  -- the sum of a figure over a list
+  -- the sum of f over a list
   abbrev pub total : (A → ℕ) → List A → ℕ
   total f [] = 0
   total f (x ∷ xs) = f x + total f xs
 
-  -- what stands before and after the first for which the test holds
+  -- the members before, and those after, the first for which the test holds
   abbrev pub upTo : (A → Bool) → List A → List A
   upTo p [] = []
   upTo p (x ∷ xs) = cond (p x) [] (x ∷ upTo p xs)
@@ -50,7 +50,7 @@ module _ {A : Type 0} where
   past p [] = []
   past p (x ∷ xs) = cond (p x) xs (past p xs)
 
-  -- no member stands twice
+  -- no member occurs twice
   abbrev pub Distinct : List A → Type 0
   Distinct [] = Unit {0}
   Distinct (x ∷ xs) = (Mem x xs → ⊥) × Distinct xs
@@ -64,7 +64,7 @@ abbrev pub numbersFrom : ℕ → ℕ → List ℕ
 numbersFrom i zero = []
 numbersFrom i (suc n) = i ∷ numbersFrom (suc i) n
 
--- the lists at the numbers of `is`, one after the other
+-- the lists numbered by `is`, appended in order
 abbrev pub gathered : (ℕ → List ℕ) → List ℕ → List ℕ
 gathered lists [] = []
 gathered lists (i ∷ is) = lists i ++ gathered lists is

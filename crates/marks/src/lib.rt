@@ -1,16 +1,25 @@
 // The bitmap of chunks: a mark for each multiple of 8, one bit of a word of 32 bits.
 // What a mark means is not known here.
 use region::Chunk;
+use region::LARGEST_HEAP;
 ghost use mathlib.Core.Path.{_≡_};
 ghost use Rattle.marks.specs.Marks.{marked, flipped};
+
+const BITS: u32 = 32;
+
+// The bytes of the heap for which one word of the bitmap has marks.
+const SPAN: u32 = 8 * BITS;
+
+// A bitmap of this many words has a mark for every chunk of the largest heap.
+pub const MARK_WORDS: usize = (LARGEST_HEAP / SPAN) as usize;
 
 // Past the bitmap nothing is marked.
 pub fn is_marked(marks: &[u32], chunk: Chunk) -> bool
     ensures { λ r. ⌜ r ≡ marked (now (marks .entry)) (chunk .0) ⌝ }
 {
-    let i = (chunk.0 / 256) as usize;
+    let i = (chunk.0 / SPAN) as usize;
     if i < marks.len() {
-        (marks[i] >> (chunk.0 / 8 % 32)) % 2 == 1
+        (marks[i] >> (chunk.0 / 8 % BITS)) % 2 == 1
     } else {
         false
     }
@@ -20,8 +29,8 @@ pub fn is_marked(marks: &[u32], chunk: Chunk) -> bool
 pub fn flip(marks: &mut [u32], chunk: Chunk)
     ensures { λ _. ⌜ now (marks .exit) ≡ flipped (now (marks .entry)) (chunk .0) ⌝ }
 {
-    let i = (chunk.0 / 256) as usize;
+    let i = (chunk.0 / SPAN) as usize;
     if i < marks.len() {
-        marks[i] ^= 1 << (chunk.0 / 8 % 32);
+        marks[i] ^= 1 << (chunk.0 / 8 % BITS);
     }
 }

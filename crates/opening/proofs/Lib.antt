@@ -1,3 +1,1 @@
-pub mod FreshLaws
-pub mod LayoutLaws
-pub mod SetupLaws
+pub mod SetupMeaning

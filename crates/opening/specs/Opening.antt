@@ -1,56 +1,8 @@
--- What the code makes of a table and of the words, call by call: these definitions mirror the code.
--- Nobody needs to believe them: `proofs/` shows that where a setup is accepted they are what the rule says.
-use mathlib.Core.Bool.{Bool, cond}
-use mathlib.Core.List.{List, [], _∷_, _++_}
-use Prim.Native.Nat.{ℕ, _+_, _%_, _^_, min}
-use lib.Dec.{eqb}
-use lib.ListN.{length, take, drop}
+-- What a refused setup answers, as the code builds it. It mirrors the code.
 use Rattle.record.specs.declared.answers.Answer.the-variants.{Refused}
 use Rattle.record.specs.declared.answers.Refusal.{Refusal}
 use Rattle.record.specs.declared.answers.Reply.{Reply}
-use Rattle.record.specs.declared.heap.Heap.{Heap}
-use Rattle.record.specs.Heap.{places, at, zeros, empty}
-use Rattle.headers.specs.Headers.{freeWords}
-use Rattle.region.specs.Words.{Store, put, forward, backward}
-use Rattle.rules.specs.Draft.{noBinWords}
+use Rattle.record.specs.Heap.{empty}
 
-abbrev pub refusal : Refusal → Reply
-refusal why = record { answer = Refused why; heap = empty }
-
--- as many sizes as a record has places for, and zeros after them
-unfoldable pub padded : List ℕ → List ℕ
-padded t = take places t ++ drop (length t) zeros
-
-unfoldable pub donorPlace : ℕ → ℕ
-donorPlace donor = cond (eqb donor 0) 0 8
-
-unfoldable pub freshM : ℕ → List ℕ → ℕ → ℕ → Bool → Heap
-freshM bytes t donor top merge =
-    record {
-      bytes = bytes;
-      bins = min (length t) places;
-      sizes = padded t;
-      heads = zeros;
-      tails = zeros;
-      donor = at (donorPlace donor);
-      top = at top;
-      merge = merge;
-      used = 0;
-    }
-
-unfoldable pub startWords : List Store
-startWords = put 0 forward 8 ∷ put 0 backward 1 ∷ []
-
-unfoldable pub endWords : ℕ → ℕ → List Store
-endWords top end = put end forward 0 ∷ put end backward ((top + 1) % 2 ^ 32) ∷ []
-
-unfoldable pub withoutDonor : ℕ → ℕ → List Store
-withoutDonor top end = startWords ++ freeWords 0 top end ++ noBinWords top ++ endWords top end
-
-unfoldable pub withDonor : ℕ → ℕ → ℕ → List Store
-withDonor donor top end =
-    startWords ++ freeWords 0 donor top ++ freeWords donor top end
-    ++ noBinWords donor ++ noBinWords top ++ endWords top end
-
-unfoldable pub firstWords : ℕ → ℕ → ℕ → List Store
-firstWords donor top end = cond (eqb donor 0) (withoutDonor top end) (withDonor 8 top end)
+abbrev pub refusedM : Refusal → Reply
+refusedM why = record { answer = Refused why; heap = empty }

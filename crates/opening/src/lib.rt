@@ -1,24 +1,28 @@
 // Setup on any region: the refusals in their order, and an accepted setup's headers and record put together.
-// The words of the headers are in `layout`, the record in `fresh`.
+// The words of the headers and the record are in the crate `fresh`.
 ghost use mathlib.Core.Path.{_≡_};
-ghost use Rattle.opening.specs.Opening.{refusal};
+ghost use Rattle.opening.specs.Opening.{refusedM};
 ghost use Rattle.rules.specs.Setup.{donorFits};
 ghost use Rattle.rules.specs.Statements.{SetsUp};
-use crate::fresh::fresh;
-use crate::layout::write_headers;
+use fresh::first_record::fresh;
+use fresh::write_headers;
 use record::answers::Answer;
 use record::answers::Refusal;
 use record::answers::Reply;
 use record::heap::Heap;
 use record::table::valid;
 use region::Chunk;
+use region::END_SIZE;
+use region::FEWEST_WORDS;
+use region::LEAST;
+use region::MOST_WORDS;
 
-mod fresh;
-mod layout;
+// The bytes that are no donor's: the ends, and a top chunk of the least size.
+const KEPT: u32 = 2 * END_SIZE + LEAST;
 
 // A refused setup gives an empty record.
-fn refused(why: Refusal) -> Reply
-    ensures { λ r. ⌜ r ≡ refusal why ⌝ }
+fn refused_setup(why: Refusal) -> Reply
+    ensures { λ r. ⌜ r ≡ refusedM why ⌝ }
 {
     Reply {
         answer: Answer::Refused(why),
@@ -26,45 +30,45 @@ fn refused(why: Refusal) -> Reply
     }
 }
 
-// The ends and a top chunk of the least size take 40 bytes. A donor of 0 bytes is none at all.
+// A donor of 0 bytes is none at all.
 fn donor_fits(bytes: u32, donor: u32) -> bool
     ensures { λ r. ⌜ r ≡ donorFits bytes donor ⌝ }
 {
     if donor == 0 {
         return true;
     }
-    if donor < 24 {
+    if donor < LEAST {
         return false;
     }
     if donor % 8 != 0 {
         return false;
     }
-    if bytes < 40 {
+    if bytes < KEPT {
         return false;
     }
-    donor <= bytes - 40
+    donor <= bytes - KEPT
 }
 
-// An odd last word is not lent on: nothing below can reach it.
+// An odd last word is not lent on, so that no function below can read or write it.
 pub fn setup(region: &mut [u32], table: &[u32], donor: u32, merge: bool) -> Reply
     ensures { λ r. ⌜ SetsUp (now (region .entry)) (now (table .entry)) donor merge r (now (region .exit)) ⌝ }
 {
-    if region.len() < 10 {
-        return refused(Refusal::RegionLength);
+    if region.len() < FEWEST_WORDS {
+        return refused_setup(Refusal::RegionLength);
     }
-    if 16384 < region.len() {
-        return refused(Refusal::RegionLength);
+    if MOST_WORDS < region.len() {
+        return refused_setup(Refusal::RegionLength);
     }
     if !valid(table) {
-        return refused(Refusal::BadTable);
+        return refused_setup(Refusal::BadTable);
     }
     let words = region.len() / 2 * 2;
     let bytes = words as u32 * 4;
     if !donor_fits(bytes, donor) {
-        return refused(Refusal::DonorSize);
+        return refused_setup(Refusal::DonorSize);
     }
-    let top = Chunk(8 + donor);
-    let end = Chunk(bytes - 8);
+    let top = Chunk(END_SIZE + donor);
+    let end = Chunk(bytes - END_SIZE);
     write_headers(&mut region[..words], donor, top, end);
     Reply {
         answer: Answer::Done,

@@ -1,5 +1,5 @@
--- The rules keep blocks apart (`kept-apart`): a granted block is cut from a chunk that could serve and meets no live one, and every live block
--- that is not given back or resized keeps its place, its length and its words. Assumes nothing.
+-- The rules keep the promise `Apart` (`apart`): a granted block is cut from a chunk that can serve and overlaps no live one; every live block
+-- but the one that is freed or reallocated keeps its place, its length and its words. Assumes nothing.
 use mathlib.Core.Path.{_≡_, refl, sym, ap, subst, _∙_}
 use mathlib.Core.Logic.{_≢_, _⊎_, inl, inr}
 use mathlib.Core.Bool.{true, false, true≢false, false≢true}
@@ -9,7 +9,7 @@ use native.Mathlib.Decide.{ℕ-discrete}
 use native.Mathlib.Omega.{arith}
 use lib.IntN.{ℤ}
 use borrow.Author.Tests.{ne-eqb, lt-ltb}
-use Rattle.grant.proofs.SourceLaws.{need-grantable}
+use Rattle.drafts.proofs.SourceLaws.{need-grantable}
 use Rattle.record.specs.declared.answers.Answer.{Answer}
 use Rattle.record.specs.declared.answers.Answer.the-variants.{Done, Granted, Returned}
 use Rattle.record.specs.declared.heap.Heap.{Heap}
@@ -18,11 +18,11 @@ use Rattle.record.specs.Heap.{withMerge}
 use Rattle.region.specs.declared.Block.{Block}
 use Rattle.region.specs.Words.{Store, written}
 use Rattle.region.proofs.WordsLaws.{off}
-use Rattle.release.proofs.ReleaseKept.{free-kept}
-use Rattle.release.proofs.ReleaseSpares.{shrink-spares, shrink-spares-own}
-use Rattle.release.proofs.ShrinkKept.{ShrinkingBlock, shrink-kept, shrink-there, shrink-others-stay, shrink-none-new}
-use Rattle.resize.proofs.MovedLaws.{Moving}
-use Rattle.resize.proofs.WantedLaws.{block-moves, block-shrinks}
+use Rattle.drafts.proofs.ReleaseKept.{free-kept}
+use Rattle.drafts.proofs.ReleaseSpared.{shrink-spares, shrink-spares-own}
+use Rattle.drafts.proofs.ShrinkKept.{ShrinkingBlock, shrink-kept, shrink-there, shrink-others-stay, shrink-none-new}
+use Rattle.drafts.proofs.MovedLaws.{Moving}
+use Rattle.drafts.proofs.WantedLaws.{block-moves, block-shrinks}
 use Rattle.rules.specs.Shape.{Entry, shape}
 use Rattle.rules.specs.Kinds.{live, overhead, blockOf, blockWords}
 use Rattle.rules.specs.Check.{Passes}
@@ -40,28 +40,28 @@ use Rattle.rules.specs.Calls.{Call, Setup, Allocate, AllocateCleared, Free, Rea
 use Rattle.rules.proofs.CheckLaws.{passes-iff}
 use Rattle.rules.proofs.SpotLaws.{inside}
 use Rattle.rules.proofs.OutcomeLaws.{Failed, judged-so}
-use Rattle.settling.proofs.FillLaws.{Within}
+use Rattle.drafts.proofs.FillLaws.{Within}
 use Rattle.promises.specs.Ways.{ours}
 use Rattle.promises.specs.Room.{OnChain, HoldsBlock}
-use Rattle.promises.specs.Refused.{isSetup, recordOf}
+use Rattle.promises.specs.Refusing.{isSetup, refusedRecord}
 use Rattle.promises.specs.Apart.{SameWords, Keeps, KeepsAll, KeepsOthers, Gone, NoneNew, NoneNewBut, New, Clear, Stays, onlyLooks, Apart}
-use Rattle.promises.proofs.RefusedLaws.{refusing}
+use Rattle.promises.proofs.RefusingLaws.{refusing}
 use Rattle.promises.proofs.GrantedLaws.{NewApart, kept-still, new-apart, new-clear, cleared-within, others-kept, none-others, moved-apart}
 use Rattle.promises.proofs.JudgedLaws.{accepts, accepted-made}
 use Rattle.promises.proofs.ReasonLaws.{live-iff, one-block, here-holds}
 use Rattle.promises.proofs.ResizedLaws.{resized-so}
 
--- a call that granted a block was not refused: its tests failed, and the outcome is what it made
-accepted : (h : Heap) (o : Outcome) (block : Block) (change : ℤ) (ts : Refusals) → judged h ts o .answer ≡ Granted block change
+-- a call that granted a block was accepted: all its tests for refusal failed
+accepted : (h : Heap) (o : Outcome) {block : Block} {change : ℤ} (ts : Refusals) → judged h ts o .answer ≡ Granted block change
     → Failed ts × (judged h ts o ≡ o)
-accepted h o block change ts q = accepted-made h o ts (accepts (ap (λ (a : Answer). figuresOf a .refusal) q))
+accepted h o ts q = accepted-made h o ts (accepts (ap (λ (a : Answer). figuresOf a .refusal) q))
 
--- the block of an answer that grants one
-granted-block : (before : ℕ) (e : Entry) (block : Block) (change : ℤ) → grants before e ≡ Granted block change → blockOf e ≡ block .0
-granted-block before e block change q = ap (λ (a : Answer). figuresOf a .offset) q
+-- the block that an answer grants
+granted-block : (before : ℕ) (e : Entry) {block : Block} {change : ℤ} → grants before e ≡ Granted block change → blockOf e ≡ block .0
+granted-block before e q = ap (λ (a : Answer). figuresOf a .offset) q
 
-module _ (ws : List ℕ) (h : Heap) (p : Passes ws h) (block : Block) (change : ℤ) where
-  -- a new block, whatever is written into it
+module _ {ws : List ℕ} {h : Heap} (p : Passes ws h) {block : Block} {change : ℤ} where
+  -- a new block; `fill` is written into it
   module _ (fill : Entry → List Store) (within : (e : Entry) → Within e (fill e)) (z : ℕ) (q : allocateWith fill ws h z .answer ≡ Granted block change) where
     abbrev n : ℕ
     n = need overhead z
@@ -70,35 +70,36 @@ module _ (ws : List ℕ) (h : Heap) (p : Passes ws h) (block : Block) (change : 
     made-of = made (grants 0 (grant n (asRead ws h) .granted)) (alsoWrites (fill (grant n (asRead ws h) .granted)) (grant n (asRead ws h) .draft))
 
     taken : Failed (allocateRefusals (heapFails ws h) (asRead ws h) z) × (allocateWith fill ws h z ≡ made-of)
-    taken = accepted h made-of block change (allocateRefusals (heapFails ws h) (asRead ws h) z) q
+    taken = accepted h made-of (allocateRefusals (heapFails ws h) (asRead ws h) z) q
 
     block-is : blockOf (grant n (asRead ws h) .granted) ≡ block .0
-    block-is = granted-block 0 (grant n (asRead ws h) .granted) block change (sym (ap (λ (o : Outcome). o .answer) (taken .1)) ∙ q)
+    block-is = granted-block 0 (grant n (asRead ws h) .granted) (sym (ap (λ (o : Outcome). o .answer) (taken .1)) ∙ q)
 
     with-apart : NewApart ws h n (block .0) (leftBy ws (allocateWith fill ws h z))
     with-apart =
-        rw (taken .1, ← block-is)
-        (new-apart (need-grantable z p (taken .0 .1 .1 .0)) (fill (grant n (asRead ws h) .granted)) (within _) (made-of .answer))
+        let ((_, (_, (some, _))), made-is) = taken in
+        rw (made-is, ← block-is)
+        (new-apart (need-grantable z p some) (fill (grant n (asRead ws h) .granted)) (within _) (made-of .answer))
 
-  -- a cleared one
+  -- a cleared block
   cleared-clear : (z : ℕ) → allocateWith cleared ws h z .answer ≡ Granted block change → Clear (block .0) (leftBy ws (allocateWith cleared ws h z))
   cleared-clear z q =
-      let t = taken cleared cleared-within z q in
-      rw (t .1, ← block-is cleared cleared-within z q)
-      (new-clear (need-grantable z p (t .0 .1 .1 .0)))
+      let ((_, (_, (some, _))), made-is) = taken cleared cleared-within z q in
+      rw (made-is, ← block-is cleared cleared-within z q)
+      (new-clear (need-grantable z p some))
 
 -- the live block at b, whose chunk is e
-module _ (ws : List ℕ) (h : Heap) (p : Passes ws h) (b : ℕ) (e : Entry) (k : HoldsBlock ws h b e) where
+module _ {ws : List ℕ} {h : Heap} (p : Passes ws h) {b : ℕ} {e : Entry} (k : HoldsBlock ws h b e) where
   some-block : b ≢ 0
-  some-block q = omega (arith, k .block)
+  some-block q = omega arith
 
   is-live : isLive (asRead ws h) b ≡ true
   is-live = live-iff ws h b .1 (e, k)
 
-  -- what its free leaves
+  -- what freeing it leaves
   free-left : ours (Free b) ws h ≡ leftBy ws (made (Returned (changeOf (blockSpot (asRead ws h) b .here .size) 0)) (freeBlock b (asRead ws h)))
   unfolding ours step free
-  free-left = rw (passes-iff ws h .1 p, ne-eqb b 0 some-block, is-live, free-kept ws h p b is-live .housed) refl
+  free-left = rw (passes-iff ws h .1 p, ne-eqb b 0 some-block, is-live, free-kept ws h p b is-live .allPut) refl
 
   -- the chunk that the rule finds is e
   abbrev old : Entry
@@ -110,8 +111,8 @@ module _ (ws : List ℕ) (h : Heap) (p : Passes ws h) (b : ℕ) (e : Entry) (k :
   old-is : old ≡ e
   old-is = one-block ws h p b old e old-holds k
 
-  -- is resized
-  module _ (block : Block) (change : ℤ) (z : ℕ) (q : ours (Reallocate b z) ws h .answer ≡ Granted block change) where
+  -- it is reallocated
+  module _ {block : Block} {change : ℤ} (z : ℕ) (q : ours (Reallocate b z) ws h .answer ≡ Granted block change) where
     abbrev wanted : ℕ
     wanted = need overhead z
 
@@ -124,21 +125,21 @@ module _ (ws : List ℕ) (h : Heap) (p : Passes ws h) (b : ℕ) (e : Entry) (k :
     abbrev tests : Refusals
     tests = resizeRefusals (heapFails ws h) ws (asRead ws h) b z
 
-    -- what the call leaves: it was not refused
+    -- what the call leaves: it was accepted
     resize-left : ours (Reallocate b z) ws h ≡ leftBy ws (judged h tests outcome)
     unfolding ours step reallocate resize
     resize-left = rw (ne-eqb b 0 some-block) refl
 
     resize-taken : Failed tests × (judged h tests outcome ≡ outcome)
-    resize-taken = accepted h outcome block change tests (sym (ap (λ (x : Left). x .answer) resize-left) ∙ q)
+    resize-taken = accepted h outcome tests (sym (ap (λ (x : Left). x .answer) resize-left) ∙ q)
 
     resized-left : ours (Reallocate b z) ws h ≡ leftBy ws outcome
     resized-left = resize-left ∙ ap (leftBy ws) (resize-taken .1)
 
     resized-block : blockOf (result .granted) ≡ block .0
-    resized-block = granted-block (old .size) (result .granted) block change (sym (ap (λ (x : Left). x .answer) resized-left) ∙ q)
+    resized-block = granted-block (old .size) (result .granted) (sym (ap (λ (x : Left). x .answer) resized-left) ∙ q)
 
-    -- a block that outgrows its chunk
+    -- it outgrows its chunk and moves
     module _ (less : e .size < wanted) where
       abbrev left : Left
       left = ours (Reallocate b z) ws h
@@ -147,7 +148,9 @@ module _ (ws : List ℕ) (h : Heap) (p : Passes ws h) (b : ℕ) (e : Entry) (k :
       outgrown = rw old-is less
 
       moving : Moving ws h wanted old
-      moving = let f = resize-taken .0 .1 .1 .1 .0 in block-moves p b is-live z (rw (lt-ltb (old .size) wanted outgrown) at f) outgrown
+      moving =
+          let (_, (_, (_, (room, _)))) = resize-taken .0 in
+          block-moves p b is-live z (rw (lt-ltb (old .size) wanted outgrown) at room) outgrown
 
       abbrev moves : Grant
       moves = moved ws (blockSpot (asRead ws h) b) wanted (asRead ws h)
@@ -159,7 +162,7 @@ module _ (ws : List ℕ) (h : Heap) (p : Passes ws h) (b : ℕ) (e : Entry) (k :
       moved-left : leftBy ws (made (grants (old .size) (moves .granted)) (moves .draft)) ≡ left
       moved-left = sym (resized-left ∙ ap (λ (x : Grant). leftBy ws (made (grants (old .size) (x .granted)) (x .draft))) moved-is)
 
-      -- what is promised of a moved block
+      -- the promise about a moved block
       abbrev Moved : ℕ → ℕ → Entry → Left → Type 0
       Moved d c x y = New ws h wanted d y × KeepsOthers ws h c y × Gone c y × NoneNewBut ws h d y × SameWords ws c (y .words) d (blockWords x)
 
@@ -173,15 +176,15 @@ module _ (ws : List ℕ) (h : Heap) (p : Passes ws h) (b : ℕ) (e : Entry) (k :
           (subst (λ (c : ℕ). Moved to c old left) (old-holds .block)
           (subst (λ (y : Left). Moved to (blockOf old) old y) moved-left r)))
 
-    -- one that its chunk has room for
+    -- its chunk has room for it
     module _ (fits : wanted ≤ e .size) where
-      -- what is promised of one that stays
+      -- the promise about a block that stays
       abbrev Stay : Grant → Type 0
       Stay x =
           let left = leftBy ws (made (grants (old .size) (x .granted)) (x .draft)) in
           (blockOf (x .granted) ≡ b) × ((y : Entry) × Stays ws wanted b e (left .words) (left .heap) y) × KeepsOthers ws h b left × NoneNewBut ws h b left
 
-      -- a tail is split off
+      -- a tail is split off and given back
       module _ (l : wanted + 24 ≤ old .size) where
         shrinking : ShrinkingBlock ws h b wanted
         shrinking = block-shrinks p b is-live z l
@@ -245,7 +248,7 @@ module _ (ws : List ℕ) (h : Heap) (p : Passes ws h) (b : ℕ) (e : Entry) (k :
 
       stays-apart : let left = ours (Reallocate b z) ws h in
           (block .0 ≡ b) × ((y : Entry) × Stays ws wanted b e (left .words) (left .heap) y) × KeepsOthers ws h b left × NoneNewBut ws h b left
-      stays-apart = let r = result-stays in rw resized-left (sym resized-block ∙ r .0, r .1, r .2, r .3)
+      stays-apart = let (place, stays, keeps, none) = result-stays in rw resized-left (sym resized-block ∙ place, stays, keeps, none)
 
 -- a question changes nothing, answered or refused
 unchanged-judged : (h : Heap) (a : Answer) (ts : Refusals) → judged h ts (unchanged h a) ≡ unchanged h (judged h ts (unchanged h a) .answer)
@@ -269,7 +272,7 @@ module _ (ws : List ℕ) (h : Heap) (p : Passes ws h) where
   look (AskBin question i) q = rw (unchanged-judged h _ _) (still ws h)
 
 -- a refused call gives the record as it came
-came : (call : Call) (h : Heap) → isSetup call ≡ false → recordOf call h ≡ h
+came : (call : Call) (h : Heap) → isSetup call ≡ false → refusedRecord call h ≡ h
 came (Setup table donor merge) h q = absurd (true≢false q)
 came (Allocate z) h q = refl
 came (AllocateCleared count size) h q = refl
@@ -280,36 +283,34 @@ came Check h q = refl
 came (AskChunk question place) h q = refl
 came (AskBin question i) h q = refl
 
-module _ (ws : List ℕ) (h : Heap) (p : Passes ws h) (block : Block) (change : ℤ) where
+module _ {ws : List ℕ} {h : Heap} (p : Passes ws h) {block : Block} {change : ℤ} where
   allocated : (z : ℕ) → ours (Allocate z) ws h .answer ≡ Granted block change
       → NewApart ws h (need overhead z) (block .0) (ours (Allocate z) ws h)
   unfolding ours step allocate
-  allocated z q = with-apart ws h p block change asFound (λ e. tt) z q
+  allocated z q = with-apart p asFound (λ e. tt) z q
 
   reallocated : (z : ℕ) → ours (Reallocate 0 z) ws h .answer ≡ Granted block change
       → NewApart ws h (need overhead z) (block .0) (ours (Reallocate 0 z) ws h)
   unfolding ours step reallocate allocate
-  reallocated z q = with-apart ws h p block change asFound (λ e. tt) z q
+  reallocated z q = with-apart p asFound (λ e. tt) z q
 
   cleared-apart : (count size : ℕ) → let left = ours (AllocateCleared count size) ws h in
       left .answer ≡ Granted block change
       → New ws h (need overhead (count * size)) (block .0) left × KeepsAll ws h left × NoneNewBut ws h (block .0) left × Clear (block .0) left
   unfolding ours step allocateCleared
   cleared-apart count size q =
-      let r = with-apart ws h p block change cleared cleared-within (count * size) q in
-      (r .0, r .1, r .2, cleared-clear ws h p block change (count * size) q)
+      let (new, keeps, none) = with-apart p cleared cleared-within (count * size) q in
+      (new, keeps, none, cleared-clear p (count * size) q)
 
-pub kept-apart : Apart ours
-kept-apart ws h p =
+pub apart : Apart ours
+apart ws h p =
     record {
-      allocate = λ z block change q. allocated ws h p block change z q;
-      cleared = λ count size block change q. cleared-apart ws h p block change count size q;
-      noBlock = λ z block change q. reallocated ws h p block change z q;
-      moved = λ b z block change e k l q. moves-apart ws h p b e k block change z q l;
-      stays = λ b z block change e k l q. stays-apart ws h p b e k block change z q l;
-      free = λ b e k.
-          rw (free-left ws h p b e k)
-          (others-kept ws h p b (is-live ws h p b e k), none-others ws h p b (is-live ws h p b e k));
+      allocate = λ z block change q. allocated p z q;
+      cleared = λ count size block change q. cleared-apart p count size q;
+      noBlock = λ z block change q. reallocated p z q;
+      moved = λ b z block change e k l q. moves-apart p k z q l;
+      stays = λ b z block change e k l q. stays-apart p k z q l;
+      free = λ b e k. rw (free-left p k) (others-kept ws h p b (is-live p k), none-others ws h p b (is-live p k));
       looks = look ws h p;
       refused = λ call s r q.
           rw (refusing .heap call ws h r q ∙ came call h s, refusing .words call ws h r q) (still ws h);

@@ -1,4 +1,4 @@
--- The tests of the calls that grant, take back and resize blocks decide the reasons of their refusals
+-- The tests of both allocates, free and reallocate decide the reasons of their refusals
 -- (`allocate-judged`, `cleared-judged`, `free-judged`, `reallocate-judged`). Assumes nothing.
 use mathlib.Core.Path.{_≡_, refl, ap}
 use mathlib.Core.Logic.{_↔_}
@@ -14,53 +14,71 @@ use Rattle.lists.proofs.ListsLaws.{Decides, number-is, meaning, both, denied}
 use Rattle.record.specs.declared.answers.Refusal.{Refusal}
 use Rattle.record.specs.declared.answers.Refusal.the-variants.{HeapFails, BlockSize, NotLive, NoRoom, NoBinTakes}
 use Rattle.record.specs.declared.heap.Heap.{Heap}
+use Rattle.region.specs.Words.{Store}
 use Rattle.rules.specs.Shape.{Entry}
 use Rattle.rules.specs.Kinds.{overhead}
 use Rattle.rules.specs.Check.{Passes}
 use Rattle.rules.specs.Draft.{asRead}
 use Rattle.rules.specs.Serve.{mostBytes, need, permitted, nowhere}
-use Rattle.rules.specs.Outcome.{Refusals, heapFails}
+use Rattle.rules.specs.Outcome.{Refusals, judged, heapFails}
 use Rattle.rules.specs.Allocate.{sourceOf, grant, asFound, cleared, allocate, allocateCleared, allocateRefusals, allocated}
 use Rattle.rules.specs.Free.{isLive, blockSpot, freeBlock, free, freeRefusals, freed}
 use Rattle.rules.specs.Reallocate.{resized, resize, reallocate, resizeRefusals, resizedTo}
 use Rattle.rules.specs.Calls.{Call, Allocate, AllocateCleared, Free, Reallocate, step}
 use Rattle.promises.specs.Room.{HoldsBlock, NoneServes}
-use Rattle.promises.specs.Refused.{WrongSize, Because, fails, allocateSize, clearedSize, reallocateSize, freeNotLive, reallocateNotLive, allocateRoom, clearedRoom, reallocateRoom, allocateBin, clearedBin, freeBin, reallocateNewBin, reallocateBin, isSetup}
+use Rattle.promises.specs.Refusing.{WrongSize, Because, fails, allocateSize, clearedSize, reallocateSize, freeNotLive, reallocateNotLive, allocateRoom, clearedRoom, reallocateRoom, allocateBin, clearedBin, freeBin, reallocateNewBin, reallocateBin, isSetup, refusedRecord}
 use Rattle.promises.proofs.ServeLaws.{room-iff}
-use Rattle.promises.proofs.JudgedLaws.{accepts, Decided, first, second, third, fourth, fifth, Judging, fails-iff, well}
+use Rattle.promises.proofs.JudgedLaws.{accepts, first, second, third, fourth, fifth, Judging, fails-iff, well}
 use Rattle.promises.proofs.ReasonLaws.{range-iff, live-iff, outgrown-iff}
 
 -- the refusals of a call that grants a block of z bytes
 abbrev allocating : List ℕ → Heap → ℕ → Refusals
 allocating ws h z = allocateRefusals (heapFails ws h) (asRead ws h) z
 
-module _ (ws : List ℕ) (h : Heap) (call : Call) (z : ℕ) (s : isSetup call ≡ false)
-    (size : WrongSize z ↔ Because ws h call BlockSize) (room : NoneServes ws h (need overhead z) ↔ Because ws h call NoRoom)
-    (bin : (grant (need overhead z) (asRead ws h) .draft .homeless ≡ true) ↔ Because ws h call NoBinTakes) where
-  allocating-decided : Decided (Because ws h call) (allocating ws h z)
-  allocating-decided = (
-    fails-iff ws h call s,
-    λ f. (
-      meaning (range-iff mostBytes z) (size .0) (size .1),
-      λ _. (meaning (room-iff ws h (well ws h call s f) (need overhead z) (omega arith)) (room .0) (room .1), λ _. (bin, λ _. tt)),
-    ),
-  )
+-- the three reasons of such a call, besides that of a heap that fails
+record Asking (ws : List ℕ) (h : Heap) (call : Call) (z : ℕ) : Type 0 where
+  other : isSetup call ≡ false
+  size : WrongSize z ↔ Because ws h call BlockSize
+  room : NoneServes ws h (need overhead z) ↔ Because ws h call NoRoom
+  bin : (grant (need overhead z) (asRead ws h) .draft .noBinTakes ≡ true) ↔ Because ws h call NoBinTakes
+  stands : (r : Refusal) → Because ws h call r → Mem r (HeapFails ∷ BlockSize ∷ NoRoom ∷ NoBinTakes ∷ [])
+
+-- a call that grants a block of z bytes, into which `fill` is written
+allocating-judged : {ws : List ℕ} {h : Heap} {call : Call} (fill : Entry → List Store) (z : ℕ) → Asking ws h call z
+    → step call ws h ≡ judged (refusedRecord call h) (allocating ws h z) (allocated fill (asRead ws h) z) → Judging call ws h
+allocating-judged {ws} {h} {call} fill z asks is =
+    record {
+      tests = allocating ws h z;
+      made = allocated fill (asRead ws h) z;
+      accepted = accepts refl;
+      is = is;
+      rising = omega arith;
+      stands = asks .stands;
+      decided = (
+        fails-iff ws h call (asks .other),
+        λ f. (
+          meaning (range-iff mostBytes z) (asks .size .0) (asks .size .1),
+          λ _. (
+            meaning (room-iff ws h (well ws h call (asks .other) f) (need overhead z) (omega arith)) (asks .room .0) (asks .room .1),
+            λ _. (asks .bin, λ _. tt),
+          ),
+        ),
+      );
+    }
 
 module _ (ws : List ℕ) (h : Heap) where
   pub allocate-judged : (z : ℕ) → Judging (Allocate z) ws h
   unfolding step allocate
   allocate-judged z =
-      record {
-        tests = allocating ws h z;
-        made = allocated asFound (asRead ws h) z;
-        accepted = accepts refl;
-        is = refl;
-        rising = omega arith;
+      allocating-judged asFound z
+      (record {
+        other = refl;
+        size = (λ w. allocateSize w, λ k. elim k [ allocateSize w ↦ w ]);
+        room = (λ w. allocateRoom w, λ k. elim k [ allocateRoom w ↦ w ]);
+        bin = (λ w. allocateBin w, λ k. elim k [ allocateBin w ↦ w ]);
         stands = stands;
-        decided =
-            allocating-decided ws h (Allocate z) z refl (λ w. allocateSize w, λ k. elim k [ allocateSize w ↦ w ])
-            (λ w. allocateRoom w, λ k. elim k [ allocateRoom w ↦ w ]) (λ w. allocateBin w, λ k. elim k [ allocateBin w ↦ w ]);
-      }
+      })
+      refl
     where
       stands : (r : Refusal) → Because ws h (Allocate z) r → Mem r (HeapFails ∷ BlockSize ∷ NoRoom ∷ NoBinTakes ∷ [])
       stands r (fails s n) = first
@@ -71,17 +89,15 @@ module _ (ws : List ℕ) (h : Heap) where
   pub cleared-judged : (count size : ℕ) → Judging (AllocateCleared count size) ws h
   unfolding step allocateCleared
   cleared-judged count size =
-      record {
-        tests = allocating ws h (count * size);
-        made = allocated cleared (asRead ws h) (count * size);
-        accepted = accepts refl;
-        is = refl;
-        rising = omega arith;
+      allocating-judged cleared (count * size)
+      (record {
+        other = refl;
+        size = (λ w. clearedSize w, λ k. elim k [ clearedSize w ↦ w ]);
+        room = (λ w. clearedRoom w, λ k. elim k [ clearedRoom w ↦ w ]);
+        bin = (λ w. clearedBin w, λ k. elim k [ clearedBin w ↦ w ]);
         stands = stands;
-        decided =
-            allocating-decided ws h (AllocateCleared count size) (count * size) refl (λ w. clearedSize w, λ k. elim k [ clearedSize w ↦ w ])
-            (λ w. clearedRoom w, λ k. elim k [ clearedRoom w ↦ w ]) (λ w. clearedBin w, λ k. elim k [ clearedBin w ↦ w ]);
-      }
+      })
+      refl
     where
       stands : (r : Refusal) → Because ws h (AllocateCleared count size) r → Mem r (HeapFails ∷ BlockSize ∷ NoRoom ∷ NoBinTakes ∷ [])
       stands r (fails s n) = first
@@ -89,15 +105,15 @@ module _ (ws : List ℕ) (h : Heap) where
       stands r (clearedRoom w) = third
       stands r (clearedBin w) = fourth
 
-  -- block 0 leaves the heap as it is read, and nothing is put
-  free-bins : (b : ℕ) → Decides (cond (eqb b 0) (asRead ws h) (freeBlock b (asRead ws h)) .homeless) (Because ws h (Free b) NoBinTakes)
+  -- for block 0 no chunk is put into a bin
+  free-bins : (b : ℕ) → Decides (cond (eqb b 0) (asRead ws h) (freeBlock b (asRead ws h)) .noBinTakes) (Because ws h (Free b) NoBinTakes)
   unfolding asRead
   free-bins b = go (ℕ-discrete b 0)
     where
-      of : Because ws h (Free b) NoBinTakes → (0 < b) × (freeBlock b (asRead ws h) .homeless ≡ true)
+      of : Because ws h (Free b) NoBinTakes → (0 < b) × (freeBlock b (asRead ws h) .noBinTakes ≡ true)
       of (freeBin l w) = (l, w)
 
-      go : Dec (b ≡ 0) → Decides (cond (eqb b 0) (asRead ws h) (freeBlock b (asRead ws h)) .homeless) (Because ws h (Free b) NoBinTakes)
+      go : Dec (b ≡ 0) → Decides (cond (eqb b 0) (asRead ws h) (freeBlock b (asRead ws h)) .noBinTakes) (Because ws h (Free b) NoBinTakes)
       go (yes z) = rw (eq-eqb b 0 z) (λ t. absurd (false≢true t), λ k. absurd (omega (arith, of k .0)))
       go (no n) = rw (ne-eqb b 0 n) (λ t. freeBin {b = b} (omega arith) t, λ k. of k .1)
 
@@ -117,8 +133,8 @@ module _ (ws : List ℕ) (h : Heap) where
       lives : Decides (not (eqb b 0) && not (isLive (asRead ws h) b)) (Because ws h (Free b) NotLive)
       lives =
           meaning (both (denied (number-is b 0)) (denied (live-iff ws h b)))
-          (λ k. freeNotLive (omega (arith, k .0), λ e m. k .1 (e, m)))
-          (λ k. elim k [ freeNotLive n ↦ (λ z. omega (arith, n .0), λ (e, m). n .1 e m) ])
+          (λ k. freeNotLive (omega arith, λ e m. k .1 (e, m)))
+          (λ k. elim k [ freeNotLive n ↦ (λ z. omega arith, λ (e, m). n .1 e m) ])
 
       stands : (r : Refusal) → Because ws h (Free b) r → Mem r (HeapFails ∷ NotLive ∷ NoBinTakes ∷ [])
       stands r (fails s n) = first
@@ -127,21 +143,13 @@ module _ (ws : List ℕ) (h : Heap) where
 
   -- block 0 is no live block
   none-held : (e : Entry) → HoldsBlock ws h 0 e → ⊥
-  none-held e k = omega (arith, k .block)
+  none-held e k = omega arith
 
   -- reallocate of block 0, and of any other
   new-judged : (b z : ℕ) → b ≡ 0 → Judging (Reallocate b z) ws h
   unfolding step reallocate allocate
   new-judged b z e =
-      record {
-        tests = allocating ws h z;
-        made = allocated asFound (asRead ws h) z;
-        accepted = accepts refl;
-        is = rw (eq-eqb b 0 e) refl;
-        rising = omega arith;
-        stands = stands;
-        decided = allocating-decided ws h (Reallocate b z) z refl sizes rooms bins;
-      }
+      allocating-judged asFound z (record { other = refl; size = sizes; room = rooms; bin = bins; stands = stands }) (rw (eq-eqb b 0 e) refl)
     where
       sizes : WrongSize z ↔ Because ws h (Reallocate b z) BlockSize
       sizes = (λ w. reallocateSize w, λ k. elim k [ reallocateSize w ↦ w ])
@@ -149,13 +157,13 @@ module _ (ws : List ℕ) (h : Heap) where
       rooms : NoneServes ws h (need overhead z) ↔ Because ws h (Reallocate b z) NoRoom
       rooms = (λ w. reallocateRoom {b = b} (λ d k. absurd (none-held d (rw e at k)), w), λ k. elim k [ reallocateRoom w ↦ w .1 ])
 
-      bins : (grant (need overhead z) (asRead ws h) .draft .homeless ≡ true) ↔ Because ws h (Reallocate b z) NoBinTakes
+      bins : (grant (need overhead z) (asRead ws h) .draft .noBinTakes ≡ true) ↔ Because ws h (Reallocate b z) NoBinTakes
       bins = (λ w. reallocateNewBin e w, λ k. elim k [ reallocateNewBin q w ↦ w | reallocateBin l w ↦ absurd (omega arith) ])
 
       stands : (r : Refusal) → Because ws h (Reallocate b z) r → Mem r (HeapFails ∷ BlockSize ∷ NoRoom ∷ NoBinTakes ∷ [])
       stands r (fails s n) = first
       stands r (reallocateSize w) = second
-      stands r (reallocateNotLive w) = absurd (omega (arith, w .0))
+      stands r (reallocateNotLive w) = absurd (omega arith)
       stands r (reallocateRoom w) = third
       stands r (reallocateNewBin q w) = fourth
       stands r (reallocateBin l w) = fourth
@@ -197,7 +205,7 @@ module _ (ws : List ℕ) (h : Heap) where
           meaning (both (outgrown-iff ws h p b some (need overhead z)) (room-iff ws h p (need overhead z) (omega arith)))
           (λ w. reallocateRoom w) (λ k. elim k [ reallocateRoom w ↦ w ])
 
-      bins : Decides (resized ws (blockSpot (asRead ws h) b) (need overhead z) (asRead ws h) .draft .homeless) (Because ws h (Reallocate b z) NoBinTakes)
+      bins : Decides (resized ws (blockSpot (asRead ws h) b) (need overhead z) (asRead ws h) .draft .noBinTakes) (Because ws h (Reallocate b z) NoBinTakes)
       bins = (λ t. reallocateBin l t, λ k. elim k [ reallocateNewBin q w ↦ absurd (omega arith) | reallocateBin m w ↦ w ])
 
       stands : (r : Refusal) → Because ws h (Reallocate b z) r → Mem r (HeapFails ∷ BlockSize ∷ NotLive ∷ NoRoom ∷ NoBinTakes ∷ [])

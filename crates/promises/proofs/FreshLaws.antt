@@ -1,4 +1,4 @@
--- The words that an accepted setup writes make, with its record, a heap that passes, whatever the region held (`fresh-passes`). Assumes nothing.
+-- An accepted setup makes a heap that passes, whatever the region held (`fresh-passes`). Assumes nothing.
 use mathlib.Core.Path.{_≡_, refl, sym, ap, _∙_}
 use mathlib.Core.Logic.{_≢_, inl, inr}
 use mathlib.Core.Bool.{Bool, false, false≢true}
@@ -8,7 +8,7 @@ use native.Mathlib.Omega.{arith}
 use lib.ListN.{length, length-append, getD, replicate, length-replicate}
 use lib.Seq.{take-append-seam, getD-append-add}
 use borrow.Author.Tests.{ne-eqb}
-use Rattle.lists.specs.Lists.{Mem}
+use Rattle.lists.specs.Lists.{Mem, lastOr}
 use Rattle.lists.proofs.ListsLaws.{each-cons, zero-at}
 use Rattle.record.specs.declared.heap.Heap.{Heap}
 use Rattle.record.specs.Table.{ValidTable}
@@ -21,23 +21,23 @@ use Rattle.rules.specs.Draft.{headers, noBinWords}
 use Rattle.rules.specs.Setup.{fresh, firstHeaders}
 use Rattle.rules.proofs.KindsLaws.{kind-start, kind-end, kind-top, kind-donor}
 use Rattle.rules.proofs.ShapeLaws.{read-none}
-use Rattle.rules.proofs.TiledLaws.{tiled-empty}
-use Rattle.settling.proofs.LayoutLaws.{Laid, Layout, laid-between}
-use Rattle.settling.proofs.HeaderLaws.{Header, Headed, headed-backed, headed-sized, headed-last, reads-as}
+use Rattle.rules.proofs.TiledLaws.{Tiled}
+use Rattle.drafts.proofs.LayoutLaws.{Laid, Layout, laid-between}
+use Rattle.drafts.proofs.HeaderLaws.{Header, Headed, headed-joined, headed-backed, reads-as, headed-chained, headed-sound, PassByHeader, headed-keeps, headers-written}
 use Rattle.promises.proofs.ReasonLaws.{Fitting}
 
--- every place past the sizes of a table
+-- a table filled up with zeros reads 0 past its sizes
 zero-past : (t : List ℕ) (n i : ℕ) → length t ≤ i → getD (t ++ replicate n 0) i 0 ≡ 0
 zero-past t n i l =
     ap (λ (k : ℕ). getD (t ++ replicate n 0) k 0) (omega arith)
     ∙ getD-append-add t (replicate n 0) (i - length t) 0
     ∙ zero-at n (i - length t)
 
--- whatever P is, it holds of each of no chunks
+-- P holds of every member of the empty list
 no-more : (P : Entry → Type 0) (e : Entry) → Mem e [] → P e
 no-more P e m = absurd (List·Memᴰ·not-nil m)
 
--- where no chunk is live none is used
+-- where no chunk is live no bytes are used
 none-used : (h : Heap) (es : List Entry) → ((e : Entry) → Mem e es → live h e ≡ false) → usedBytes h es ≡ 0
 none-used h [] f = refl
 none-used h (e ∷ es) f = rw (f e (List·Memᴰ·head refl)) (none-used h es (λ d m. f d (List·Memᴰ·tail m)))
@@ -71,11 +71,11 @@ module _ (ws table : List ℕ) (merge : Bool) (valid : ValidTable table) (enough
         tailsEnd = λ i l. zero-at 32 i;
       }
 
-  -- neither ordinary nor live
+  -- the chunk is neither ordinary nor live
   abbrev Neither : ℕ → Entry → Type 0
   Neither donor e = (ordinary (opened donor) e ≡ false) × (live (opened donor) e ≡ false)
 
-  -- a chain with its headers, in which no chunk is ordinary or live, and top and donor are where they have to be
+  -- a layout with its headers, no ordinary and no live chunk, and top and donor where they have to be: the heap passes
   module _ (donor : ℕ) (es : List Entry) (y : Layout bytes es) (k : Headed (words donor) outside es outside)
       (top : (e : Entry) × Mem e es × TopIs (words donor) (opened donor) e)
       (given : 0 < opened donor .donor .0 → (e : Entry) × Mem e es × DonorIs (words donor) (opened donor) e)
@@ -95,24 +95,15 @@ module _ (ws table : List ℕ) (merge : Bool) (valid : ValidTable table) (enough
           words = λ c m. absurd (List·Memᴰ·not-nil m);
         })
 
-    some-chunk : es ≡ [] → ⊥
-    some-chunk z = omega (arith, tiled-empty 0 bytes es (y .tiled) z)
-
     passes-so : PassesAs (words donor) (opened donor) es
     passes-so =
         record {
           fits = fits donor;
           table = tabled donor;
-          chain =
-              record {
-                reachesEnd = y .reaches;
-                endsThere = headed-last (words donor) outside es outside some-chunk k;
-                eights = λ e m. y .chunks e m .eight;
-              };
+          chain = headed-chained y k (omega arith);
           ends = y .ended;
           backward = headed-backed (words donor) outside es outside k;
-          chunks = λ e m.
-              record { flags = y .chunks e m .flags; room = y .chunks e m .room; sized = headed-sized (words donor) outside es outside k m };
+          chunks = headed-sound y k;
           top = top;
           donor = given;
           bins = λ i l. listed i;
@@ -144,9 +135,21 @@ module _ (ws table : List ℕ) (merge : Bool) (valid : ValidTable table) (enough
   end-laid =
       record { eight = omega arith; some = omega arith; ends = omega arith; flags = omega arith; room = λ l r. absurd (omega arith); free = λ f. absurd (omega arith) }
 
+  -- the end's links, above a top at this place
+  abbrev endLinks : ℕ → List Store
+  endLinks top = put (bytes - 8) forward 0 ∷ put (bytes - 8) backward (top + 1) ∷ []
+
+  -- the headers of the chunks es below the end are written, then the stores `later`: they make the end's header and spare the others
+  headers-then : (es : List Entry) (later : List Store) → Tiled 0 es (bytes - 8) → ((e : Entry) → Mem e es → Laid bytes e)
+      → ((e : Entry) → Mem e es → PassByHeader later e) → let after = written (written ws (headers 0 es)) later in
+      Header after (lastOr outside es) end outside → Headed after outside (es ++ end ∷ []) outside
+  headers-then es later tiles laid spares own =
+      headed-joined _ outside es (end ∷ []) outside
+      (headed-keeps later (written ws (headers 0 es)) outside es end spares (headers-written ws outside es end 0 tiles laid (omega arith))) (own, tt)
+
   module _ (donor : ℕ) (eight : donor % 8 ≡ 0) (room : donor + 40 ≤ bytes) where
     top-laid : Laid bytes (topOf donor)
-    top-laid = laid-between bytes (topOf donor) (omega arith) (omega arith) (omega arith) (omega arith) (omega arith)
+    top-laid = laid-between bytes (topOf donor) (omega arith) (omega arith) (record { some = omega arith; above = omega arith; below = omega arith })
 
     start-neither : Neither donor start
     start-neither = rw (← kind-start bytes (opened donor .donor .0) (8 + donor) start refl) (refl, refl)
@@ -174,25 +177,14 @@ module _ (ws table : List ℕ) (merge : Bool) (valid : ValidTable table) (enough
   plain-headed : Headed (words 0) outside plain outside
   plain-headed =
       let ss : List Store = firstHeaders bytes 0 in
-      let start-header : Header (words 0) outside start (topOf 0) =
-      record {
-        back = got 1 ss ws (omega arith) (omega arith);
-        forth = got 0 ss ws (omega arith) (omega arith);
-        sized = λ z. absurd (omega arith);
-      } in
-      let top-header : Header (words 0) start (topOf 0) end =
-      record {
-        back = got 3 ss ws (omega arith) (omega arith);
-        forth = got 2 ss ws (omega arith) (omega arith) ∙ omega arith;
-        sized = λ z. got 4 ss ws (omega arith) (omega arith);
-      } in
-      let end-header : Header (words 0) (topOf 0) end outside =
-      record {
+      headers-then (start ∷ topOf 0 ∷ []) (noBinWords 8 ++ endLinks 8) (omega arith)
+      (each-cons start-laid (each-cons (top-laid 0 (omega arith) (omega arith)) (no-more (Laid bytes))))
+      (each-cons (omega arith) (each-cons (omega arith) (no-more (PassByHeader (noBinWords 8 ++ endLinks 8)))))
+      (record {
         back = got 9 ss ws (omega arith) tt;
         forth = got 8 ss ws (omega arith) (omega arith);
         sized = λ z. absurd (omega arith);
-      } in
-      (start-header, (top-header, (end-header, tt)))
+      })
 
   plain-top : Unbinned (words 0) 8
   plain-top =
@@ -219,61 +211,39 @@ module _ (ws table : List ℕ) (merge : Bool) (valid : ValidTable table) (enough
     some : donor ≢ 0
     some q = omega arith
 
+    donor-laid : Laid bytes (donorOf donor)
+    donor-laid = laid-between bytes (donorOf donor) refl (omega arith) (record { some = large; above = omega arith; below = omega arith })
+
     donated-laid : Layout bytes donated
     donated-laid =
         record {
           tiled = omega arith;
-          chunks =
-              each-cons start-laid
-              (each-cons (laid-between bytes (donorOf donor) refl (omega arith) (omega arith) large (omega arith))
-              (each-cons (top-laid donor eight room) (each-cons end-laid (no-more (Laid bytes)))));
+          chunks = each-cons start-laid (each-cons donor-laid (each-cons (top-laid donor eight room) (each-cons end-laid (no-more (Laid bytes)))));
           ended = record { startSize = refl; startUsed = refl; endUsed = refl };
           reaches = omega arith;
         }
 
-    -- the stores, written out
+    -- the stores, written out: those of the headers, and those after them
+    abbrev later : List Store
+    later = noBinWords 8 ++ noBinWords (8 + donor) ++ endLinks (8 + donor)
+
     abbrev stores : List Store
-    stores =
-        headers 0 (start ∷ donorOf donor ∷ topOf donor ∷ []) ++ noBinWords 8 ++ noBinWords (8 + donor)
-        ++ put (bytes - 8) forward 0 ∷ put (bytes - 8) backward (8 + donor + 1) ∷ []
+    stores = headers 0 (start ∷ donorOf donor ∷ topOf donor ∷ []) ++ later
 
     stores-are : firstHeaders bytes donor ≡ stores
     stores-are = rw (ne-eqb donor 0 some)
 
-    start-header : Header (written ws stores) outside start (donorOf donor)
-    start-header =
-        record {
-          back = got 1 stores ws (omega arith) (omega arith);
-          forth = got 0 stores ws (omega arith) (omega arith);
-          sized = λ z. absurd (omega arith);
-        }
-
-    donor-header : Header (written ws stores) start (donorOf donor) (topOf donor)
-    donor-header =
-        record {
-          back = got 3 stores ws (omega arith) (omega arith);
-          forth = got 2 stores ws (omega arith) (omega arith);
-          sized = λ z. got 4 stores ws (omega arith) (omega arith);
-        }
-
-    top-header : Header (written ws stores) (donorOf donor) (topOf donor) end
-    top-header =
-        record {
-          back = got 6 stores ws (omega arith) (omega arith);
-          forth = got 5 stores ws (omega arith) (omega arith) ∙ omega arith;
-          sized = λ z. got 7 stores ws (omega arith) (omega arith);
-        }
-
-    end-header : Header (written ws stores) (topOf donor) end outside
-    end-header =
-        record {
+    donated-headed : Headed (words donor) outside donated outside
+    donated-headed =
+        rw stores-are
+        (headers-then (start ∷ donorOf donor ∷ topOf donor ∷ []) later (omega arith)
+        (each-cons start-laid (each-cons donor-laid (each-cons (top-laid donor eight room) (no-more (Laid bytes)))))
+        (each-cons (omega arith) (each-cons (omega arith) (each-cons (omega arith) (no-more (PassByHeader later)))))
+        (record {
           back = got 15 stores ws (omega arith) tt;
           forth = got 14 stores ws (omega arith) (omega arith);
           sized = λ z. absurd (omega arith);
-        }
-
-    donated-headed : Headed (words donor) outside donated outside
-    donated-headed = rw stores-are (start-header, (donor-header, (top-header, (end-header, tt))))
+        }))
 
     donor-out : Unbinned (words donor) 8
     donor-out =

@@ -1,15 +1,15 @@
--- A granted block whose words were written, a block given back, and a block that moved: each leaves what the promise of blocks apart says
--- (`new-apart`, `others-kept`, `none-others`, `moved-apart`). Assumes nothing.
+-- What the promise `Apart` says of a granted block whose words were written (`new-apart`), of a freed block (`others-kept`, `none-others`)
+-- and of a moved one (`moved-apart`). Assumes nothing.
 use mathlib.Core.Path.{_≡_, refl, sym, ap, _∙_}
 use mathlib.Core.Logic.{_≢_, _⊎_, inl, inr}
 use mathlib.Core.Bool.{true, true≢false}
 use mathlib.Core.List.{List, _++_}
 use Prim.Native.Nat.{ℕ, _+_, _/_, _≤_, _<_}
 use native.Mathlib.Omega.{arith}
-use Rattle.grant.proofs.SourceLaws.{CanGrant, Grantable}
-use Rattle.grant.proofs.GrantKept.{given, chosen, can, source, cutting, grant-is, granted-large, granted-new, live-stays, granted-only}
-use Rattle.grant.proofs.GrantedChunk as granting
-use Rattle.grant.proofs.GrantSpares.{grant-spares}
+use Rattle.drafts.proofs.SourceLaws.{CanGrant, Grantable}
+use Rattle.drafts.proofs.GrantKept.{theGrant, sourceChunk, can, source, cutting, grant-is, granted-large, granted-new, live-stays, granted-only}
+use Rattle.drafts.proofs.GrantedChunk as granting
+use Rattle.drafts.proofs.GrantSpared.{grant-spares}
 use Rattle.record.specs.declared.answers.Answer.{Answer}
 use Rattle.record.specs.declared.heap.Heap.{Heap}
 use Rattle.record.specs.declared.sources.Source.{Source}
@@ -17,12 +17,12 @@ use Rattle.record.specs.declared.sources.Source.the-variants.{FromBin, FromDono
 use Rattle.record.specs.Heap.{tableOf}
 use Rattle.region.specs.Words.{Store, word, written}
 use Rattle.region.proofs.WordsLaws.{Off, off}
-use Rattle.release.proofs.ReleaseKept.{free-kept, others-stay, none-new}
-use Rattle.release.proofs.ReleaseSpares.{free-spares}
-use Rattle.resize.proofs.MovedLaws as moving
-use Rattle.resize.proofs.MovedLaws.{Moving}
-use Rattle.rules.specs.Shape.{Entry, shape}
-use Rattle.rules.specs.Kinds.{ordinaryKind, live, blockOf, blockEnd, blockWords}
+use Rattle.drafts.proofs.ReleaseKept.{free-kept, others-stay, none-new}
+use Rattle.drafts.proofs.ReleaseSpared.{free-spares}
+use Rattle.drafts.proofs.MovedLaws as moving
+use Rattle.drafts.proofs.MovedLaws.{Moving}
+use Rattle.rules.specs.Shape.{Entry, shape, chunkEnd}
+use Rattle.rules.specs.Kinds.{ordinaryKind, live, blockOf, blockWords}
 use Rattle.rules.specs.Check.{Passes}
 use Rattle.rules.specs.Draft.{Draft, asRead, alsoWrites}
 use Rattle.rules.specs.Serve.{serves, nowhere}
@@ -33,21 +33,21 @@ use Rattle.rules.specs.Free.{isLive, freeBlock}
 use Rattle.rules.specs.Statements.{Left, leftBy}
 use Rattle.rules.proofs.SpotLaws.{inside}
 use Rattle.rules.proofs.NamedLaws.{is-ordinary, is-donor}
-use Rattle.settling.proofs.FillLaws.{Within, filled-within, fill-reads, below-block, above-block}
+use Rattle.drafts.proofs.FillLaws.{Within, filled-within, fill-reads, below-block, above-block}
 use Rattle.promises.specs.Room.{OnChain, HoldsBlock}
 use Rattle.promises.specs.Apart.{SameWords, Keeps, KeepsAll, KeepsOthers, Gone, NoneNewBut, CutFrom, New}
 use Rattle.promises.proofs.ServeLaws.{top-can, donor-can, ordinary-can}
 use Rattle.promises.proofs.ReasonLaws.{one-block}
 
--- a block of n bytes at b is new, and the live blocks are then those of before and this one
+-- the block at b is new, and the live blocks are those of before and this one
 abbrev pub NewApart : List ℕ → Heap → ℕ → ℕ → Left → Type 0
 NewApart ws h n b left = New ws h n b left × KeepsAll ws h left × NoneNewBut ws h b left
 
--- nothing is written, and no chunk changes its kind
+-- where nothing is written every live block is kept
 pub kept-still : (ws : List ℕ) (h : Heap) (e : Entry) → OnChain ws h e → live h e ≡ true → Keeps ws ws h e
 kept-still ws h e m l = record { held = record { member = m; live = l; block = refl }; same = λ k r. refl }
 
--- what is kept twice is kept
+-- a block kept by two steps is kept by both together
 keeps-on : (ws us vs : List ℕ) (g h : Heap) (e : Entry) → Keeps ws us g e → Keeps us vs h e → Keeps ws vs h e
 keeps-on ws us vs g h e a b = record { held = b .held; same = λ k l. b .same k l ∙ a .same k l }
 
@@ -60,22 +60,21 @@ module _ {ws : List ℕ} {h : Heap} {n : ℕ} (room : Grantable ws h n) where
   grantedHeap = granting.grantedHeap room
 
   abbrev from : Entry
-  from = chosen room
+  from = sourceChunk room
 
-  -- the chunk that was chosen can serve
+  -- the sourceChunk chunk can serve
   source-serves : serves (tableOf h) (h .donor .0) (h .top .0) n from ≡ true
   source-serves = go (source room) refl (can room)
     where
       go : (s : Source) → source room ≡ s → CanGrant ws h n s from → serves (tableOf h) (h .donor .0) (h .top .0) n from ≡ true
       go (FromBin c) q k = ordinary-can ws h (room .well) n from (is-ordinary ws h (room .well) from (k .member) (ap ordinaryKind (k .kind))) (k .enough)
       go FromDonor q k =
-          let b = k .free .between in
-          let d = is-donor ws h (room .well) from (k .member) (omega (arith, k .place)) (k .place) in
-          donor-can ws h (room .well) n from (k .free) (λ t. omega (arith, k .place, d .below)) (k .place) (k .spare refl) (k .little refl)
+          let d = is-donor ws h (room .well) from (k .member) (omega arith) (k .place) in
+          donor-can ws h (room .well) n from (k .free) (λ t. omega arith) (k .place) (k .spare refl) (k .little refl)
       go FromTop q k = top-can ws h (room .well) n from (k .free) (k .place) (k .spare refl)
       go Nowhere q k = absurd (true≢false (sym (ap nowhere q) ∙ room .some))
 
-  -- and the new chunk is cut from it
+  -- the new chunk is cut from it
   cut-from : CutFrom ws h n new from
   cut-from =
       let c = cutting room in
@@ -83,28 +82,28 @@ module _ {ws : List ℕ} {h : Heap} {n : ℕ} (room : Grantable ws h n) where
       record {
         member = can room .member;
         serves = source-serves;
-        starts = rw i (omega (arith, c .place));
-        ends = rw i (omega (arith, c .place, c .sum));
+        starts = rw i (omega arith);
+        ends = rw i (omega arith);
         enough = granted-large room;
-        apart = granting.beside room;
+        apart = granting.granted-beside room;
       }
 
-  -- and its block written into
+  -- stores ss into the new block
   module _ (ss : List Store) (w : Within new ss) where
     abbrev filledWords : List ℕ
     filledWords = granting.filledWords room ss w
 
     abbrev sameChain : shape filledWords (grantedHeap .bytes) ≡ shape (granting.grantedWords room) (grantedHeap .bytes)
-    sameChain = granting.filled room ss w .0
+    sameChain = granting.granted-filled room ss w .chain
 
     new-held : HoldsBlock filledWords grantedHeap (blockOf new) new
     new-held = record { member = rw sameChain (granting.new-there room); live = granting.new-live room; block = refl }
 
-    -- no word of a live block is written
+    -- they are to no word of a live block
     old-off : (e : Entry) → OnChain ws h e → live h e ≡ true → (k : ℕ) → k < blockWords e → Off (blockOf e / 4 + k) ss
-    old-off e m l k r = go (granting.beside room e m l)
+    old-off e m l k r = go (granting.granted-beside room e m l)
       where
-        go : (blockEnd e ≤ new .place) ⊎ (blockEnd new ≤ e .place) → Off (blockOf e / 4 + k) ss
+        go : (chunkEnd e ≤ new .place) ⊎ (chunkEnd new ≤ e .place) → Off (blockOf e / 4 + k) ss
         go (inl q) = let i = inside ws h (room .well) e m in below-block new ss w _ (omega arith)
         go (inr q) = above-block new ss w _ (omega arith)
 
@@ -117,42 +116,42 @@ module _ {ws : List ℕ} {h : Heap} {n : ℕ} (room : Grantable ws h n) where
               let i = inside ws h (room .well) e m in
               rw (granting.appended room ss w)
               (off ss (granting.grantedWords room) (blockOf e) k (old-off e m l k r)
-              ∙ off (given room .draft .stores) ws (blockOf e) k (grant-spares room e m l _ (omega arith) (omega arith)));
+              ∙ off (theGrant room .draft .stores) ws (blockOf e) k (grant-spares room e m l _ (omega arith) (omega arith)));
         }
 
     -- no other chunk becomes live
     only-new : (e : Entry) → OnChain filledWords grantedHeap e → live grantedHeap e ≡ true → (blockOf e ≡ blockOf new) ⊎ (OnChain ws h e × (live h e ≡ true))
-    only-new e m l = go (granted-only room e (rw (sameChain ∙ granting.kept room .chain) at m) l)
+    only-new e m l = go (granted-only room e (rw (sameChain ∙ granting.granted-pictured room .chain) at m) l)
       where
         go : (e ≡ new) ⊎ (OnChain ws h e × (live h e ≡ true)) → (blockOf e ≡ blockOf new) ⊎ (OnChain ws h e × (live h e ≡ true))
         go (inl q) = inl (ap blockOf q)
         go (inr k) = inr k
 
-    -- it meets the promise of a new block
+    -- the promise about a new block
     pub new-apart : (a : Answer)
-        → NewApart ws h n (blockOf new) (leftBy ws (made a (alsoWrites ss (given room .draft))))
+        → NewApart ws h n (blockOf new) (leftBy ws (made a (alsoWrites ss (theGrant room .draft))))
     new-apart a = ((new, from, (new-held, cut-from)), keeps-all, only-new)
 
--- zeros to the chunk's end fall into its block
+-- clearing a block writes only inside it
 pub cleared-within : (e : Entry) → Within e (cleared e)
 cleared-within e = filled-within e (λ k. 0) (blockWords e) (omega arith)
 
--- a new block that is cleared reads 0
+-- a cleared block reads 0
 pub new-clear : {ws : List ℕ} {h : Heap} {n : ℕ} → Grantable ws h n
     → let g = grant n (asRead ws h) in let after = written ws (g .draft .stores ++ cleared (g .granted)) in
     (e : Entry) → HoldsBlock after (g .draft .heap) (blockOf (g .granted)) e → (k : ℕ) → k < blockWords e → word after (blockOf (g .granted)) k ≡ 0
 new-clear room e k j r =
     let x : Entry = new room in
     let w = cleared-within x in
-    let f = granting.filled room (cleared x) w in
-    let q = one-block _ (grantedHeap room) (f .2) (blockOf x) e x k (new-held room (cleared x) w) in
+    let f = granting.granted-filled room (cleared x) w in
+    let q = one-block _ (grantedHeap room) (f .passes) (blockOf x) e x k (new-held room (cleared x) w) in
     let l = granting.granted-lies room in
     let u = granted-large room in
     rw (granting.appended room (cleared x) w)
     (fill-reads (λ i. 0) (blockOf x) (blockWords x) 0 (granting.grantedWords room) (omega arith) j (omega arith)
     (omega (arith, ap blockWords q)))
 
--- the live block at b is given back
+-- the live block at b is freed
 module _ (ws : List ℕ) (h : Heap) (p : Passes ws h) (b : ℕ) (l : isLive (asRead ws h) b ≡ true) where
   abbrev freed : Draft
   freed = freeBlock b (asRead ws h)
@@ -160,7 +159,7 @@ module _ (ws : List ℕ) (h : Heap) (p : Passes ws h) (b : ℕ) (l : isLive (asR
   abbrev freedWords : List ℕ
   freedWords = written ws (freed .stores)
 
-  -- every other live block is kept, and no block is live that was not
+  -- every other live block is kept, and no other block is live
   pub others-kept : (e : Entry) → OnChain ws h e → live h e ≡ true → blockOf e ≢ b → Keeps ws freedWords (freed .heap) e
   others-kept e m k o =
       let r = others-stay ws h p b l e m k o in
@@ -174,12 +173,12 @@ module _ (ws : List ℕ) (h : Heap) (p : Passes ws h) (b : ℕ) (l : isLive (asR
   pub none-others : (e : Entry) → OnChain freedWords (freed .heap) e → live (freed .heap) e ≡ true → OnChain ws h e × (live h e ≡ true) × (blockOf e ≢ b)
   none-others e m k = none-new ws h p b l e (rw (free-kept ws h p b l .chain) at m) k
 
--- the chunk e of a live block, which has less than n bytes, and room for n elsewhere: the block moves
+-- the block of the chunk e moves
 module _ {ws : List ℕ} {h : Heap} {n : ℕ} {e : Entry} (moves : Moving ws h n e) where
   abbrev to : Entry
   to = moving.to moves
 
-  -- the words and the record once the old block was copied, and once it was given back
+  -- the words and the record after the copy, and after the old block was freed
   abbrev copiedWords : List ℕ
   copiedWords = moving.copiedWords moves
 
@@ -201,22 +200,22 @@ module _ {ws : List ℕ} {h : Heap} {n : ℕ} {e : Entry} (moves : Moving ws h n
   abbrev longer : blockWords e ≤ blockWords to
   longer = moving.fits moves
 
-  -- the copy keeps every live block, and so does the free, but for the old one
+  -- the copy keeps every live block, and the free every one but the old
   copied-keeps : (d : Entry) → OnChain ws h d → live h d ≡ true → Keeps ws copiedWords copiedHeap d
   copied-keeps = keeps-all (moves .room) copies within
 
   moved-keeps : (d : Entry) → OnChain copiedWords copiedHeap d → live copiedHeap d ≡ true → blockOf d ≢ blockOf e → Keeps copiedWords movedWords movedHeap d
   moved-keeps d k j o =
-      rw (moving.again-is moves .0, moving.moved-words moves)
-      (others-kept copiedWords copiedHeap (moving.copied-passes moves) (blockOf e) (moving.live-again moves) d k j o)
+      rw (moving.moved-reread moves .0, moving.moved-words moves)
+      (others-kept copiedWords copiedHeap (moving.copied-passes moves) (blockOf e) (moving.still-live moves) d k j o)
 
-  -- the new one too
+  -- the free keeps the new block
   to-kept : Keeps copiedWords movedWords movedHeap to
   to-kept =
       let r = new-held (moves .room) copies within in
       moved-keeps to (r .member) (r .live) (λ q. granted-new (moves .room) e (moves .member) (moves .live) (omega arith))
 
-  -- it begins with the old one's words
+  -- the new block begins with the old one's words
   copied-reads : SameWords ws (blockOf e) copiedWords (blockOf to) (blockWords e)
   copied-reads k r =
       let x = granting.granted-lies (moves .room) in
@@ -224,15 +223,15 @@ module _ {ws : List ℕ} {h : Heap} {n : ℕ} {e : Entry} (moves : Moving ws h n
       rw (granting.appended (moves .room) copies within)
       (fill-reads (λ j. word ws (blockOf e) j) (blockOf to) (blockWords e) 0 (granting.grantedWords (moves .room)) (omega arith) k (omega arith) (omega arith))
 
-  -- and no block is live but those of the copy, without the old one
+  -- afterwards the live blocks are those after the copy, without the old one
   moved-only : (d : Entry) → OnChain movedWords movedHeap d → live movedHeap d ≡ true
       → OnChain copiedWords copiedHeap d × (live copiedHeap d ≡ true) × (blockOf d ≢ blockOf e)
   moved-only d k j =
-      none-others copiedWords copiedHeap (moving.copied-passes moves) (blockOf e) (moving.live-again moves) d
-      (rw (moving.again-is moves .0, moving.moved-words moves) at k)
-      (rw (moving.again-is moves .0) at j)
+      none-others copiedWords copiedHeap (moving.copied-passes moves) (blockOf e) (moving.still-live moves) d
+      (rw (moving.moved-reread moves .0, moving.moved-words moves) at k)
+      (rw (moving.moved-reread moves .0) at j)
 
-  -- it meets the promise of a moved block
+  -- the promise about a moved block
   pub moved-apart : (a : Answer) → let left = leftBy ws (made a (freeBlock (blockOf e) (moving.copiedOver moves))) in
       New ws h n (blockOf to) left × KeepsOthers ws h (blockOf e) left × Gone (blockOf e) left × NoneNewBut ws h (blockOf to) left
       × SameWords ws (blockOf e) movedWords (blockOf to) (blockWords e)

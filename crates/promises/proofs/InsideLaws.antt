@@ -1,5 +1,5 @@
--- Where the stores of a call fall: on a heap that passes a grant, a move and whatever goes into the block write nothing past the heap bytes;
--- so no call on any region writes an odd last word (`stores-below`). Assumes nothing.
+-- No call on any region writes an odd last word (`stores-below`): a refused call writes nothing, and on a heap that passes every store is
+-- to a word of the heap bytes. Assumes nothing.
 use mathlib.Core.Path.{_≡_}
 use mathlib.Core.Logic.{inl, inr}
 use mathlib.Core.Bool.{Bool, true, false, not, cond, _&&_, _||_}
@@ -17,7 +17,7 @@ use Rattle.record.specs.Heap.{empty, withMerge}
 use Rattle.region.specs.Words.{Store, word}
 use Rattle.region.proofs.PrefixLaws.{Below, below-both}
 use Rattle.region.proofs.WordsLaws.{fall-so, length-written}
-use Rattle.rules.specs.Shape.{Entry, heapBytes}
+use Rattle.rules.specs.Shape.{Entry, heapBytes, chunkEnd}
 use Rattle.rules.specs.Kinds.{blockOf, blockEnd, blockWords, overhead}
 use Rattle.rules.specs.Check.{Passes, passes}
 use Rattle.rules.specs.Draft.{Draft, Spot, asRead, alsoWrites}
@@ -34,39 +34,39 @@ use Rattle.rules.specs.Calls.{Call, Setup, Allocate, AllocateCleared, Free, Rea
 use Rattle.rules.proofs.CheckLaws.{passes-iff}
 use Rattle.rules.proofs.SpotLaws.{inside}
 use Rattle.rules.proofs.OutcomeLaws.{Failed, judged-so}
-use Rattle.opening.proofs.LayoutLaws.{first-below}
-use Rattle.settling.proofs.FillLaws.{Within, fillFrom, filled-within}
-use Rattle.grant.proofs.SourceLaws.{Grantable, need-grantable}
-use Rattle.grant.proofs.GrantedChunk.{grantedWords, kept, new-there}
-use Rattle.grant.proofs.GrantSpares.{grant-inside}
-use Rattle.release.proofs.ReleaseSpares.{free-inside, shrink-inside}
-use Rattle.resize.proofs.WantedLaws.{block-moves, block-shrinks}
-use Rattle.resize.proofs.MovedLaws.{fits, copiedOver, copiedWords, copiedHeap, copied-passes, live-again, again-is}
+use Rattle.rules.proofs.SetupLaws.{first-below}
+use Rattle.drafts.proofs.FillLaws.{Within, fillFrom, filled-within}
+use Rattle.drafts.proofs.SourceLaws.{Grantable, need-grantable}
+use Rattle.drafts.proofs.GrantedChunk.{grantedWords, granted-pictured, new-there}
+use Rattle.drafts.proofs.GrantSpared.{grant-inside}
+use Rattle.drafts.proofs.ReleaseSpared.{free-inside, shrink-inside}
+use Rattle.drafts.proofs.WantedLaws.{block-moves, block-shrinks}
+use Rattle.drafts.proofs.MovedLaws.{fits, copiedOver, copiedWords, copiedHeap, copied-passes, still-live, moved-reread}
 use Rattle.promises.proofs.ReasonLaws.{Fitting, fitting-iff, length-in}
 use Rattle.promises.proofs.ResizedLaws.{resized-so}
 
--- what is written into a block is below its end
+-- stores into a block are below its end
 within-below : (m : ℕ) (e : Entry) (ss : List Store) → blockEnd e / 4 ≤ m → Within e ss → Below m ss
-within-below m e ss l w = fall-so _ (λ i. i < m) (λ i b. omega (arith, b .1)) ss w
+within-below m e ss l w = fall-so _ (λ i. i < m) (λ i b. omega arith) ss w
 
--- what the draft writes is below the heap's end
+-- the draft writes only words of the heap bytes
 abbrev Inner : Heap → Draft → Type 0
 Inner h d = Below (h .bytes / 4) (d .stores)
 
--- a block of n bytes that was granted, and the heap then
+-- n bytes are granted
 module _ {ws : List ℕ} {h : Heap} {n : ℕ} (room : Grantable ws h n) where
   abbrev given : Grant
   given = grant n (asRead ws h)
 
   same-bytes : given .draft .heap .bytes ≡ h .bytes
-  same-bytes = omega (arith, kept room .passes .fits .bytes, room .well .fits .bytes, length-written (given .draft .stores) ws)
+  same-bytes = omega (arith, granted-pictured room .passes .fits .bytes, room .well .fits .bytes, length-written (given .draft .stores) ws)
 
-  granted-ends : blockEnd (given .granted) ≤ h .bytes
+  granted-ends : chunkEnd (given .granted) ≤ h .bytes
   granted-ends =
-      let i = inside (grantedWords room) (given .draft .heap) (kept room .passes) (given .granted) (new-there room) .ends in
+      let i = inside (grantedWords room) (given .draft .heap) (granted-pictured room .passes) (given .granted) (new-there room) .ends in
       omega (arith, same-bytes)
 
-  -- words written into it, as many as fit
+  -- the first k words of the block are written
   abbrev filling : (ℕ → ℕ) → ℕ → List Store
   filling value k = fillFrom (blockOf (given .granted)) 0 value k
 
@@ -90,17 +90,17 @@ module _ (ws : List ℕ) (h : Heap) (p : Passes ws h) (b : ℕ) (l : isLive (asR
   abbrev n : ℕ
   n = need overhead z
 
-  -- is moved: it is live still when the old words have been copied
+  -- it moves: it is still live after the copy
   moved-below : nowhere (sourceOf n (asRead ws h)) ≡ false → at .here .size < n → Inner h (moved ws at n (asRead ws h) .draft)
   moved-below some less =
       let e : Entry = at .here in
       let moves = block-moves p b l z some less in
-      rw (again-is moves .1)
+      rw (moved-reread moves .1)
       (below-both (h .bytes / 4) (copiedOver moves .stores) (freeBlock (blockOf e) (asRead (copiedWords moves) (copiedHeap moves)) .stores)
       (filled-below (moves .room) (λ i. word ws (blockOf e) i) (blockWords e) (fits moves))
-      (rw (same-bytes (moves .room)) at (free-inside (copiedWords moves) (copiedHeap moves) (copied-passes moves) (blockOf e) (live-again moves))))
+      (rw (same-bytes (moves .room)) at (free-inside (copiedWords moves) (copiedHeap moves) (copied-passes moves) (blockOf e) (still-live moves))))
 
-  -- is resized, and there is room if it has to move
+  -- it is resized; if it has to move, there is room
   resized-below : (ltb (at .here .size) n && nowhere (sourceOf n (asRead ws h)) ≡ false) → Inner h (resized ws at n (asRead ws h) .draft)
   unfolding asRead
   resized-below q =
@@ -112,9 +112,9 @@ module _ (ws : List ℕ) (h : Heap) (p : Passes ws h) (b : ℕ) (l : isLive (asR
 judged-below : (m : ℕ) (h : Heap) (o : Outcome) (ts : Refusals) → (Failed ts → Below m (o .stores)) → Below m (judged h ts o .stores)
 judged-below m h o ts = judged-so (λ x. Below m (x .stores)) h o ts (λ r. tt)
 
--- each store falls below an odd last word
+-- each call writes only below an odd last word
 module _ (ws : List ℕ) (h : Heap) where
-  -- how many words there are without it
+  -- the number of words without it
   abbrev even : ℕ
   even = length ws / 2 * 2
 
@@ -122,9 +122,9 @@ module _ (ws : List ℕ) (h : Heap) where
   passing q = passes-iff ws h .0 (not-false (passes ws h) q)
 
   heap-even : Passes ws h → h .bytes / 4 ≡ even
-  heap-even p = omega (arith, p .fits .bytes)
+  heap-even p = omega arith
 
-  -- a block that is granted, whatever is written into it
+  -- a block is granted, and `fill` written into it
   with-below : (fill : Entry → List Store) (z : ℕ)
       → ((p : Passes ws h) → nowhere (sourceOf (need overhead z) (asRead ws h)) ≡ false
       → let g = grant (need overhead z) (asRead ws h) in Inner h (alsoWrites (fill (g .granted)) (g .draft)))
@@ -174,7 +174,7 @@ module _ (ws : List ℕ) (h : Heap) where
       judged-below even empty (opened bytes table donor merge) (setupRefusals ws table donor)
       (λ (size, (_, (fits, _))).
       let n = length-in ws size in
-      rw (← whole) (first-below bytes donor (fitting (omega arith) (fitting-iff ws donor .0 (not-false (donorFits bytes donor) fits))) (omega arith)))
+      rw (← whole) (first-below bytes donor (fitting (omega arith) (fitting-iff ws donor .0 (not-false (donorFits bytes donor) fits)))))
     where
       whole : heapBytes (length ws) / 4 ≡ even
       whole = omega arith

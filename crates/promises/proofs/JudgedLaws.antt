@@ -1,5 +1,5 @@
--- A list of tests before an acceptance, as each call has one: where the tests decide the reasons, their numbers go up and no reason is left out,
--- the first reason that holds is given (`judged-first`), and then nothing is changed (`judged-keeps`). `Judging` says that a call is so.
+-- Each call is a list of tests for refusal before an acceptance. If the tests decide the reasons, their numbers go up, and no reason is left out,
+-- then the first reason that holds is given (`judged-first`), and a refusal changes nothing (`judged-keeps`). `Judging` says this of a call.
 -- Assumes nothing.
 use mathlib.Core.Path.{_≡_, refl, sym, ap, _∙_}
 use mathlib.Core.Logic.{_↔_}
@@ -21,7 +21,7 @@ use Rattle.rules.specs.Calls.{Call, step}
 use Rattle.rules.proofs.CheckLaws.{passes-iff}
 use Rattle.rules.proofs.OutcomeLaws.{Failed, judged-so}
 use Rattle.promises.specs.Kept.{Accepted}
-use Rattle.promises.specs.Refused.{Because, fails, isSetup, recordOf}
+use Rattle.promises.specs.Refusing.{Because, fails, isSetup, refusedRecord}
 use Rattle.promises.proofs.ReasonLaws.{passes?}
 
 -- the number of a refusal is not 0
@@ -36,49 +36,49 @@ numbered NoRoom = omega arith
 numbered NotThere = omega arith
 numbered NoBinTakes = omega arith
 
--- an answer whose number is 0 is no refusal
+-- an answer with refusal number 0 is no refusal
 pub accepts : {a : Answer} → figuresOf a .refusal ≡ 0 → Accepted a
 accepts z r q = omega (arith, numbered r, sym (ap (λ (x : Answer). figuresOf x .refusal) q) ∙ z)
 
--- where no refusal is given the tests have failed
+-- if no refusal is given, all tests have failed
 pub accepted-made : (h : Heap) (o : Outcome) (ts : Refusals) → Accepted (judged h ts o .answer) → Failed ts × (judged h ts o ≡ o)
 accepted-made h o ts =
     judged-so (λ x. Accepted (x .answer) → Failed ts × (x ≡ o)) h o ts (λ r a. absurd (a r refl)) (λ k a. (k, refl))
 
--- the tests decide the reasons B, each where those before it do not hold
+-- each test decides its reason among the reasons B, if the reasons before it do not hold
 abbrev pub Decided : (Refusal → Type 0) → Refusals → Type 0
 Decided B [] = Unit {0}
 Decided B (t ∷ ts) = Decides (t .0) (B (t .1)) × ((B (t .1) → ⊥) → Decided B ts)
 
--- their numbers go up from n
-abbrev pub Rising : ℕ → Refusals → Type 0
-Rising n [] = Unit {0}
-Rising n (t ∷ ts) = (n < numberOf (t .1)) × Rising (numberOf (t .1)) ts
+-- the numbers of the refusals go up, from above n
+abbrev pub NumbersRise : ℕ → Refusals → Type 0
+NumbersRise n [] = Unit {0}
+NumbersRise n (t ∷ ts) = (n < numberOf (t .1)) × NumbersRise (numberOf (t .1)) ts
 
--- the refusals that they give
+-- the refusals that the tests give
 abbrev given : Refusals → List Refusal
 given ts = map (λ (t : Bool × Refusal). t .1) ts
 
--- they stand for all reasons
+-- every reason that holds has a test
 abbrev pub Stands : (Refusal → Type 0) → Refusals → Type 0
 Stands B ts = (r : Refusal) → B r → Mem r (given ts)
 
--- r is the first of the reasons
+-- r is the first number whose reason holds
 abbrev IsFirst : (Refusal → Type 0) → Refusal → Type 0
 IsFirst B r = B r × ((q : Refusal) → numberOf q < numberOf r → B q → ⊥)
 
--- what the tests give is above n
-higher : (n : ℕ) (ts : Refusals) → Rising n ts → {r : Refusal} → Mem r (given ts) → n < numberOf r
+-- the numbers are above n
+higher : (n : ℕ) (ts : Refusals) → NumbersRise n ts → {r : Refusal} → Mem r (given ts) → n < numberOf r
 higher n (t ∷ ts) u (List·Memᴰ·head e) = rw e (u .0)
-higher n (t ∷ ts) u (List·Memᴰ·tail m) = let a = higher (numberOf (t .1)) ts (u .1) m in omega (arith, u .0)
+higher n (t ∷ ts) u (List·Memᴰ·tail m) = let a = higher (numberOf (t .1)) ts (u .1) m in omega arith
 
 module _ (B : Refusal → Type 0) (h : Heap) (o : Outcome) (accepted : Accepted (o .answer)) where
-  -- a list of tests that decide the reasons gives the first reason that holds
-  pub judged-first : (n : ℕ) (ts : Refusals) → Rising n ts → Stands B ts → Decided B ts
+  -- the refusal that is given is the first whose reason holds
+  pub judged-first : (n : ℕ) (ts : Refusals) → NumbersRise n ts → Stands B ts → Decided B ts
       → (r : Refusal) → (judged h ts o .answer ≡ Refused r) ↔ IsFirst B r
   judged-first n [] u s d r = (λ e. absurd (accepted r e), λ f. absurd (List·Memᴰ·not-nil (s r (f .0))))
-  judged-first n ((true, x) ∷ ts) u s d r =
-      let b = d .0 .0 refl in (
+  judged-first n ((true, x) ∷ ts) u s (decides, _) r =
+      let b = decides .0 refl in (
         λ e. let q : r ≡ x = cc in rw q (b, λ y l k. lower y l (s y k)),
         λ f. no-other f b (s r (f .0)),
       )
@@ -90,21 +90,21 @@ module _ (B : Refusal → Type 0) (h : Heap) (o : Outcome) (accepted : Accepted 
       no-other : IsFirst B r → B x → Mem r (x ∷ given ts) → Refused x ≡ Refused r
       no-other f b (List·Memᴰ·head e) = ap Refused (sym e)
       no-other f b (List·Memᴰ·tail m) = absurd (f .1 x (higher (numberOf x) ts (u .1) m) b)
-  judged-first n ((false, x) ∷ ts) u s d r =
-      let none : B x → ⊥ = λ b. false≢true (d .0 .1 b) in
-      judged-first (numberOf x) ts (u .1) (λ y k. further none y k (s y k)) (d .1 none) r
+  judged-first n ((false, x) ∷ ts) u s (decides, later) r =
+      let none : B x → ⊥ = λ b. false≢true (decides .1 b) in
+      judged-first (numberOf x) ts (u .1) (λ y k. further none y k (s y k)) (later none) r
     where
       further : (B x → ⊥) → (y : Refusal) → B y → Mem y (x ∷ given ts) → Mem y (given ts)
       further none y k (List·Memᴰ·head e) = absurd (none (rw e at k))
       further none y k (List·Memᴰ·tail m) = m
 
-  -- and then nothing is changed
+  -- a refusal changes nothing
   pub judged-keeps : (ts : Refusals) (r : Refusal) → judged h ts o .answer ≡ Refused r
       → (judged h ts o .heap ≡ h) × (judged h ts o .stores ≡ [])
   judged-keeps ts r =
       judged-so (λ x. x .answer ≡ Refused r → (x .heap ≡ h) × (x .stores ≡ [])) h o ts (λ q e. (refl, refl)) (λ _ e. absurd (accepted r e))
 
--- where each refusal stands among those of a call
+-- the position of a refusal among those of a call
 pub first : {x : Refusal} {xs : List Refusal} → Mem x (x ∷ xs)
 first = List·Memᴰ·head refl
 
@@ -120,21 +120,21 @@ fourth = List·Memᴰ·tail third
 pub fifth : {x y z u v : Refusal} {xs : List Refusal} → Mem x (y ∷ z ∷ u ∷ v ∷ x ∷ xs)
 fifth = List·Memᴰ·tail fourth
 
--- a call is such a list of tests before an acceptance, which decide the reasons of its refusals
+-- a call is such a list of tests before an acceptance
 pub record Judging (call : Call) (ws : List ℕ) (h : Heap) : Type 0 where
   pub tests : Refusals
   pub made : Outcome
   pub accepted : Accepted (made .answer)
-  pub is : step call ws h ≡ judged (recordOf call h) tests made
-  pub rising : Rising 0 tests
+  pub is : step call ws h ≡ judged (refusedRecord call h) tests made
+  pub rising : NumbersRise 0 tests
   pub stands : Stands (Because ws h call) tests
   pub decided : Decided (Because ws h call) tests
 
 module _ (ws : List ℕ) (h : Heap) where
-  -- refusal 4, of every call but setup
+  -- refusal 4 of every call but setup
   pub fails-iff : (call : Call) → isSetup call ≡ false → Decides (not (passes ws h)) (Because ws h call HeapFails)
   fails-iff call s = meaning (denied (passes-iff ws h)) (λ n. fails s n) (λ k. elim k [ fails s n ↦ n ])
 
-  -- where 4 is not given the heap passes
+  -- if refusal 4 has no reason, the heap passes
   pub well : (call : Call) → isSetup call ≡ false → (Because ws h call HeapFails → ⊥) → Passes ws h
   well call s n = passes? ws h (λ k. n (fails s k))

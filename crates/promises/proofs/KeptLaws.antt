@@ -1,5 +1,5 @@
--- An accepted setup makes a heap that passes, and every call on such a heap and every write inside its live blocks leaves one (`keeping`).
--- Assumes nothing.
+-- The check is an invariant (`kept`): an accepted setup makes a heap that passes, and every call and every write inside a live block
+-- leaves one that passes. Assumes nothing.
 use mathlib.Core.Path.{_≡_, refl}
 use mathlib.Core.Bool.{Bool, true, false, not, cond, _&&_}
 use mathlib.Core.List.{List, [], _∷_}
@@ -8,8 +8,8 @@ use native.Mathlib.Omega.{arith}
 use lib.Dec.{eqb, ltb}
 use lib.ListN.{length}
 use borrow.Author.Tests.{lt-ltb, not-false}
-use Rattle.grant.proofs.SourceLaws.{need-grantable}
-use Rattle.grant.proofs.GrantedChunk.{filled}
+use Rattle.drafts.proofs.SourceLaws.{need-grantable}
+use Rattle.drafts.proofs.GrantedChunk.{granted-filled}
 use Rattle.record.specs.declared.answers.Answer.{Answer}
 use Rattle.record.specs.declared.answers.Answer.the-variants.{Done, Granted, Returned, Told, Counted, Refused}
 use Rattle.record.specs.declared.heap.Heap.{Heap}
@@ -17,10 +17,10 @@ use Rattle.record.specs.Heap.{empty, withMerge}
 use Rattle.record.specs.Table.{validTable}
 use Rattle.record.proofs.TableLaws.{valid-iff}
 use Rattle.region.specs.Words.{Store, written}
-use Rattle.release.proofs.ReleaseKept.{free-kept}
-use Rattle.release.proofs.ShrinkKept.{shrink-kept}
-use Rattle.resize.proofs.WantedLaws.{block-moves, block-shrinks}
-use Rattle.resize.proofs.MovedLaws.{copiedWords, copiedHeap, copied-passes, live-again, again-is, moved-words}
+use Rattle.drafts.proofs.ReleaseKept.{free-kept}
+use Rattle.drafts.proofs.ShrinkKept.{shrink-kept}
+use Rattle.drafts.proofs.WantedLaws.{block-moves, block-shrinks}
+use Rattle.drafts.proofs.MovedLaws.{copiedWords, copiedHeap, copied-passes, still-live, moved-reread, moved-words}
 use Rattle.rules.specs.Shape.{Entry, shape, heapBytes}
 use Rattle.rules.specs.Kinds.{overhead, blockOf}
 use Rattle.rules.specs.Check.{Passes}
@@ -35,16 +35,16 @@ use Rattle.rules.specs.Merge.{setMerge, checked, check}
 use Rattle.rules.specs.Ask.{askChunk, askBin, chunkAnswers, askedSpot, isThere, binAnswers, askRefusals, asked}
 use Rattle.rules.specs.Calls.{Call, Setup, Allocate, AllocateCleared, Free, Reallocate, SetMerge, Check, AskChunk, AskBin, State, recordAfter, step}
 use Rattle.rules.proofs.OutcomeLaws.{Failed, judged-so}
-use Rattle.settling.proofs.FillLaws.{Within, fills}
+use Rattle.drafts.proofs.FillLaws.{Within, written-inside}
 use Rattle.promises.specs.Ways.{ours}
-use Rattle.promises.specs.Kept.{Passing, Accepted, OnLiveBlocks, afterStores, Keeping}
+use Rattle.promises.specs.Kept.{Passing, Accepted, OnLiveBlocks, afterStores, Kept}
 use Rattle.promises.proofs.JudgedLaws.{accepted-made}
 use Rattle.promises.proofs.ReasonLaws.{fitting-iff, length-in}
 use Rattle.promises.proofs.ResizedLaws.{resized-so}
 use Rattle.promises.proofs.GrantedLaws.{cleared-within}
 use Rattle.promises.proofs.FreshLaws.{fresh-passes}
 
--- what an outcome leaves for the next call
+-- the state that an outcome leaves for the next call
 abbrev left : List ℕ → Heap → Outcome → State
 left ws h o = record { words = written ws (o .stores); heap = recordAfter h (o .heap) (o .answer) }
 
@@ -52,7 +52,7 @@ left ws h o = record { words = written ws (o .stores); heap = recordAfter h (o .
 abbrev PassesAfter : List ℕ → Draft → Type 0
 PassesAfter ws d = Passes (written ws (d .stores)) (d .heap)
 
--- an answer with the record that came
+-- an outcome that keeps the record leaves it, whatever the answer
 same-record : (h : Heap) (a : Answer) → recordAfter h h a ≡ h
 same-record h Done = refl
 same-record h (Granted b c) = refl
@@ -61,7 +61,7 @@ same-record h (Told v) = refl
 same-record h (Counted c) = refl
 same-record h (Refused r) = refl
 
--- where all tests of setup fail, what it makes passes
+-- an accepted setup makes a heap that passes
 setup-passes : (ws table : List ℕ) (donor : ℕ) (merge : Bool) → Failed (setupRefusals ws table donor)
     → Passes (written ws (firstHeaders (heapBytes (length ws)) donor)) (fresh (heapBytes (length ws)) table donor merge)
 setup-passes ws table donor merge (size, (t, (d, _))) =
@@ -82,7 +82,7 @@ module _ (ws : List ℕ) (h : Heap) (p : Passes ws h) where
   judged-passes : (came : Heap) (o : Outcome) (ts : Refusals) → (Failed ts → Passing (left ws h o)) → Passing (left ws h (judged came ts o))
   judged-passes came o ts = judged-so (λ x. Passing (left ws h x)) came o ts (λ r. p)
 
-  -- the live block at b, which is to have z bytes, moves, or is resized whichever way
+  -- the live block at b is to have z bytes: it moves; it is resized, by moving or not
   module _ (b : ℕ) (l : isLive (asRead ws h) b ≡ true) (z : ℕ) where
     abbrev at : Spot
     at = blockSpot (asRead ws h) b
@@ -93,8 +93,8 @@ module _ (ws : List ℕ) (h : Heap) (p : Passes ws h) where
     moved-passes : nowhere (sourceOf n (asRead ws h)) ≡ false → at .here .size < n → PassesAfter ws (moved ws at n (asRead ws h) .draft)
     moved-passes some less =
         let moves = block-moves p b l z some less in
-        rw (again-is moves .0, moved-words moves)
-        (free-kept (copiedWords moves) (copiedHeap moves) (copied-passes moves) (blockOf (at .here)) (live-again moves) .passes)
+        rw (moved-reread moves .0, moved-words moves)
+        (free-kept (copiedWords moves) (copiedHeap moves) (copied-passes moves) (blockOf (at .here)) (still-live moves) .passes)
 
     resized-passes : (ltb (at .here .size) n && nowhere (sourceOf n (asRead ws h))) ≡ false → PassesAfter ws (resized ws at n (asRead ws h) .draft)
     unfolding asRead
@@ -103,12 +103,12 @@ module _ (ws : List ℕ) (h : Heap) (p : Passes ws h) where
         (λ less. moved-passes (rw (lt-ltb (at .here .size) n less) at q) less)
         (λ spare. shrink-kept (block-shrinks p b l z spare) .passes) p
 
-  -- a block that is granted, whatever is written into it
+  -- a block is granted, and `fill` written into it
   with-passes : (fill : Entry → List Store) → ((e : Entry) → Within e (fill e)) → (z : ℕ) → Passing (left ws h (allocateWith fill ws h z))
   with-passes fill within z =
       let e = grant (need overhead z) (asRead ws h) .granted in
       judged-passes h (allocated fill (asRead ws h) z) (allocateRefusals (heapFails ws h) (asRead ws h) z)
-      (λ (_, (_, (some, _))). filled (need-grantable z p some) (fill e) (within e) .2)
+      (λ (_, (_, (some, _))). granted-filled (need-grantable z p some) (fill e) (within e) .passes)
 
   allocate-passes : (z : ℕ) → Passing (left ws h (allocate ws h z))
   unfolding allocate
@@ -177,7 +177,7 @@ module _ (ws : List ℕ) (h : Heap) (p : Passes ws h) where
   unfolding setMerge
   merge-passes on = judged-passes h (unchanged (withMerge h on) Done) (heapFails ws h ∷ []) (λ _. merged on)
 
-  -- an answer alone
+  -- a call that changes nothing
   told-passes : (a : Answer) → Passing (left ws h (unchanged h a))
   told-passes a = rw (same-record h a) p
 
@@ -201,12 +201,12 @@ module _ (ws : List ℕ) (h : Heap) (p : Passes ws h) where
       let answers = binAnswers (asRead ws h .lists i) in
       judged-passes h (asked h q answers) (askRefusals (heapFails ws h) q answers (ltb i (h .bins))) (λ _. p)
 
--- a store into a live block leaves the heap as it is read, so the next store falls into a live block too
+-- after a store into a live block the heap is read as before, so the next store is into a live block too
 stores-pass : (ss : List Store) (s : State) → Passing s → OnLiveBlocks s ss → Passing (afterStores ss s)
 stores-pass [] s p o = p
 stores-pass (x ∷ ss) s p ((e, m, l, (lo, hi)), o) =
-    let f = fills (s .words) (s .heap) p e m l (x ∷ []) ((lo, hi), tt) in
-    stores-pass ss (afterStores (x ∷ []) s) (f .2) (still ss o (f .0))
+    let f = written-inside p m l (x ∷ []) ((lo, hi), tt) in
+    stores-pass ss (afterStores (x ∷ []) s) (f .passes) (still ss o (f .chain))
   where
     still : (ys : List Store) → OnLiveBlocks s ys
         → shape (afterStores (x ∷ []) s .words) (s .heap .bytes) ≡ shape (s .words) (s .heap .bytes)
@@ -214,9 +214,9 @@ stores-pass (x ∷ ss) s p ((e, m, l, (lo, hi)), o) =
     still [] o q = tt
     still (y ∷ ys) ((d, k, l, on), o) q = ((d, rw q k, l, on), still ys o q)
 
-pub keeping : Keeping ours
+pub kept : Kept ours
 unfolding ours
-keeping =
+kept =
     record {
       setup = setup-kept;
       calls = λ call s p. step-passes (s .words) (s .heap) p call;

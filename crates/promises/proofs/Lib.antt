@@ -2,10 +2,10 @@ pub mod ServeLaws
 pub mod ReasonLaws
 pub mod JudgedLaws
 pub mod BlockReasons
-pub mod RefusedLaws
+pub mod RefusingLaws
 pub mod ResizedLaws
 pub mod RoomLaws
-pub mod CountsLaws
+pub mod CountingLaws
 pub mod DeterminedLaws
 pub mod GrantedLaws
 pub mod InsideLaws
@@ -13,6 +13,6 @@ pub mod OddLaws
 pub mod FreshLaws
 pub mod KeptLaws
 pub mod ApartLaws
-pub mod NineLaws
+pub mod NeverNineLaws
 pub mod RunsLaws
 pub mod WrongLaws

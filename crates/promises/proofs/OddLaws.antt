@@ -1,4 +1,4 @@
--- An odd last word of the region decides nothing and is not written, whatever the call (`odd-apart`). Assumes nothing.
+-- No call reads or writes an odd last word of the region (`odd`). Assumes nothing.
 use mathlib.Core.Path.{_≡_, refl, sym, ap, ap₂, _∙_}
 use mathlib.Core.Bool.{Bool, true, false, not, cond}
 use mathlib.Core.List.{List, [], _∷_, List·Memᴰ·head}
@@ -17,8 +17,8 @@ use Rattle.record.specs.Heap.{withMerge}
 use Rattle.region.specs.Words.{Store, put, word, written}
 use Rattle.region.proofs.WordsLaws.{length-written}
 use Rattle.region.proofs.PrefixLaws.{Below, written-prefix}
-use Rattle.rules.specs.Shape.{Entry, shape}
-use Rattle.rules.specs.Kinds.{overhead, blockOf, blockEnd, blockWords, outside, holdsBlock}
+use Rattle.rules.specs.Shape.{Entry, shape, chunkEnd}
+use Rattle.rules.specs.Kinds.{overhead, blockOf, blockWords, outside, holdsBlock}
 use Rattle.rules.specs.Check.{Fits, Passes, passes, countsOf}
 use Rattle.rules.specs.Draft.{Draft, asRead}
 use Rattle.rules.specs.Serve.{need}
@@ -33,12 +33,12 @@ use Rattle.rules.specs.Calls.{Call, Setup, Allocate, AllocateCleared, Free, Rea
 use Rattle.rules.proofs.CheckLaws.{passes-iff}
 use Rattle.rules.proofs.EvenLaws.{Agree, same-passes, same-read}
 use Rattle.rules.proofs.SpotLaws.{inside}
-use Rattle.settling.proofs.FillLaws.{fillFrom}
+use Rattle.drafts.proofs.FillLaws.{fillFrom}
 use Rattle.promises.specs.Ways.{ours}
-use Rattle.promises.specs.Odd.{evenWords, oddWord, AlikeButOdd, OddApart}
+use Rattle.promises.specs.Odd.{evenWords, oddWord, AlikeButOdd, Odd}
 use Rattle.promises.proofs.InsideLaws.{stores-below}
 
--- two tests that decide facts which follow from each other are the same
+-- tests of two equivalent facts are equal
 same-test : {t u : Bool} {P Q : Type 0} → Decides t P → Decides u Q → (P → Q) → (Q → P) → t ≡ u
 same-test {t} {u} {P} {Q} = go t u
   where
@@ -48,37 +48,35 @@ same-test {t} {u} {P} {Q} = go t u
     go false true d e f g = d .1 (g (e .0 refl))
     go false false d e f g = refl
 
--- words copied from two regions that agree there
+-- the stores of two copies of the same words are equal
 copied-same : (c : ℕ) (f g : ℕ → ℕ) (n i : ℕ) → ((k : ℕ) → i ≤ k → k < i + n → f k ≡ g k)
     → fillFrom c i f n ≡ fillFrom c i g n
 copied-same c f g zero i e = refl
 copied-same c f g (suc n) i e =
     ap₂ (λ (v : ℕ) (ss : List Store). put c i v ∷ ss) (e i (omega arith) (omega arith)) (copied-same c f g n (suc i) (λ k lo hi. e k (omega arith) (omega arith)))
 
--- the chunk of a block ends inside the heap; where there is none, what stands for it has no words
-here-ends : (ws : List ℕ) (h : Heap) → Passes ws h → (b : ℕ) → blockEnd (blockSpot (asRead ws h) b .here) ≤ h .bytes
+-- the chunk of the block at b ends inside the heap; so does `outside`, which stands in if there is none
+here-ends : (ws : List ℕ) (h : Heap) → Passes ws h → (b : ℕ) → chunkEnd (blockSpot (asRead ws h) b .here) ≤ h .bytes
 unfolding asRead
 here-ends ws h p b = go (keep (holdsBlock h b) (shape ws (h .bytes))) refl
   where
-    go : (ks : List Entry) → keep (holdsBlock h b) (shape ws (h .bytes)) ≡ ks → blockEnd (headOr outside ks) ≤ h .bytes
+    go : (ks : List Entry) → keep (holdsBlock h b) (shape ws (h .bytes)) ≡ ks → chunkEnd (headOr outside ks) ≤ h .bytes
     go [] q = omega arith
     go (k ∷ ks) q = inside ws h p k (kept-from (holdsBlock h b) (shape ws (h .bytes)) (rw q (List·Memᴰ·head refl)) .0) .ends
 
--- two regions that are alike but for an odd last word
+-- two regions that differ at most in an odd last word
 alike-back : (us vs : List ℕ) → AlikeButOdd us vs → AlikeButOdd vs us
 alike-back us vs a = record { length = sym (a .length); words = sym (a .words) }
 
 fits-alike : (us vs : List ℕ) (h : Heap) → AlikeButOdd us vs → Fits us h → Fits vs h
 fits-alike us vs h a f =
-    let l = a .length in
     record { enough = omega arith; notTooMany = omega arith; bytes = f .bytes ∙ omega arith }
 
 agrees : (us vs : List ℕ) (h : Heap) → AlikeButOdd us vs → Fits us h → Agree (h .bytes / 4) us vs
 agrees us vs h a f i l =
-    let e = a .length in
-    sym (getD-take (length us / 2 * 2) us i 0 (omega (arith, f .bytes)))
+    sym (getD-take (length us / 2 * 2) us i 0 (omega arith))
     ∙ ap (λ (w : List ℕ). getD w i 0) (a .words)
-    ∙ getD-take (length vs / 2 * 2) vs i 0 (omega (arith, f .bytes))
+    ∙ getD-take (length vs / 2 * 2) vs i 0 (omega arith)
 
 passes-alike : (us vs : List ℕ) (h : Heap) → AlikeButOdd us vs → Passes us h → Passes vs h
 passes-alike us vs h a p = same-passes us vs h (agrees us vs h a (p .fits)) p (fits-alike us vs h a (p .fits))
@@ -87,16 +85,16 @@ module _ (us vs : List ℕ) (h : Heap) (a : AlikeButOdd us vs) where
   test-same : passes us h ≡ passes vs h
   test-same = same-test (passes-iff us h) (passes-iff vs h) (passes-alike us vs h a) (passes-alike vs us h (alike-back us vs a))
 
-  -- what is read of both is the same if they pass
+  -- if they pass, they are read alike
   read-same : passes us h ≡ true → asRead us h ≡ asRead vs h
   read-same q = let p = passes-iff us h .0 q in sym (same-read us vs h (agrees us vs h a (p .fits)) p)
 
-  -- and so is every word of the heap
+  -- every word of the heap bytes is the same
   word-alike : Passes us h → (c k : ℕ) → c / 4 + k < h .bytes / 4 → word us c k ≡ word vs c k
   unfolding word
   word-alike p c k l = agrees us vs h a (p .fits) (c / 4 + k) l
 
-  -- by what the check says: refused alike, or read alike
+  -- an outcome F of the check and the reading is the same on both: they fail alike, or are read alike
   module _ (F : Bool → Draft → Outcome) (fails : (d e : Draft) → F false d ≡ F false e) where
     by-reading : F (passes us h) (asRead us h) ≡ F (passes vs h) (asRead vs h)
     by-reading = go (passes us h) refl
@@ -105,7 +103,7 @@ module _ (us vs : List ℕ) (h : Heap) (a : AlikeButOdd us vs) where
         go true q = rw (read-same q, test-same) refl
         go false q = rw (← test-same, q) (fails (asRead us h) (asRead vs h))
 
-  -- so each call has the same outcome on both
+  -- each call has the same outcome on both
   with-same : (fill : Entry → List Store) (z : ℕ) → allocateWith fill us h z ≡ allocateWith fill vs h z
   with-same fill z = by-reading (λ t d. judged h (allocateRefusals (not t, HeapFails) d z) (allocated fill d z)) (λ d e. refl)
 
@@ -121,7 +119,7 @@ module _ (us vs : List ℕ) (h : Heap) (a : AlikeButOdd us vs) where
   unfolding free
   free-same b = by-reading (λ t d. judged h (freeRefusals (not t, HeapFails) d b) (freed d b)) (λ d e. refl)
 
-  -- a block that is moved is copied from the same words
+  -- a moved block is copied from the same words
   resized-same : Passes us h → (b n : ℕ) → let d = asRead us h in resized us (blockSpot d b) n d ≡ resized vs (blockSpot d b) n d
   unfolding resized
   resized-same p b n =
@@ -189,9 +187,9 @@ module _ (us vs : List ℕ) (h : Heap) (a : AlikeButOdd us vs) where
   step-same (AskChunk q p) = chunk-same q p
   step-same (AskBin q i) = bin-same q i
 
--- a region after stores below its odd word
+-- a region after stores below its odd last word
 module _ (ws : List ℕ) (ss : List Store) (b : Below (length ws / 2 * 2) ss) where
-  -- how many words there are without it
+  -- the number of words without it
   abbrev even : ℕ
   even = length ws / 2 * 2
 
@@ -208,7 +206,7 @@ module _ (ws : List ℕ) (ss : List Store) (b : Below (length ws / 2 * 2) ss) wh
       rw (length-written ss ws, ← written-prefix even ss ws b)
       (drop-at (written (take even ws) ss) (drop even ws) even prefix-length)
 
--- and the regions are alike afterwards
+-- the two regions differ at most in the odd word afterwards
 words-alike : (call : Call) (h : Heap) (us vs : List ℕ) → AlikeButOdd us vs → AlikeButOdd (ours call us h .words) (ours call vs h .words)
 unfolding ours
 words-alike call h us vs a =
@@ -222,9 +220,9 @@ words-alike call h us vs a =
           ∙ sym (even-written vs t (stores-below vs h call));
     }
 
-pub odd-apart : OddApart ours
+pub odd : Odd ours
 unfolding ours
-odd-apart =
+odd =
     record {
       answer = λ call h us vs a. ap (λ (o : Outcome). o .answer) (step-same us vs h a call);
       heap = λ call h us vs a. ap (λ (o : Outcome). o .heap) (step-same us vs h a call);

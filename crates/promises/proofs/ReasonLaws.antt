@@ -1,5 +1,5 @@
--- What the tests of a call decide, apart from any call: whether the heap passes, which numbers and lengths are in range, which donors fit, which blocks are live
--- and outgrown, and which chunks a question is asked of. Assumes nothing.
+-- What single tests decide, apart from any call: whether the heap passes, which numbers and lengths are in range, which donors fit,
+-- which blocks are live, which outgrow their chunk, and which chunk a question is about. Assumes nothing.
 use mathlib.Core.Path.{_≡_, refl, sym, _∙_}
 use mathlib.Core.Logic.{_⊎_, inl, inr}
 use mathlib.Core.Bool.{Bool, true, false, not, cond, _&&_, _||_, false≢true}
@@ -22,9 +22,9 @@ use Rattle.rules.specs.Ask.{isThere}
 use Rattle.rules.proofs.CheckLaws.{passes-iff}
 use Rattle.rules.proofs.SpotLaws.{one-chunk, spot-splits, spot-member}
 use Rattle.promises.specs.Room.{HoldsBlock}
-use Rattle.promises.specs.Refused.{WrongDonor, AskedOf}
+use Rattle.promises.specs.Refusing.{WrongDonor, AskedOf}
 
--- a heap of which it is not so that it fails passes
+-- a heap that does not fail passes
 pub passes? : (ws : List ℕ) (h : Heap) → ((Passes ws h → ⊥) → ⊥) → Passes ws h
 passes? ws h n = go (passes ws h) refl
   where
@@ -32,7 +32,7 @@ passes? ws h n = go (passes ws h) refl
     go true e = passes-iff ws h .0 e
     go false e = absurd (n (λ p. false≢true (sym e ∙ passes-iff ws h .1 p)))
 
--- numbers from 1 up to the most
+-- z is not in the range from 1 to `most`
 pub range-iff : (most z : ℕ) → Decides (not (leb 1 z && leb z most)) ((z ≡ 0) ⊎ (most < z))
 range-iff most z =
     meaning (denied (both (at-most 1 z) (at-most z most))) (λ n. outside n (ℕ-discrete z 0)) inside
@@ -46,10 +46,10 @@ range-iff most z =
         go (no m) = absurd (n (omega arith, omega arith))
 
     inside : (z ≡ 0) ⊎ (most < z) → (1 ≤ z) × (z ≤ most) → ⊥
-    inside (inl e) k = omega (arith, k .0)
-    inside (inr l) k = omega (arith, k .1)
+    inside (inl e) k = omega arith
+    inside (inr l) k = omega arith
 
--- the number of words, where setup's test of it fails
+-- the region's length is in range if setup's test for refusal 1 fails
 pub length-in : (ws : List ℕ) → (ltb (length ws) 10 || ltb 16384 (length ws)) ≡ false → (10 ≤ length ws) × (length ws ≤ 16384)
 length-in ws q =
     let wrong = or-else (less (length ws) 10) (less 16384 (length ws)) .1 in
@@ -57,7 +57,7 @@ length-in ws q =
     let few : 16384 < length ws → ⊥ = λ l. false≢true (sym q ∙ wrong (inr l)) in
     (omega arith, omega arith)
 
--- a donor that fits, or none
+-- the donor's size is 0, or fits
 abbrev pub Fitting : List ℕ → ℕ → Type 0
 Fitting ws donor = (donor ≡ 0) ⊎ (((24 ≤ donor) × (donor % 8 ≡ 0)) × (donor ≤ heapBytes (length ws) - 40))
 
@@ -65,7 +65,7 @@ pub fitting-iff : (ws : List ℕ) (donor : ℕ) → Decides (donorFits (heapByte
 fitting-iff ws donor =
     or-else (number-is donor 0) (both (both (at-most 24 donor) (number-is (donor % 8) 0)) (at-most donor (heapBytes (length ws) - 40)))
 
--- a donor that does not fit
+-- the donor's size does not fit
 pub donor-iff : (ws : List ℕ) (donor : ℕ) → Decides (not (donorFits (heapBytes (length ws)) donor)) (WrongDonor ws donor)
 donor-iff ws donor =
     meaning (denied (fitting-iff ws donor))
@@ -83,9 +83,9 @@ donor-iff ws donor =
 
     right : WrongDonor ws donor → Fitting ws donor → ⊥
     right (l, _) (inl z) = omega arith
-    right (l, inl g) (inr k) = omega (arith, k .0 .0)
-    right (l, inr (inl g)) (inr k) = g (k .0 .1)
-    right (l, inr (inr g)) (inr k) = omega (arith, k .0 .0, k .1)
+    right (l, inl g) (inr ((large, eight), room)) = omega arith
+    right (l, inr (inl g)) (inr ((large, eight), room)) = g eight
+    right (l, inr (inr g)) (inr ((large, eight), room)) = omega arith
 
 -- a chunk holds the live block at b
 pub holds-iff : (h : Heap) (b : ℕ) (e : Entry) → Decides (holdsBlock h b e) ((live h e ≡ true) × (blockOf e ≡ b))
@@ -96,7 +96,7 @@ holds-iff h b e = go (live h e) (number-is (blockOf e) b)
     go false d = (λ q. absurd (false≢true q), λ x. x .0)
 
 module _ (ws : List ℕ) (h : Heap) where
-  -- the chunk of a live block is found on the chain
+  -- a live block has its chunk on the chain
   pub live-iff : (b : ℕ) → Decides (isLive (asRead ws h) b) ((e : Entry) × HoldsBlock ws h b e)
   unfolding asRead
   live-iff b =
@@ -104,11 +104,11 @@ module _ (ws : List ℕ) (h : Heap) where
       (λ (e, m, (l, q)). (e, record { member = m; live = l; block = q }))
       (λ (e, k). (e, k .member, (k .live, k .block)))
 
-  -- a place has one block
+  -- one chunk holds the block at b
   pub one-block : Passes ws h → (b : ℕ) (d e : Entry) → HoldsBlock ws h b d → HoldsBlock ws h b e → d ≡ e
-  one-block p b d e k m = one-chunk ws h p d e (k .member) (m .member) (omega (arith, k .block, m .block))
+  one-block p b d e k m = one-chunk ws h p d e (k .member) (m .member) (omega arith)
 
-  -- the chunk of a live block, which is where the chain is taken apart
+  -- the chunk at which the rule splits the chain holds the live block at b
   module _ (p : Passes ws h) (b : ℕ) (some : (e : Entry) × HoldsBlock ws h b e) where
     abbrev pub here : Entry
     here = blockSpot (asRead ws h) b .here
@@ -120,15 +120,15 @@ module _ (ws : List ℕ) (h : Heap) where
         let k = holds-iff h b here .0 (spot-splits (holdsBlock h b) (shape ws (h .bytes)) a .1) in
         record { member = spot-member (holdsBlock h b) (shape ws (h .bytes)) a; live = k .0; block = k .1 }
 
-    -- it is too small exactly if every chunk that holds the block is, since there is one
+    -- it is too small exactly if every chunk that holds the block is; only one does
     pub outgrown-iff : (n : ℕ) → Decides (ltb (here .size) n) ((e : Entry) → HoldsBlock ws h b e → e .size < n)
     outgrown-iff n = meaning (less (here .size) n) (λ l e k. rw (one-block p b e here k here-holds) l) (λ f. f here here-holds)
 
-  -- the same, by the test that finds it
+  -- the same, by the test for a live block
   pub live-holds : Passes ws h → (b : ℕ) → isLive (asRead ws h) b ≡ true → HoldsBlock ws h b (blockSpot (asRead ws h) b .here)
   live-holds p b l = here-holds p b (live-iff b .0 l)
 
-  -- the chunk that a question is asked of
+  -- the chunk that a question is about
   pub there-iff : (q p : ℕ) → Decides (isThere (asRead ws h) q p) ((e : Entry) × AskedOf ws h q p e)
   unfolding asRead
   there-iff q p = go (ℕ-discrete q 3)

@@ -1,4 +1,4 @@
--- What holds of a resized block, whichever way it goes: it moves, it loses its tail, or it stays as it is (`resized-so`). Assumes nothing.
+-- To prove something of a resized block: if it moves, if it gives its tail back, and if it stays as it is (`resized-so`). Assumes nothing.
 use mathlib.Core.Path.{_≡_, refl}
 use mathlib.Core.Bool.{Bool, true, false, cond}
 use mathlib.Core.List.{List}

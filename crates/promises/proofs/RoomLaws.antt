@@ -1,5 +1,5 @@
--- A way of answering that refuses for the table's reasons alone refuses for want of room exactly when no chunk can serve;
--- so does the rules' own (`room`). Assumes nothing.
+-- A way that refuses exactly for the table's reasons refuses for lack of room exactly when no chunk can serve (`refusing-room`);
+-- so does the rules' own way (`room`). Assumes nothing.
 use mathlib.Core.Path.{_≡_}
 use mathlib.Core.Logic.{inl, inr}
 use mathlib.Core.Bool.{true}
@@ -19,17 +19,17 @@ use Rattle.rules.specs.Serve.{mostBytes, need, permitted}
 use Rattle.rules.specs.Calls.{Allocate, AllocateCleared, Reallocate}
 use Rattle.promises.specs.Ways.{Way, ours}
 use Rattle.promises.specs.Room.{HoldsBlock, OnlyForRoom, Room}
-use Rattle.promises.specs.Refused.{WrongSize, NoBlock, NoPlace, Because, fails, allocateSize, clearedSize, reallocateSize, reallocateNotLive, allocateRoom, clearedRoom, reallocateRoom, allocateBin, clearedBin, reallocateNewBin, reallocateBin, Refusing}
-use Rattle.promises.proofs.RefusedLaws.{refusing}
+use Rattle.promises.specs.Refusing.{WrongSize, NoBlock, NoPlace, Because, fails, allocateSize, clearedSize, reallocateSize, reallocateNotLive, allocateRoom, clearedRoom, reallocateRoom, allocateBin, clearedBin, reallocateNewBin, reallocateBin, Refusing}
+use Rattle.promises.proofs.RefusingLaws.{refusing}
 use Rattle.promises.proofs.ReasonLaws.{one-block}
 
--- a permitted size is no wrong one
+-- a permitted size is not wrong
 not-wrong : (z : ℕ) → permitted z ≡ true → WrongSize z → ⊥
 not-wrong z t w = go (both (at-most 1 z) (at-most z mostBytes) .0 t) w
   where
     go : (1 ≤ z) × (z ≤ mostBytes) → WrongSize z → ⊥
-    go k (inl e) = omega (arith, k .0)
-    go k (inr l) = omega (arith, k .1)
+    go k (inl e) = omega arith
+    go k (inr l) = omega arith
 
 module _ (way : Way) (refuses : Refusing way) (ws : List ℕ) (h : Heap) (p : Passes ws h) where
   allocates : (z : ℕ) → permitted z ≡ true → OnlyForRoom way (Allocate z) ws h z
@@ -56,7 +56,7 @@ module _ (way : Way) (refuses : Refusing way) (ws : List ℕ) (h : Heap) (p : Pa
       before q l (clearedRoom w) = omega arith
       before q l (clearedBin w) = omega arith
 
-  -- what a reallocation refused for want of room says
+  -- what a reallocation refused for lack of room says
   no-place : (b z : ℕ) → way (Reallocate b z) ws h .answer ≡ Refused NoRoom → NoPlace ws h b (need overhead z)
   no-place b z e = elim (refuses .exactly (Reallocate b z) ws h NoRoom .0 e .because) [ reallocateRoom w ↦ w ]
 
@@ -80,7 +80,7 @@ refusing-room way refuses ws h p =
     record {
       allocate = allocates way refuses ws h p;
       cleared = clears way refuses ws h p;
-      noBlock = λ z t. reallocates way refuses ws h p 0 z t (λ k. omega (arith, k .0)) (λ e k. absurd (omega (arith, k .block)));
+      noBlock = λ z t. reallocates way refuses ws h p 0 z t (λ k. omega arith) (λ e k. absurd (omega arith));
       outgrown = λ b z t e k l.
           reallocates way refuses ws h p b z t (λ n. n .1 e k) (λ d m. rw (one-block ws h p b d e m k) l);
       fitting = λ b z e k l q. let g = no-place way refuses ws h p b z q .0 e k in omega arith;

@@ -1,28 +1,28 @@
--- Through any run from an accepted setup on every state passes, so what holds of every heap that passes holds at each step (`through`),
--- for every way of answering that keeps heaps passing; and so for the rules' own (`running`). Assumes nothing.
+-- In every run after an accepted setup each state passes, so what holds of every heap that passes holds in each state (`through`),
+-- for every way that keeps the promise `Kept`, and so for the rules' own (`runs`). Assumes nothing.
 use mathlib.Core.List.{List, [], _∷_}
 use Rattle.rules.specs.Calls.{State}
 use Rattle.promises.specs.Ways.{Way, ours}
 use Rattle.promises.specs.Room.{Room}
 use Rattle.promises.specs.Apart.{Apart}
-use Rattle.promises.specs.Refused.{Refusing}
-use Rattle.promises.specs.Kept.{Passing, Keeping}
-use Rattle.promises.specs.Runs.{Step, Calls, Writes, afterStep, MayStep, IsRun, Along, Begins, ThroughRuns, Running}
-use Rattle.promises.proofs.KeptLaws.{keeping}
-use Rattle.promises.proofs.RefusedLaws.{refusing}
+use Rattle.promises.specs.Refusing.{Refusing}
+use Rattle.promises.specs.Kept.{Passing, Kept}
+use Rattle.promises.specs.Runs.{Step, Calls, Writes, afterStep, MayStep, IsRun, Along, Begins, ThroughRuns, Runs}
+use Rattle.promises.proofs.KeptLaws.{kept}
+use Rattle.promises.proofs.RefusingLaws.{refusing}
 use Rattle.promises.proofs.RoomLaws.{room}
-use Rattle.promises.proofs.ApartLaws.{kept-apart}
+use Rattle.promises.proofs.ApartLaws.{apart}
 
-module _ (way : Way) (keeps : Keeping way) where
+module _ (way : Way) (keeps : Kept way) where
   step-keeps : (x : Step) (s : State) → MayStep x s → Passing s → Passing (afterStep way x s)
   step-keeps (Calls call) s m p = keeps .calls call s p
   step-keeps (Writes ss) s m p = keeps .writes ss s p m
 
-  -- a run begins with a heap that passes
+  -- the first state passes
   begins-passing : (s : State) → Begins way s → Passing s
   begins-passing s b = rw (b .words, b .heap) (keeps .setup (b .table) (b .donor) (b .merge) (b .before .words) (b .before .heap) (b .accepted))
 
-  -- what holds of every heap that passes holds at each step of a run
+  -- what holds of every heap that passes holds in each state of a run
   module _ (P : State → Type 0) (holds : (s : State) → Passing s → P s) where
     along : (xs : List Step) (s : State) → IsRun way xs s → Passing s → Along way P xs s
     along [] s r p = holds s p
@@ -31,8 +31,8 @@ module _ (way : Way) (keeps : Keeping way) where
     pub through : ThroughRuns way P
     through s b xs r = along xs s r (begins-passing s b)
 
--- the promises of single calls are instances
-pub keeping-running : (way : Way) → Keeping way → Refusing way → Room way → Apart way → Running way
+-- the promises about single calls hold in each state
+pub keeping-running : (way : Way) → Kept way → Refusing way → Room way → Apart way → Runs way
 keeping-running way keeps refuses room apart =
     record {
       passes = through way keeps _ (λ s p. p);
@@ -41,5 +41,5 @@ keeping-running way keeps refuses room apart =
       apart = through way keeps _ (λ s p. apart (s .words) (s .heap) p);
     }
 
-pub running : Running ours
-running = keeping-running ours keeping refusing room kept-apart
+pub runs : Runs ours
+runs = keeping-running ours kept refusing room apart

@@ -1,4 +1,4 @@
--- The rule's four tries find nothing exactly when no chunk of the whole chain can serve (`room-iff`). Assumes nothing.
+-- The rule's four tries find no source exactly when no chunk of the chain can serve (`room-iff`). Assumes nothing.
 use mathlib.Core.Path.{_≡_, refl, sym, ap, _∙_, subst}
 use mathlib.Core.Logic.{_⊎_, inl, inr}
 use mathlib.Core.Bool.{Bool, true, false, not, cond, _&&_, false≢true}
@@ -9,8 +9,7 @@ use native.Mathlib.Omega.{arith}
 use lib.Dec.{eqb, leb}
 use lib.ListN.{length-take}
 use borrow.Author.Tests.{eq-eqb, ne-eqb, leb-true, le-leb}
-use Rattle.bins.proofs.HeapBooks.{member-entry, list-nodes, ordinary-listed}
-use Rattle.grant.proofs.ChooseMeaning.{size-on}
+use Rattle.books.proofs.HeapBooks.{member-entry, list-nodes, ordinary-listed}
 use Rattle.lists.specs.Lists.{Mem, headOr, any, keep, numbersFrom, gathered}
 use Rattle.lists.proofs.ListsLaws.{Decides, number-is, at-most, meaning, both, or-else, denied, itself, not-so}
 use Rattle.lists.proofs.MembersLaws.{kept-from, kept-has}
@@ -30,15 +29,15 @@ use Rattle.rules.specs.Draft.{asRead}
 use Rattle.rules.specs.Serve.{serves, sizeOn, fromBin, firstFit, ownBin, tryDonor, largerBin, tryTop, firstOf, chosen, nowhere}
 use Rattle.rules.specs.Allocate.{sourceOf}
 use Rattle.rules.proofs.KindsLaws.{kind-ordinary}
-use Rattle.rules.proofs.SpotLaws.{inside}
+use Rattle.rules.proofs.SpotLaws.{inside, size-on}
 use Rattle.rules.proofs.NamedLaws.{Free, IsOrdinary, flags-free, top-here, donor-here}
 use Rattle.promises.specs.Room.{NoneServes}
 
--- a try finds something
+-- the try finds a source
 abbrev found : Source → Bool
 found s = not (nowhere s)
 
--- the first of the tries that find something is found, if one does
+-- a source is chosen exactly if one of the tries finds one
 found-first : (ss : List Source) → found (firstOf ss) ≡ any found ss
 found-first [] = refl
 found-first (FromBin c ∷ ss) = refl
@@ -46,14 +45,14 @@ found-first (FromDonor ∷ ss) = refl
 found-first (FromTop ∷ ss) = refl
 found-first (Nowhere ∷ ss) = found-first ss
 
--- the first of a list is found, if there is one
+-- a try that takes the first of a list finds a source if the list is not empty
 found-in : (cs : List ℕ) → ((c : ℕ) → Mem c cs → 0 < c) → Decides (found (fromBin (headOr 0 cs))) ((c : ℕ) × Mem c cs)
 found-in [] f = (λ t. absurd (false≢true t), λ m. absurd (List·Memᴰ·not-nil (m .1)))
 found-in (c ∷ cs) f =
     let l = f c (List·Memᴰ·head refl) in
     (λ t. (c, List·Memᴰ·head refl), λ m. rw (ne-eqb c 0 (omega arith)) refl)
 
--- and a source that a test asks for, if the test holds
+-- a try that takes s under a test finds it if the test holds
 found-if : {P : Type 0} (s : Source) (t : Bool) → found s ≡ true → Decides t P → Decides (found (cond t s Nowhere)) P
 found-if s true e d = rw e d
 found-if s false e d = d
@@ -65,15 +64,15 @@ module _ (ws : List ℕ) (h : Heap) (p : Passes ws h) (n : ℕ) where
   abbrev can : Entry → Bool
   can = serves (tableOf h) (h .donor .0) (h .top .0) n
 
-  -- a chunk that serves
+  -- some chunk serves
   abbrev Some : Type 0
   Some = (e : Entry) × Mem e es × (can e ≡ true)
 
   not-used : (e : Entry) → Free ws h e → not (inUse e) ≡ true
   unfolding inUse
-  not-used e f = let z = f .flags in denied (number-is (e .flags % 2) 1) .1 (λ q. omega arith)
+  not-used e f = denied (number-is (e .flags % 2) 1) .1 (λ q. omega arith)
 
-  -- what it takes for a free chunk to serve
+  -- when the top and the donor can serve
   module _ (e : Entry) (f : Free ws h e) where
     pub top-can : e .place ≡ h .top .0 → n + 24 ≤ e .size → can e ≡ true
     unfolding serves
@@ -90,7 +89,7 @@ module _ (ws : List ℕ) (h : Heap) (p : Passes ws h) (n : ℕ) where
       rw (not-used e (o .free), ne-eqb (e .place) (h .top .0) (o .notTop), ne-eqb (e .place) (h .donor .0) (o .notDonor))
       (le-leb n (e .size) l)
 
-  -- and what it means that a chunk serves
+  -- what it means that a chunk can serve
   abbrev ByOrdinary : Entry → Type 0
   ByOrdinary e = (ordinary h e ≡ true) × (n ≤ e .size)
 
@@ -122,7 +121,7 @@ module _ (ws : List ℕ) (h : Heap) (p : Passes ws h) (n : ℕ) where
           let o = kind-ordinary (h .bytes) (h .donor .0) (h .top .0) e (λ z. omega arith) (λ z. omega arith) (λ z. omega arith) k l in
           inr (inr (ap ordinaryKind (sym o), leb-true n (e .size) r))
 
-  -- the bin of the need, and what each of the four tries finds
+  -- the bin of the need is bin i; what each of the four tries finds
   module _ (i : ℕ) (takes : Takes (tableOf h) n i) where
     abbrev fitting : List ℕ
     fitting = keep (λ c. leb n (sizeOn es c)) (binList ws h i)
@@ -136,8 +135,8 @@ module _ (ws : List ℕ) (h : Heap) (p : Passes ws h) (n : ℕ) where
     taken : (s j : ℕ) → binOf (tableOf h) s ≡ Bin j → Takes (tableOf h) s j
     taken s j q = subst (λ (r : Binned). TakenBy (tableOf h) s r) q (bin-taken (tableOf h) s)
 
-    abbrev Found : Type 0
-    Found =
+    abbrev FoundBy : Type 0
+    FoundBy =
         ((c : ℕ) × Mem c fitting)
         ⊎ ((((small (tableOf h) n ≡ true) × (h .donor .0 ≡ 0 → ⊥)) × (n + 24 ≤ sizeOn es (h .donor .0)))
         ⊎ (((c : ℕ) × Mem c above) ⊎ ((n + 24 ≤ sizeOn es (h .top .0)) ⊎ ⊥)))
@@ -145,7 +144,7 @@ module _ (ws : List ℕ) (h : Heap) (p : Passes ws h) (n : ℕ) where
     abbrev tries : List Source
     tries = firstFit es n (binList ws h i) ∷ tryDonor h es n ∷ largerBin h (binList ws h) (Bin i) ∷ tryTop h es n ∷ []
 
-    found-iff : Decides (any found tries) Found
+    found-iff : Decides (any found tries) FoundBy
     found-iff =
         or-else
         (found-in fitting (λ c m. list-nodes ws h p i (inside-bins n i takes) c (kept-from (λ c. leb n (sizeOn es c)) (binList ws h i) m .0) .some))
@@ -154,52 +153,50 @@ module _ (ws : List ℕ) (h : Heap) (p : Passes ws h) (n : ℕ) where
         (both (both (itself (small (tableOf h) n)) (denied (number-is (h .donor .0) 0))) (at-most (n + 24) (sizeOn es (h .donor .0)))))
         (or-else
         (found-in above
-        (λ c m. let g = gathered-from (binList ws h) (h .bins - suc i) (suc i) m in list-nodes ws h p (g .0) (omega (arith, g .1)) c (g .2) .some))
+        (λ c m. let (j, (above, inside), member) = gathered-from (binList ws h) (h .bins - suc i) (suc i) m in list-nodes ws h p j (omega arith) c member .some))
         (or-else
         (found-if FromTop (leb (n + 24) (sizeOn es (h .top .0))) refl (at-most (n + 24) (sizeOn es (h .top .0))))
         (λ t. false≢true t, λ z. absurd z))))
 
-    -- a member of a bin's list serves, if the bin or its own size says that it is large enough
+    -- a member of a bin serves if its bin or its size shows that it is large enough
     member-can : (j c : ℕ) → j < h .bins → Mem c (binList ws h j) → ((e : Entry) → binOf (tableOf h) (e .size) ≡ Bin j → sizeOn es c ≡ e .size → n ≤ e .size) → Some
     member-can j c l m large =
-        let k = member-entry ws h p j c l m in
-        let r = k .1 in
-        (k .0, r .member, ordinary-can (k .0) (r .is) (large (k .0) (r .takes) (size-on ws h p n c (k .0) (r .member) (r .place))))
+        let (e, r) = member-entry ws h p j c l m in
+        (e, r .member, ordinary-can e (r .is) (large e (r .takes) (size-on ws h p c e (r .member) (r .place))))
 
-    -- what is found can serve
-    found-some : Found → Some
+    -- what a try finds can serve
+    found-some : FoundBy → Some
     found-some (inl (c, m)) =
-        let f = kept-from (λ c. leb n (sizeOn es c)) (binList ws h i) m in
-        let l = leb-true n (sizeOn es c) (f .1) in
-        member-can i c (inside-bins n i takes) (f .0) (λ e t q. omega arith)
-    found-some (inr (inl d)) =
-        let k = donor-here ws h p (omega (arith, d .0 .1)) in
+        let (member, fits) = kept-from (λ c. leb n (sizeOn es c)) (binList ws h i) m in
+        let l = leb-true n (sizeOn es c) fits in
+        member-can i c (inside-bins n i takes) member (λ e t q. omega arith)
+    found-some (inr (inl ((little, some), enough))) =
+        let k = donor-here ws h p (omega arith) in
         let e : Entry = headOr outside (keep (isAt (h .donor .0)) es) in
-        (e, k .member, donor-can e (k .free) (λ q. omega (arith, k .place, k .below)) (k .place) (d .1) (d .0 .0))
+        (e, k .member, donor-can e (k .free) (λ q. omega arith) (k .place) enough little)
     found-some (inr (inr (inl (c, m)))) =
-        let g = gathered-from (binList ws h) (h .bins - suc i) (suc i) m in
-        member-can (g .0) c (omega (arith, g .1)) (g .2)
-        (λ e t q. let u = sizes-grow (tableOf h) takes (taken (e .size) (g .0) t) (omega (arith, g .1)) in omega arith)
+        let (j, (above, inside), member) = gathered-from (binList ws h) (h .bins - suc i) (suc i) m in
+        member-can j c (omega arith) member (λ e t q. let u = sizes-grow (tableOf h) takes (taken (e .size) j t) (omega arith) in omega arith)
     found-some (inr (inr (inr (inl l)))) =
         let k = top-here ws h p in
         let e : Entry = headOr outside (keep (isAt (h .top .0)) es) in
         (e, k .member, top-can e (k .free) (k .place) l)
     found-some (inr (inr (inr (inr z)))) = absurd z
 
-    -- a chunk that can serve is found
-    by-found : (e : Entry) → Mem e es → ByTop e ⊎ (ByDonor e ⊎ ByOrdinary e) → Free ws h e → Found
+    -- if a chunk can serve, a try finds a source
+    by-found : (e : Entry) → Mem e es → ByTop e ⊎ (ByDonor e ⊎ ByOrdinary e) → Free ws h e → FoundBy
     by-found e m (inl (q, l)) f =
-        let s = size-on ws h p n (h .top .0) e m q in inr (inr (inr (inl (omega arith))))
+        let s = size-on ws h p (h .top .0) e m q in inr (inr (inr (inl (omega arith))))
     by-found e m (inr (inl (q, l, t))) f =
-        let s = size-on ws h p n (h .donor .0) e m q in inr (inl ((t, λ z. omega arith), omega arith))
+        let s = size-on ws h p (h .donor .0) e m q in inr (inl ((t, λ z. omega arith), omega arith))
     by-found e m (inr (inr (o, l))) f = listed (ordinary-listed ws h p e m o)
       where
-        listed : (j : ℕ) × (j < h .bins) × (binOf (tableOf h) (e .size) ≡ Bin j) × Mem (e .place) (binList ws h j) → Found
+        listed : (j : ℕ) × (j < h .bins) × (binOf (tableOf h) (e .size) ≡ Bin j) × Mem (e .place) (binList ws h j) → FoundBy
         listed (j, lj, t, k) = go (ℕ-discrete j i)
           where
-            go : Dec (j ≡ i) → Found
+            go : Dec (j ≡ i) → FoundBy
             go (yes q) =
-                let s = size-on ws h p n (e .place) e m refl in
+                let s = size-on ws h p (e .place) e m refl in
                 inl (e .place, kept-has (λ c. leb n (sizeOn es c)) (rw q at k) (le-leb n (sizeOn es (e .place)) (omega arith)))
             go (no d) =
                 let g = bin-grows (tableOf h) takes (taken (e .size) j t) l in
@@ -215,8 +212,8 @@ module _ (ws : List ℕ) (h : Heap) (p : Passes ws h) (n : ℕ) where
   -- a source is found exactly when a chunk can serve
   source-found : 24 ≤ n → Decides (found (sourceOf n (asRead ws h))) Some
   source-found l =
-      let b = bin-from (tableOf h) (p .table .valid) n l in
-      subst (λ (t : Bool). Decides t Some) (sym (ap found (source-is (b .0) (b .2) (b .1)) ∙ found-first (tries (b .0) (b .2)))) (found-serves (b .0) (b .2))
+      let (i, is, takes) = bin-from (tableOf h) (p .table .valid) n l in
+      subst (λ (t : Bool). Decides t Some) (sym (ap found (source-is i takes is) ∙ found-first (tries i takes))) (found-serves i takes)
 
   pub room-iff : 24 ≤ n → Decides (nowhere (sourceOf n (asRead ws h))) (NoneServes ws h n)
   room-iff l = (

@@ -9,7 +9,7 @@ use lib.Dec.{eqb}
 use lib.IntN.{ℤ, pos}
 use lib.ListN.{length, replicate, take}
 use borrow.Author.Tests.{ltb-true}
-use Rattle.grant.proofs.NeedLaws.{need-large}
+use Rattle.drafts.proofs.NeedLaws.{need-large}
 use Rattle.lists.specs.Lists.{every, any}
 use Rattle.lists.proofs.ListsLaws.{number-is, itself, if-then, for-each, for-some}
 use Rattle.record.specs.declared.answers.Answer.{Answer}
@@ -18,8 +18,8 @@ use Rattle.record.specs.declared.heap.Heap.{Heap}
 use Rattle.record.specs.Answers.{figuresOf}
 use Rattle.record.specs.Heap.{empty, tableOf}
 use Rattle.region.specs.declared.Block.{Block}
-use Rattle.rules.specs.Shape.{Entry, shape, binList}
-use Rattle.rules.specs.Kinds.{live, overhead, blockOf, blockEnd}
+use Rattle.rules.specs.Shape.{Entry, shape, binList, chunkEnd}
+use Rattle.rules.specs.Kinds.{live, overhead, blockOf}
 use Rattle.rules.specs.Check.{Passes, passes}
 use Rattle.rules.specs.Draft.{asRead}
 use Rattle.rules.specs.Serve.{need, serves}
@@ -31,7 +31,7 @@ use Rattle.rules.proofs.CheckLaws.{passes-iff}
 use Rattle.rules.proofs.NamedLaws.{live-between}
 use Rattle.promises.specs.Ways.{Way, ours}
 use Rattle.promises.specs.Room.{HoldsBlock, Room}
-use Rattle.promises.specs.Counts.{Counting}
+use Rattle.promises.specs.Counting.{Counting}
 use Rattle.promises.specs.Apart.{Apart}
 use Rattle.promises.specs.Wrong.{refusesAlways, sameBlock, idleFree, inventedCount, inventedUsed}
 use Rattle.promises.proofs.ReasonLaws.{live-iff}
@@ -40,7 +40,7 @@ use Rattle.promises.proofs.ReasonLaws.{live-iff}
 abbrev after : ℕ → State
 after k = run (opening ∷ take k turns) (record { words = replicate 64 0; heap = empty })
 
--- it passes when it is fresh, after call 1 and after call 7
+-- it passes when fresh, after call 1 and after call 7
 passing : (s : State) → passes (s .words) (s .heap) ≡ true → Passes (s .words) (s .heap)
 passing s = passes-iff (s .words) (s .heap) .0
 
@@ -76,11 +76,11 @@ granted-once way promised ws h p z block change d k q =
     let (e, from, (held, cut)) = promised ws h p .allocate z block change q .0 in
     go e (held .block) (cut .enough) (cut .apart d (k .member) (k .live))
   where
-    go : (e : Entry) → blockOf e ≡ block .0 → need overhead z ≤ e .size → (blockEnd d ≤ e .place) ⊎ (blockEnd e ≤ d .place) → ⊥
-    go e b n (inl l) = let t = live-between ws h p d (k .member) (k .live) .1 in omega (arith, k .block)
-    go e b n (inr l) = let t = need-large z in omega (arith, k .block)
+    go : (e : Entry) → blockOf e ≡ block .0 → need overhead z ≤ e .size → (chunkEnd d ≤ e .place) ⊎ (chunkEnd e ≤ d .place) → ⊥
+    go e b n (inl l) = let t = live-between ws h p d (k .member) (k .live) .1 in omega arith
+    go e b n (inr l) = let t = need-large z in omega arith
 
--- of the fresh heap the rules grant block 16; then it is live, and no other
+-- from the fresh heap the rules grant block 16, which is then the only live block
 abbrev granting : State
 granting = record { words = ours (Allocate 16) (after 0 .words) (after 0 .heap) .words; heap = ours (Allocate 16) (after 0 .words) (after 0 .heap) .heap }
 
@@ -95,7 +95,7 @@ first-live = refl
 first-held : (d : Entry) × HoldsBlock (after 1 .words) (after 1 .heap) 16 d
 first-held = live-iff (after 1 .words) (after 1 .heap) 16 .0 first-live
 
--- an allocator that grants the same block each time, whichever it is: calls 1 and 2 of the demonstration
+-- an allocator that grants the same block each time, whichever block: calls 1 and 2 of the demonstration
 pub apart-refutes-same-block : (block : Block) → Apart (sameBlock block) → ⊥
 apart-refutes-same-block block promised =
     let (e, from, (held, cut)) = promised (after 0 .words) (after 0 .heap) fresh-passes .allocate 16 block (pos (need overhead 16)) refl .0 in
@@ -105,7 +105,7 @@ apart-refutes-same-block block promised =
     granted-once (sameBlock block) promised (after 1 .words) (after 1 .heap) first-passes 17 block (pos (need overhead 17)) d
     (rw (sym (held .block) ∙ is16) k) refl
 
--- a free that does nothing: block 16 is live still
+-- a free that does nothing: block 16 is still live
 pub apart-refutes-idle-free : Apart idleFree → ⊥
 apart-refutes-idle-free promised =
     let (d, k) = first-held in

@@ -1,5 +1,5 @@
--- Kept (document 01, "The check", with demand 3, which speaks of every heap that a run leads to): setup makes a heap that passes the check,
--- and from then on every call, and every write by the owner of a live block, leaves one.
+-- Kept (document 01, "The check"; demand 3 speaks of every heap that a run leads to): the check is an invariant. An accepted setup makes
+-- a heap that passes, and every call and every write into a live block leaves one that passes.
 use mathlib.Core.Path.{_≡_}
 use mathlib.Core.Bool.{Bool, true}
 use mathlib.Core.List.{List, [], _∷_}
@@ -24,13 +24,13 @@ Passing s = Passes (s .words) (s .heap)
 abbrev pub Accepted : Answer → Type 0
 Accepted a = (r : Refusal) → a ≡ Refused r → ⊥
 
--- what the next call finds: the words as the call left them, and the last record, which after a refusal is the one before
+-- the state for the next call; after a refusal the record is the one before
 abbrev pub after : Way → Call → State → State
 after way call s =
     let left = way call (s .words) (s .heap) in
     record { words = left .words; heap = recordAfter (s .heap) (left .heap) (left .answer) }
 
--- what an owner writes: each store falls on a word of a block that is live
+-- writes by the owners of blocks: each store hits a word of a live block
 abbrev pub OnBlock : Entry → Store → Type 0
 OnBlock e s = (blockOf e / 4 ≤ s .chunk / 4 + s .number) × (s .chunk / 4 + s .number < blockEnd e / 4)
 
@@ -39,17 +39,17 @@ OnLiveBlocks t [] = Unit {0}
 OnLiveBlocks t (s ∷ ss) =
     ((e : Entry) × OnChain (t .words) (t .heap) e × (live (t .heap) e ≡ true) × OnBlock e s) × OnLiveBlocks t ss
 
--- the state once they are written
+-- the state after such writes
 abbrev pub afterStores : List Store → State → State
 afterStores ss s = record { words = written (s .words) ss; heap = s .heap }
 
 -- the promise
-pub record Keeping (way : Way) : Type 0 where
-  -- an accepted setup gives a heap that passes, whatever the region holds and whatever record came ("The calls": Setup)
+pub record Kept (way : Way) : Type 0 where
+  -- an accepted setup makes a heap that passes, whatever the region held and whatever record came
   pub setup : (table : List ℕ) (donor : ℕ) (merge : Bool) (ws : List ℕ) (h : Heap)
       → Accepted (way (Setup table donor merge) ws h .answer)
       → Passes (way (Setup table donor merge) ws h .words) (way (Setup table donor merge) ws h .heap)
-  -- a call on a heap that passes, accepted or refused, leaves one for the next call
+  -- any call, accepted or refused, keeps a heap that passes
   pub calls : (call : Call) (s : State) → Passing s → Passing (after way call s)
-  -- and so do writes inside live blocks
+  -- writes inside live blocks keep it too
   pub writes : (ss : List Store) (s : State) → Passing s → OnLiveBlocks s ss → Passing (afterStores ss s)

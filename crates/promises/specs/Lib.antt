@@ -1,8 +1,9 @@
 pub mod Ways
 pub mod Room
-pub mod Counts
+pub mod Counting
 pub mod Determined
-pub mod Refused
+pub mod Refusing
+pub mod NeverNine
 pub mod Odd
 pub mod Kept
 pub mod Apart

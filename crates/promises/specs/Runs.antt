@@ -1,5 +1,5 @@
--- Runs (demand 3 is asked of every run that begins with an accepted setup, not of single calls alone): each state of such a run passes,
--- and so what is promised of calls on heaps that pass holds there, as long as blocks are written by their owners and nothing else is.
+-- Runs (demand 3 speaks of every run that begins with an accepted setup): each state of such a run passes the check,
+-- so the promises about heaps that pass hold there, as long as nothing but live blocks is written between the calls.
 use mathlib.Core.Path.{_≡_}
 use mathlib.Core.Logic.{_↔_}
 use mathlib.Core.Bool.{Bool}
@@ -12,10 +12,10 @@ use Rattle.rules.specs.Calls.{Call, Setup, State}
 use Rattle.promises.specs.Ways.{Way}
 use Rattle.promises.specs.Room.{RoomAt}
 use Rattle.promises.specs.Apart.{ApartAt}
-use Rattle.promises.specs.Refused.{First}
+use Rattle.promises.specs.Refusing.{First}
 use Rattle.promises.specs.Kept.{Passing, Accepted, after, OnLiveBlocks, afterStores}
 
--- a step of a run: a call, or what the owners of blocks write between two calls
+-- a step of a run: a call, or writes by the owners of blocks between two calls
 pub data Step : Type 0 where
   Calls : Call → Step
   Writes : List Store → Step
@@ -25,22 +25,22 @@ abbrev pub afterStep : Way → Step → State → State
 afterStep way (Calls call) s = after way call s
 afterStep way (Writes ss) s = afterStores ss s
 
--- any call may be made, another setup too; what is written is inside live blocks, as the heap then has them
+-- the precondition of a step: none for a call, setup too; writes are inside blocks that are live at the time
 abbrev pub MayStep : Step → State → Type 0
 MayStep (Calls call) s = Unit {0}
 MayStep (Writes ss) s = OnLiveBlocks s ss
 
--- a run from s on whose steps may all be made
+-- a run from s on, each of whose steps meets its precondition
 abbrev pub IsRun : Way → List Step → State → Type 0
 IsRun way [] s = Unit {0}
 IsRun way (x ∷ xs) s = MayStep x s × IsRun way xs (afterStep way x s)
 
--- P holds in each state of a run, the first and the last too
+-- P holds in each state of a run, the first and the last included
 abbrev pub Along : Way → (State → Type 0) → List Step → State → Type 0
 Along way P [] s = P s
 Along way P (x ∷ xs) s = P s × Along way P xs (afterStep way x s)
 
--- a run begins with what an accepted setup left, on any region and whatever record came
+-- s is what an accepted setup left, on any region and with any record before
 pub record Begins (way : Way) (s : State) : Type 0 where
   pub table : List ℕ
   pub donor : ℕ
@@ -55,13 +55,13 @@ abbrev pub ThroughRuns : Way → (State → Type 0) → Type 0
 ThroughRuns way P = (s : State) → Begins way s → (xs : List Step) → IsRun way xs s → Along way P xs s
 
 -- the promise
-pub record Running (way : Way) : Type 0 where
+pub record Runs (way : Way) : Type 0 where
   -- each state passes
   pub passes : ThroughRuns way Passing
-  -- whichever call is made there, a refusal is given exactly for the first reason that holds (`Refusing`)
+  -- a refusal is given exactly for the first reason that holds (`Refusing`)
   pub refused : ThroughRuns way (λ s.
       (call : Call) (r : Refusal) → (way call (s .words) (s .heap) .answer ≡ Refused r) ↔ First (s .words) (s .heap) call r)
-  -- for want of room exactly when no chunk of the whole chain can serve (`Room`)
+  -- a request is refused for lack of room exactly when no chunk can serve it (`Room`)
   pub room : ThroughRuns way (λ s. RoomAt way (s .words) (s .heap))
-  -- and live blocks are kept apart, with their words (`Apart`)
+  -- live blocks stay apart and keep their words (`Apart`)
   pub apart : ThroughRuns way (λ s. ApartAt way (s .words) (s .heap))

@@ -1,5 +1,5 @@
--- Wrong programs (document 01, "How far each statement reaches"): five ways of answering that a promise has to rule out.
--- Each answers by the rules but for one call.
+-- Wrong programs (document 01, "How far each statement reaches"): five ways of answering that the promises must rule out.
+-- Each answers one call wrongly and the others by the rules.
 use mathlib.Core.Bool.{cond}
 use mathlib.Core.List.{List}
 use Prim.Native.Nat.{ℕ}
@@ -19,11 +19,11 @@ use Rattle.rules.specs.Statements.{Left, leftBy}
 use Rattle.rules.specs.Calls.{Setup, Allocate, AllocateCleared, Free, Reallocate, SetMerge, Check, AskChunk, AskBin}
 use Rattle.promises.specs.Ways.{Way, ours}
 
--- what is done for a call, on each region and each record
+-- what is done for one call, on each region and record
 abbrev pub Doing : Type 0
 Doing = List ℕ → Heap → Left
 
--- four of the calls are done so, in this order: allocate, free, the check, a question about a bin; the others by the rules
+-- allocate, free, the check and the questions about a bin as given, the other calls by the rules
 abbrev pub done : (ℕ → Doing) → (ℕ → Doing) → Doing → (ℕ → ℕ → Doing) → Way
 done allocate free check askBin (Setup table donor merge) = ours (Setup table donor merge)
 done allocate free check askBin (Allocate z) = allocate z
@@ -35,7 +35,7 @@ done allocate free check askBin Check = check
 done allocate free check askBin (AskChunk q p) = ours (AskChunk q p)
 done allocate free check askBin (AskBin q i) = askBin q i
 
--- by the rules but for allocate; but for free; but for the check; but for questions about a bin
+-- all by the rules, but for allocate; but for free; but for the check; but for the questions about a bin
 abbrev pub butAllocate : (ℕ → Doing) → Way
 butAllocate allocate = done allocate (λ b. ours (Free b)) (ours Check) (λ q i. ours (AskBin q i))
 
@@ -48,15 +48,15 @@ butCheck check = done (λ z. ours (Allocate z)) (λ b. ours (Free b)) check (λ 
 abbrev pub butAskBin : (ℕ → ℕ → Doing) → Way
 butAskBin askBin = done (λ z. ours (Allocate z)) (λ b. ours (Free b)) (ours Check) askBin
 
--- an answer, and nothing is changed
+-- an answer that changes nothing
 abbrev pub merely : Answer → Doing
 merely a ws h = leftBy ws (unchanged h a)
 
--- 1: no allocation finds room
+-- 1: every allocation is refused for lack of room
 abbrev pub refusesAlways : Way
 refusesAlways = butAllocate (λ z. merely (Refused NoRoom))
 
--- 2: the books are kept, and each allocation is answered with the same block
+-- 2: every allocation answers with the same block; record and words are right
 abbrev pub sameBlock : Block → Way
 sameBlock block =
     butAllocate
@@ -64,15 +64,15 @@ sameBlock block =
     let left = ours (Allocate z) ws h in
     record { answer = Granted block (pos (need overhead z)); heap = left .heap; words = left .words })
 
--- 3: a free is answered as it should be, and nothing is done
+-- 3: free answers as it should and does nothing
 abbrev pub idleFree : Way
 idleFree = butFree (λ b ws h. merely (ours (Free b) ws h .answer) ws h)
 
--- 4: every bin has n chunks. The other questions about a bin are answered by the rules
+-- 4: every bin is said to have n chunks; the other questions are answered by the rules
 abbrev pub inventedCount : ℕ → Way
 inventedCount n = butAskBin (λ q i ws h. cond (eqb q 1) (merely (Told n) ws h) (ours (AskBin q i) ws h))
 
--- 5: the check says that n bytes are used. Its other figures are right
+-- 5: the check says that n bytes are used; its other counts are right
 abbrev pub inventedUsed : ℕ → Way
 inventedUsed n =
     butCheck

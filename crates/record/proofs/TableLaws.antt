@@ -14,7 +14,7 @@ use lib.ListN.{length, drop}
 use Rattle.lists.proofs.ListsLaws.{Decides, number-is, at-most, less, both, or-else, meaning}
 use Rattle.record.specs.declared.table.Binned.{Binned}
 use Rattle.record.specs.declared.table.Binned.the-variants.{Bin, NoBin}
-use Rattle.record.specs.Table.{sizeAt, ValidTable, goesUp, validTable, Takes, TakenBy, oneOn, binOf, run, takesBin, SmallBins, smallBins, guideTable}
+use Rattle.record.specs.Table.{sizeAt, ValidTable, goesUp, validTable, Takes, TakenBy, oneOn, binOf, eightsFrom, takesBin, SmallBins, smallBins, guideTable}
 
 -- the sizes bs after b are multiples of 8, each greater than the one before
 pub record Follow (b : ℕ) (bs : List ℕ) : Type 0 where
@@ -123,32 +123,32 @@ module _ (t : List ℕ) where
   pub bin-is : (s : ℕ) (r : Binned) → TakenBy t s r → r ≡ binOf t s
   bin-is s r k = bin-one s r (binOf t s) k (bin-taken t s)
 
--- where a run of eights from `next` ends
-run-in : (next : ℕ) (bs : List ℕ) → run next bs ≤ length bs
+-- where a eightsFrom of eights from `next` ends
+run-in : (next : ℕ) (bs : List ℕ) → eightsFrom next bs ≤ length bs
 run-in next [] = omega arith
 run-in next (b ∷ bs) = go (eqb b next) (run-in (next + 8) bs)
   where
-    go : (t : Bool) → run (next + 8) bs ≤ length bs → cond t (suc (run (next + 8) bs)) 0 ≤ suc (length bs)
+    go : (t : Bool) → eightsFrom (next + 8) bs ≤ length bs → cond t (suc (eightsFrom (next + 8) bs)) 0 ≤ suc (length bs)
     go true h = omega arith
     go false h = omega arith
 
-run-at : (next : ℕ) (bs : List ℕ) (i : ℕ) → i < run next bs → sizeAt bs i ≡ next + 8 * i
+run-at : (next : ℕ) (bs : List ℕ) (i : ℕ) → i < eightsFrom next bs → sizeAt bs i ≡ next + 8 * i
 run-at next [] i h = absurd (omega arith)
 run-at next (b ∷ bs) i h = go (eqb b next) refl i h (λ k l. run-at (next + 8) bs k l)
   where
-    go : (t : Bool) → eqb b next ≡ t → (i : ℕ) → i < cond t (suc (run (next + 8) bs)) 0
-        → ((k : ℕ) → k < run (next + 8) bs → sizeAt bs k ≡ next + 8 + 8 * k) → sizeAt (b ∷ bs) i ≡ next + 8 * i
+    go : (t : Bool) → eqb b next ≡ t → (i : ℕ) → i < cond t (suc (eightsFrom (next + 8) bs)) 0
+        → ((k : ℕ) → k < eightsFrom (next + 8) bs → sizeAt bs k ≡ next + 8 + 8 * k) → sizeAt (b ∷ bs) i ≡ next + 8 * i
     go true e zero h r = let q = eqb-true b next e in omega arith
     go true e (suc i) h r = let q = r i (omega arith) in omega arith
     go false e i h r = absurd (omega arith)
 
-run-end : (next : ℕ) (bs : List ℕ) → run next bs < length bs → sizeAt bs (run next bs) ≡ next + 8 * run next bs → ⊥
+run-end : (next : ℕ) (bs : List ℕ) → eightsFrom next bs < length bs → sizeAt bs (eightsFrom next bs) ≡ next + 8 * eightsFrom next bs → ⊥
 run-end next [] h e = omega arith
 run-end next (b ∷ bs) h e = go (eqb b next) refl h e (λ l q. run-end (next + 8) bs l q)
   where
-    go : (t : Bool) → eqb b next ≡ t → cond t (suc (run (next + 8) bs)) 0 < suc (length bs)
-        → sizeAt (b ∷ bs) (cond t (suc (run (next + 8) bs)) 0) ≡ next + 8 * cond t (suc (run (next + 8) bs)) 0
-        → (run (next + 8) bs < length bs → sizeAt bs (run (next + 8) bs) ≡ next + 8 + 8 * run (next + 8) bs → ⊥) → ⊥
+    go : (t : Bool) → eqb b next ≡ t → cond t (suc (eightsFrom (next + 8) bs)) 0 < suc (length bs)
+        → sizeAt (b ∷ bs) (cond t (suc (eightsFrom (next + 8) bs)) 0) ≡ next + 8 * cond t (suc (eightsFrom (next + 8) bs)) 0
+        → (eightsFrom (next + 8) bs < length bs → sizeAt bs (eightsFrom (next + 8) bs) ≡ next + 8 + 8 * eightsFrom (next + 8) bs → ⊥) → ⊥
     go true q h e r = r (omega arith) (omega arith)
     go false q h e r = eqb-false b next q (omega arith)
 
@@ -158,17 +158,17 @@ small-bins-is [] v = absurd (omega (arith, v .some))
 small-bins-is (b ∷ bs) v =
     record { below = omega (arith, run-in 32 bs); gapless = gapless; greatest = greatest }
   where
-    gapless : (i : ℕ) → i ≤ run 32 bs → sizeAt (b ∷ bs) i ≡ 24 + 8 * i
+    gapless : (i : ℕ) → i ≤ eightsFrom 32 bs → sizeAt (b ∷ bs) i ≡ 24 + 8 * i
     gapless zero h = omega (arith, v .first)
     gapless (suc i) h = let e = run-at 32 bs i (omega arith) in omega arith
 
-    greatest : (k : ℕ) → k < suc (length bs) → ((i : ℕ) → i ≤ k → sizeAt (b ∷ bs) i ≡ 24 + 8 * i) → k ≤ run 32 bs
-    greatest k hk f = go (decLe k (run 32 bs))
+    greatest : (k : ℕ) → k < suc (length bs) → ((i : ℕ) → i ≤ k → sizeAt (b ∷ bs) i ≡ 24 + 8 * i) → k ≤ eightsFrom 32 bs
+    greatest k hk f = go (decLe k (eightsFrom 32 bs))
       where
-        go : Dec (k ≤ run 32 bs) → k ≤ run 32 bs
+        go : Dec (k ≤ eightsFrom 32 bs) → k ≤ eightsFrom 32 bs
         go (yes l) = l
         go (no n) =
-            let e = f (suc (run 32 bs)) (omega arith) in
+            let e = f (suc (eightsFrom 32 bs)) (omega arith) in
             absurd (run-end 32 bs (omega arith) (omega arith))
 
 module _ (t : List ℕ) (v : ValidTable t) where

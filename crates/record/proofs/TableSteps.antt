@@ -3,40 +3,35 @@ use Prim.Native.Nat.{ℕ, suc, _+_, _*_, _≤_, _<_, _-_, _/_, _%_}
 use native.Mathlib.Decide.{ℕ-discrete}
 use native.Mathlib.Omega.{arith}
 use mathlib.Core.Path.{_≡_, refl, sym}
-use mathlib.Core.Bool.{Bool, true, false}
+use mathlib.Core.Bool.{Bool, true, false, _&&_}
 use mathlib.Core.List.{List, [], _∷_}
 use borrow.Author.Tests.{eq-eqb, ne-eqb, lt-ltb, le-ltb, le-leb, lt-leb, ltb-true, ltb-false}
-use lib.Dec.{ltb}
+use lib.Dec.{eqb, ltb}
 use lib.ListN.{length, getD, drop, drop-of-length-le}
 use lib.Seq.{drop-cons}
-use Rattle.record.specs.Table.{run, smallBins, goesUp, validTable, takesBin}
+use Rattle.record.specs.Table.{eightsFrom, smallBins, goesUp, validTable, takesBin}
 
-pub small-start : (t : List ℕ) → run 32 (drop 1 t) ≡ smallBins t
+pub small-start : (t : List ℕ) → eightsFrom 32 (drop 1 t) ≡ smallBins t
 small-start [] = refl
 small-start (b ∷ bs) = refl
 
--- a run ends at another size, and at the end of the table
+-- a eightsFrom ends at another size, and at the end of the table
 module _ (t : List ℕ) (i next : ℕ) where
-  pub run-stops : i < length t → (getD t i 0 ≡ next → ⊥) → run next (drop i t) ≡ 0
+  pub run-stops : i < length t → (getD t i 0 ≡ next → ⊥) → eightsFrom next (drop i t) ≡ 0
   run-stops h ne = rw (drop-cons t i 0 h, ne-eqb (getD t i 0) next ne)
 
-  pub run-goes : i < length t → getD t i 0 ≡ next → run next (drop i t) ≡ suc (run (next + 8) (drop (suc i) t))
+  pub run-goes : i < length t → getD t i 0 ≡ next → eightsFrom next (drop i t) ≡ suc (eightsFrom (next + 8) (drop (suc i) t))
   run-goes h e = rw (drop-cons t i 0 h, eq-eqb (getD t i 0) next e)
 
-  pub run-ends : length t ≤ i → run next (drop i t) ≡ 0
+  pub run-ends : length t ≤ i → eightsFrom next (drop i t) ≡ 0
   run-ends h = rw (drop-of-length-le t h)
 
--- the sizes that follow go up, or not, at each of the ways that a walk can leave them
+-- the sizes from number i on go up: one more is tested, and none is left
 module _ (t : List ℕ) (i before : ℕ) where
-  pub up-uneven : i < length t → (getD t i 0 % 8 ≡ 0 → ⊥) → goesUp before (drop i t) ≡ false
-  up-uneven h ne = rw (drop-cons t i 0 h, ne-eqb (getD t i 0 % 8) 0 ne)
-
-  pub up-falls : i < length t → getD t i 0 % 8 ≡ 0 → getD t i 0 ≤ before → goesUp before (drop i t) ≡ false
-  up-falls h e le = rw (drop-cons t i 0 h, eq-eqb (getD t i 0 % 8) 0 e, le-ltb before (getD t i 0) le)
-
-  pub up-goes : i < length t → getD t i 0 % 8 ≡ 0 → before < getD t i 0
-      → goesUp before (drop i t) ≡ goesUp (getD t i 0) (drop (suc i) t)
-  up-goes h e lt = rw (drop-cons t i 0 h, eq-eqb (getD t i 0 % 8) 0 e, lt-ltb before (getD t i 0) lt)
+  pub up-goes : i < length t → (right : Bool)
+      → (((right && eqb (getD t i 0 % 8) 0) && ltb before (getD t i 0)) && goesUp (getD t i 0) (drop (suc i) t)) ≡ (right && goesUp before (drop i t))
+  up-goes h true = rw (drop-cons t i 0 h)
+  up-goes h false = refl
 
   pub up-ends : length t ≤ i → goesUp before (drop i t) ≡ true
   up-ends h = rw (drop-of-length-le t h)

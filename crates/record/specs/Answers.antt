@@ -1,4 +1,4 @@
--- The paper's number of each refusal, and its figures for each case of an answer
+-- The number of each refusal, and the figures that each answer stands for
 -- (document 01, "Numbers of refusal", "The calls", "The check").
 use Prim.Native.Nat.{ℕ}
 use lib.IntN.{ℤ, pos}
@@ -8,7 +8,7 @@ use Rattle.record.specs.declared.answers.Counts.{Counts}
 use Rattle.record.specs.declared.answers.Refusal.{Refusal}
 use Rattle.record.specs.declared.answers.Refusal.the-variants.{RegionLength, BadTable, DonorSize, HeapFails, BlockSize, NotLive, NoRoom, NotThere, NoBinTakes}
 
--- refusals are numbered in the order of the paper's table
+-- as the document's table numbers them
 abbrev pub numberOf : Refusal → ℕ
 numberOf RegionLength = 1
 numberOf BadTable = 2
@@ -20,11 +20,11 @@ numberOf NoRoom = 7
 numberOf NotThere = 8
 numberOf NoBinTakes = 9
 
--- the four counts of every answer but the check's
+-- the counts in every answer but the check's
 abbrev pub noCounts : Counts
 noCounts = record { chunks = 0; ordinary = 0; used = 0; free = 0 }
 
--- an answer in the paper's figures; refusal 0 is acceptance
+-- an answer in the document's figures; refusal 0 means accepted
 pub record Figures : Type 0 where
   pub refusal : ℕ
   pub offset : ℕ
@@ -35,7 +35,7 @@ pub record Figures : Type 0 where
 abbrev pub figures : ℕ → ℕ → ℕ → ℤ → Counts → Figures
 figures r o v d c = record { refusal = r; offset = o; value = v; change = d; counts = c }
 
--- parts that a call does not name are 0, and so are all of a refusal's but its number
+-- parts that a call does not name are 0; a refusal has its number alone
 abbrev pub figuresOf : Answer → Figures
 figuresOf Done = figures 0 0 0 (pos 0) noCounts
 figuresOf (Granted block change) = figures 0 (block .0) 0 change noCounts

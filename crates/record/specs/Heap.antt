@@ -1,24 +1,27 @@
--- The record (document 01, "The bin table and the record"): its empty value, its setters, its table and its places for bins.
+-- The record (document 01, "The bin table and the record"): its empty value, its summary, its setters, its table and its places
+-- for bins. All the fields are listed in this file, in the record of a fresh heap and in the flat record of the C interface alone:
+-- every other definition names the fields that it uses.
 use Prim.Native.Nat.{ℕ}
 use mathlib.Core.Bool.{Bool, false}
 use mathlib.Core.List.{List}
 use lib.ListN.{replicate, take}
 use Rattle.region.specs.declared.Chunk.{Chunk}
 use Rattle.record.specs.declared.heap.Heap.{Heap}
+use Rattle.record.specs.declared.heap.Summary.{Summary}
 
--- bins in a record: the table, the heads and the tails have this many places
+-- the most bins: the record's arrays of sizes, heads and tails have this length
 abbrev pub places : ℕ
 places = 32
 
--- the place of a chunk
+-- a chunk's place, in the code's type
 abbrev pub at : ℕ → Chunk
 at c = record { 0 = c }
 
--- heads or tails where no bin has a chunk
+-- heads or tails when all bins are empty
 abbrev pub zeros : List ℕ
 zeros = replicate places 0
 
--- a record of zeros, which a refused setup gives
+-- the record of zeros that a refused setup gives
 abbrev pub empty : Heap
 empty =
     record {
@@ -33,35 +36,76 @@ empty =
       used = 0;
     }
 
--- the record with what a call may change; every setter is made of it, so that a new field is added here alone
-abbrev pub with : Heap → List ℕ → List ℕ → ℕ → ℕ → Bool → ℕ → Heap
-with h heads tails donor top merge used =
+-- the record without its arrays
+abbrev pub summaryOf : Heap → Summary
+summaryOf h =
     record {
       bytes = h .bytes;
       bins = h .bins;
-      sizes = h .sizes;
+      donor = h .donor;
+      top = h .top;
+      merge = h .merge;
+      used = h .used;
+    }
+
+-- the record of a summary and of the sizes, heads and tails of the bins; every setter of the record is made of it
+abbrev pub recordOf : Summary → List ℕ → List ℕ → List ℕ → Heap
+recordOf s sizes heads tails =
+    record {
+      bytes = s .bytes;
+      bins = s .bins;
+      sizes = sizes;
       heads = heads;
       tails = tails;
+      donor = s .donor;
+      top = s .top;
+      merge = s .merge;
+      used = s .used;
+    }
+
+-- a summary with what a call may change; every setter of a summary is made of it
+abbrev with : Summary → ℕ → ℕ → Bool → ℕ → Summary
+with s donor top merge used =
+    record {
+      bytes = s .bytes;
+      bins = s .bins;
       donor = at donor;
       top = at top;
       merge = merge;
       used = used;
     }
 
+-- a summary whose donor, top, merge setting or used bytes are now these
+abbrev pub donorNow : Summary → ℕ → Summary
+donorNow s c = with s c (s .top .0) (s .merge) (s .used)
+
+abbrev pub topNow : Summary → ℕ → Summary
+topNow s c = with s (s .donor .0) c (s .merge) (s .used)
+
+abbrev pub mergeNow : Summary → Bool → Summary
+mergeNow s on = with s (s .donor .0) (s .top .0) on (s .used)
+
+abbrev pub usedNow : Summary → ℕ → Summary
+usedNow s u = with s (s .donor .0) (s .top .0) (s .merge) u
+
+-- the record with another summary; with other heads and tails; with another donor, top, merge setting or used bytes
+abbrev pub withSummary : Heap → Summary → Heap
+withSummary h s = recordOf s (h .sizes) (h .heads) (h .tails)
+
 abbrev pub withEnds : Heap → List ℕ → List ℕ → Heap
-withEnds h heads tails = with h heads tails (h .donor .0) (h .top .0) (h .merge) (h .used)
+withEnds h heads tails = recordOf (summaryOf h) (h .sizes) heads tails
 
 abbrev pub withDonor : Heap → ℕ → Heap
-withDonor h c = with h (h .heads) (h .tails) c (h .top .0) (h .merge) (h .used)
+withDonor h c = withSummary h (donorNow (summaryOf h) c)
 
 abbrev pub withTop : Heap → ℕ → Heap
-withTop h c = with h (h .heads) (h .tails) (h .donor .0) c (h .merge) (h .used)
+withTop h c = withSummary h (topNow (summaryOf h) c)
 
 abbrev pub withMerge : Heap → Bool → Heap
-withMerge h on = with h (h .heads) (h .tails) (h .donor .0) (h .top .0) on (h .used)
+withMerge h on = withSummary h (mergeNow (summaryOf h) on)
 
 abbrev pub withUsed : Heap → ℕ → Heap
-withUsed h u = with h (h .heads) (h .tails) (h .donor .0) (h .top .0) (h .merge) u
+withUsed h u = withSummary h (usedNow (summaryOf h) u)
 
 -- the bin sizes in use
 abbrev pub tableOf : Heap → List ℕ

@@ -9,7 +9,7 @@ use Rattle.record.specs.Heap.{places}
 use Rattle.record.specs.declared.table.Binned.{Binned}
 use Rattle.record.specs.declared.table.Binned.the-variants.{Bin, NoBin}
 
--- the first bin's size, which is also the least size of a chunk between the ends
+-- the first bin's size, and the least size of a chunk other than start and end
 abbrev pub least : ℕ
 least = 24
 
@@ -30,7 +30,7 @@ abbrev pub goesUp : ℕ → List ℕ → Bool
 goesUp before [] = true
 goesUp before (s ∷ ss) = eqb (s % 8) 0 && ltb before s && goesUp s ss
 
--- the same as a test
+-- `ValidTable` as a test
 unfoldable pub validTable : List ℕ → Bool
 validTable t =
     leb 1 (length t) && leb (length t) places && eqb (sizeAt t 0) least && goesUp least (drop 1 t)
@@ -41,30 +41,30 @@ pub record Takes (t : List ℕ) (s i : ℕ) : Type 0 where
   pub notAbove : sizeAt t i ≤ s
   pub last : (j : ℕ) → i < j → j < length t → s < sizeAt t j
 
--- what it means that the size s is taken by a bin, or by none
+-- what `binOf`'s answer means: bin i takes the size s; or every bin's size is above s
 abbrev pub TakenBy : List ℕ → ℕ → Binned → Type 0
 TakenBy t s (Bin i) = Takes t s i
 TakenBy t s NoBin = (i : ℕ) → i < length t → s < sizeAt t i
 
--- the bin in a table from the bin in its rest: that one, one further on, or else the first if its size is not above
+-- a step of `binOf`: the bin found in the rest of the table, counted one higher; else the first bin, if its size is not above
 abbrev pub oneOn : Binned → Bool → Binned
 oneOn (Bin i) notAbove = Bin (suc i)
 oneOn NoBin true = Bin 0
 oneOn NoBin false = NoBin
 
--- the same, computed: the bin of s in the rest of the table, or else the first bin
+-- the bin that takes the size s, computed
 abbrev pub binOf : List ℕ → ℕ → Binned
 binOf [] s = NoBin
 binOf (b ∷ bs) s = oneOn (binOf bs s) (leb b s)
 
--- bin i of a valid table takes the size s, as a test: s lies between its size and the next one's
+-- `Takes` as a test, right for a valid table: s is at least bin i's size and below the next bin's
 unfoldable pub takesBin : List ℕ → ℕ → ℕ → Bool
 takesBin t i s = ltb i (length t) && leb (sizeAt t i) s && (leb (length t) (suc i) || ltb s (sizeAt t (suc i)))
 
--- how many sizes go on from `next` by eights without a gap
-abbrev pub run : ℕ → List ℕ → ℕ
-run next [] = 0
-run next (b ∷ bs) = cond (eqb b next) (suc (run (next + 8) bs)) 0
+-- how many of the sizes follow `next` in steps of 8, without a gap
+abbrev pub eightsFrom : ℕ → List ℕ → ℕ
+eightsFrom next [] = 0
+eightsFrom next (b ∷ bs) = cond (eqb b next) (suc (eightsFrom (next + 8) bs)) 0
 
 -- m is the number of the small array's bins: the greatest number below the bin count
 -- for which bins 0 to m are 24, 32, 40 and so on without a gap
@@ -76,13 +76,13 @@ pub record SmallBins (t : List ℕ) (m : ℕ) : Type 0 where
 -- m, computed
 abbrev pub smallBins : List ℕ → ℕ
 smallBins [] = 0
-smallBins (b ∷ bs) = run 32 bs
+smallBins (b ∷ bs) = eightsFrom 32 bs
 
--- a size of the small array
+-- the size s is small: below 24 + 8m
 abbrev pub small : List ℕ → ℕ → Bool
 small t s = ltb s (least + 8 * smallBins t)
 
--- the guide's own table, without its closing mark
+-- the guide's own table, without its closing 0xFFFFFFFF
 abbrev pub guideTable : List ℕ
 guideTable =
     24 ∷ 32 ∷ 40 ∷ 48 ∷ 56 ∷ 64 ∷ 72 ∷ 80 ∷ 88 ∷ 96 ∷ 104 ∷ 112 ∷ 120

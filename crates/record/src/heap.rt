@@ -1,19 +1,79 @@
-// The record: a struct by value, with a setter for what grants and frees change, and one for the merge setting.
-// What the fields must be for a heap to pass is in the rules.
+// The record: a struct by value, with a setter for what grants and frees change, and one for the merge setting; and its summary,
+// which is the record without its arrays. What the fields must be for a heap to pass is in the rules.
 ghost use mathlib.Core.Path.{_≡_};
-ghost use Rattle.record.specs.Heap.{empty, with, withMerge};
+ghost use Rattle.record.specs.Heap.{donorNow, empty, summaryOf, topNow, usedNow, withEnds, withMerge, withSummary};
 use region::Chunk;
+
+// A record has places for this many bins, in its table, heads and tails.
+pub const PLACES: usize = 32;
 
 pub struct Heap {
     pub bytes: u32,
     pub bins: u32,
-    pub sizes: [u32; 32],
-    pub heads: [u32; 32],
-    pub tails: [u32; 32],
+    pub sizes: [u32; PLACES],
+    pub heads: [u32; PLACES],
+    pub tails: [u32; PLACES],
     pub donor: Chunk,
     pub top: Chunk,
     pub merge: bool,
     pub used: u32,
+}
+
+// The scalars of the record: what a function below the public calls is handed, beside the arrays that it uses.
+pub struct Summary {
+    pub bytes: u32,
+    pub bins: u32,
+    pub donor: Chunk,
+    pub top: Chunk,
+    pub merge: bool,
+    pub used: u32,
+}
+
+// The setters name every field, so that the compiler copies fields and not the struct: a copy of the struct reads `merge` and `used` at
+// once, and the processor has to wait where they were stored one by one just before.
+impl Summary {
+    pub fn with_donor(self, donor: Chunk) -> Self
+        ensures { λ r. ⌜ r ≡ donorNow self (donor .0) ⌝ }
+    {
+        let top = self.top;
+        Self {
+            bytes: self.bytes,
+            bins: self.bins,
+            donor: donor,
+            top: top,
+            merge: self.merge,
+            used: self.used,
+        }
+    }
+
+    pub fn with_top(self, top: Chunk) -> Self
+        ensures { λ r. ⌜ r ≡ topNow self (top .0) ⌝ }
+    {
+        let donor = self.donor;
+        Self {
+            bytes: self.bytes,
+            bins: self.bins,
+            donor: donor,
+            top: top,
+            merge: self.merge,
+            used: self.used,
+        }
+    }
+
+    pub fn with_used(self, used: u32) -> Self
+        ensures { λ r. ⌜ r ≡ usedNow self used ⌝ }
+    {
+        let donor = self.donor;
+        let top = self.top;
+        Self {
+            bytes: self.bytes,
+            bins: self.bins,
+            donor: donor,
+            top: top,
+            merge: self.merge,
+            used: used,
+        }
+    }
 }
 
 impl Heap {
@@ -24,9 +84,9 @@ impl Heap {
         Self {
             bytes: 0,
             bins: 0,
-            sizes: [0; 32],
-            heads: [0; 32],
-            tails: [0; 32],
+            sizes: [0; PLACES],
+            heads: [0; PLACES],
+            tails: [0; PLACES],
             donor: Chunk(0),
             top: Chunk(0),
             merge: false,
@@ -34,23 +94,39 @@ impl Heap {
         }
     }
 
-    // The heads and tails of the bin lists, donor, top and the used bytes: all that a grant or a free changes.
-    pub fn with_books(
-        mut self,
-        heads: [u32; 32],
-        tails: [u32; 32],
-        donor: Chunk,
-        top: Chunk,
-        used: u32,
-    ) -> Self
-        ensures { λ r. ⌜ r ≡ with self heads tails (donor .0) (top .0) (self .merge) used ⌝ }
+    pub fn summary(self) -> Summary
+        ensures { λ r. ⌜ r ≡ summaryOf self ⌝ }
     {
-        self.heads = heads;
-        self.tails = tails;
-        self.donor = donor;
-        self.top = top;
-        self.used = used;
-        self
+        let donor = self.donor;
+        let top = self.top;
+        Summary {
+            bytes: self.bytes,
+            bins: self.bins,
+            donor: donor,
+            top: top,
+            merge: self.merge,
+            used: self.used,
+        }
+    }
+
+    // All that a grant or a free changes: the heads and tails of the bins' lists, and the scalars.
+    pub fn with_books(self, heads: [u32; PLACES], tails: [u32; PLACES], summary: Summary) -> Self
+        ensures { λ r. ⌜ r ≡ withEnds (withSummary self summary) heads tails ⌝ }
+    {
+        let donor = summary.donor;
+        let top = summary.top;
+        let sizes = self.sizes;
+        Self {
+            bytes: summary.bytes,
+            bins: summary.bins,
+            sizes: sizes,
+            heads: heads,
+            tails: tails,
+            donor: donor,
+            top: top,
+            merge: summary.merge,
+            used: summary.used,
+        }
     }
 
     pub fn with_merge(mut self, merge: bool) -> Self

@@ -2,6 +2,13 @@
 // Which chunks are in a bin is not known here.
 ghost use mathlib.Core.Path.{_≡_};
 ghost use Rattle.record.specs.Table.{validTable, smallBins, small, takesBin, TakenBy};
+use crate::heap::PLACES;
+use region::LEAST;
+
+// The bins of the small array are 24, 32, 40 and so on: the second of them, and the first in eights.
+const SECOND: u64 = LEAST as u64 + 8;
+
+const FIRST_EIGHTS: usize = LEAST as usize / 8;
 
 // The bin of a size, or none where every bin is for larger ones.
 pub enum Binned {
@@ -9,39 +16,36 @@ pub enum Binned {
     NoBin,
 }
 
+// The loop has no early exit, so that the compiler can test several sizes at a time.
 pub fn valid(table: &[u32]) -> bool
     ensures { λ r. ⌜ r ≡ validTable (now (table .entry)) ⌝ }
 {
     if table.len() == 0 {
         return false;
     }
-    if 32 < table.len() {
+    if PLACES < table.len() {
         return false;
     }
-    if table[0] != 24 {
+    if table[0] != LEAST {
         return false;
     }
-    let mut before = 24;
+    let mut right = true;
+    let mut before = LEAST;
     let mut i = 1;
     while i < table.len() {
         let size = table[i];
-        if size % 8 != 0 {
-            return false;
-        }
-        if size <= before {
-            return false;
-        }
+        right = right & (size % 8 == 0) & (before < size);
         before = size;
         i += 1;
     }
-    true
+    right
 }
 
 // m: the bins 24, 32, 40 and so on without a gap, the last of them left out.
 pub fn small_bins(table: &[u32]) -> usize
     ensures { λ r. ⌜ r ≡ smallBins (now (table .entry)) ⌝ }
 {
-    let mut next: u64 = 32;
+    let mut next = SECOND;
     let mut i = 1;
     while i < table.len() {
         if table[i] as u64 != next {
@@ -59,10 +63,10 @@ pub fn is_small(table: &[u32], size: u32) -> bool
 {
     let m = small_bins(table);
     let eights = (size / 8) as usize;
-    if eights < 3 {
+    if eights < FIRST_EIGHTS {
         return true;
     }
-    eights - 3 < m
+    eights - FIRST_EIGHTS < m
 }
 
 // The last bin whose size is not above this one, found from the top of the table down.

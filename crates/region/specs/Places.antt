@@ -1,11 +1,11 @@
--- Places: a block starts eight bytes above its chunk (document 01, "Words, chunks, blocks").
--- The code's numbers have 32 bits, so each conversion says what it gives at the ends of that range.
+-- From a chunk's place to its block's, eight bytes above it, and back (document 01, "Words, chunks, blocks").
+-- The code counts in 32 bits, so both conversions saturate at the ends of that range.
 use Prim.Native.Nat.{ℕ, _+_, _-_, min}
 
--- past the greatest chunk place that has a block: 2^32 − 1, no multiple of 8 and so no block's place
+-- where the sum has more than 32 bits: 2^32 − 1, which is no multiple of 8 and so no block's place
 abbrev pub blockAt : ℕ → ℕ
 blockAt c = min (c + 8) 4294967295
 
--- below 8, where no block is: 0
+-- 0 below 8, where no block starts
 abbrev pub chunkAt : ℕ → ℕ
 chunkAt b = b - 8

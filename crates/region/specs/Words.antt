@@ -1,11 +1,11 @@
--- The region as a list of words, read and written by a chunk's place and the number of a word in its header
--- (document 01, "Words, chunks, blocks": the order of the header's words). A word outside the region reads 0 and takes nothing.
+-- The region as a list of words. A word is named by its chunk's place and its number in the header
+-- (document 01, "Words, chunks, blocks"). A read outside the region gives 0, and a store there does nothing.
 use Prim.Native.Nat.{ℕ, _+_, _/_}
 use mathlib.Core.List.{List, [], _∷_}
 use lib.ListN.{getD, set}
 
--- the words of a header by their numbers: where the next chunk is, where the one before is, with the flags in its low bits;
--- and of a free chunk its size, the next and the one before in its bin, and eight times the bin's number
+-- the numbers of a header's words: the links to the next and to the previous chunk, the latter with the flags in its low bits;
+-- in a free chunk also its size, the next and the previous chunk in its bin's list, and eight times the bin's number
 abbrev pub forward : ℕ
 forward = 0
 
@@ -28,11 +28,11 @@ bin = 5
 unfoldable pub word : List ℕ → ℕ → ℕ → ℕ
 word ws c k = getD ws (c / 4 + k) 0
 
--- the words once v is stored there
+-- the words after v is stored there
 unfoldable pub store : List ℕ → ℕ → ℕ → ℕ → List ℕ
 store ws c k v = set ws (c / 4 + k) v
 
--- a word to be written: word `number` of the chunk at `chunk` becomes `value`
+-- one store: word `number` of the chunk at `chunk` becomes `value`
 pub record Store : Type 0 where
   pub chunk : ℕ
   pub number : ℕ
@@ -41,7 +41,7 @@ pub record Store : Type 0 where
 abbrev pub put : ℕ → ℕ → ℕ → Store
 put c k v = record { chunk = c; number = k; value = v }
 
--- the words after a run of stores, the first one first
+-- the words after a list of stores, made in order
 abbrev pub written : List ℕ → List Store → List ℕ
 written ws [] = ws
 written ws (s ∷ ss) = written (store ws (s .chunk) (s .number) (s .value)) ss

@@ -4,7 +4,7 @@ ghost use mathlib.Core.Path.{_≡_};
 ghost use Rattle.region.specs.Places.{blockAt, chunkAt};
 ghost use Rattle.region.specs.Words.{backward, forward, word, store};
 
-// A chunk's place and a block's place, both byte offsets: eight bytes apart, and never mixed.
+// A chunk's place and a block's place, both byte offsets: eight bytes apart, and never mixed, since each has a type of its own.
 pub struct Chunk(pub u32);
 
 pub struct Block(pub u32);
@@ -22,14 +22,37 @@ pub const PREVIOUS_IN_BIN: u32 = 4;
 
 pub const BIN: u32 = 5;
 
-// Of the last seven numbers no block starts eight bytes up: they give 2^32 - 1, at which none can start.
+// The flags of a chunk in use; a free chunk has none. They stand in the three low bits of the backward link.
+pub const USED: u32 = 1;
+
+// The document's figures, by the names that the rules give them; each stands once, in the lowest crate that knows it.
+// A block starts above the two links of its chunk.
+pub const OVERHEAD: u32 = 8;
+
+// Start chunk and end chunk are two links and nothing else.
+pub const END_SIZE: u32 = 8;
+
+// A free chunk has a header of six words, so that no chunk between the ends is smaller.
+pub const LEAST: u32 = 24;
+
+pub const FEWEST_WORDS: usize = 10;
+
+pub const MOST_WORDS: usize = 16384;
+
+// The bytes of the largest heap: no chunk is larger.
+pub const LARGEST_HEAP: u32 = 4 * MOST_WORDS as u32;
+
+// No block starts here: it is no multiple of 8.
+const NO_BLOCK: u32 = 4294967295;
+
+// The last eight numbers have no number eight above them: they give `NO_BLOCK`.
 pub fn block_of(chunk: Chunk) -> Block
     ensures { λ r. ⌜ r .0 ≡ blockAt (chunk .0) ⌝ }
 {
-    if chunk.0 <= 4294967287 {
-        Block(chunk.0 + 8)
+    if chunk.0 <= NO_BLOCK - OVERHEAD {
+        Block(chunk.0 + OVERHEAD)
     } else {
-        Block(4294967295)
+        Block(NO_BLOCK)
     }
 }
 
@@ -37,8 +60,8 @@ pub fn block_of(chunk: Chunk) -> Block
 pub fn chunk_of(block: Block) -> Chunk
     ensures { λ r. ⌜ r .0 ≡ chunkAt (block .0) ⌝ }
 {
-    if 8 <= block.0 {
-        Chunk(block.0 - 8)
+    if OVERHEAD <= block.0 {
+        Chunk(block.0 - OVERHEAD)
     } else {
         Chunk(0)
     }
@@ -58,7 +81,7 @@ pub struct Links {
     pub backward: u32,
 }
 
-// Where both are there, one test serves both: the check reads them of every chunk.
+// The check reads both links of every chunk: one bounds check covers both words.
 pub fn links_of(region: &[u32], chunk: Chunk) -> Links
     ensures { λ r. ⌜ (r .forward ≡ word (now (region .entry)) (chunk .0) forward) × (r .backward ≡ word (now (region .entry)) (chunk .0) backward) ⌝ }
 {

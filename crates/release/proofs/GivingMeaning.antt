@@ -1,5 +1,5 @@
 -- Giving back does to a draft of a heap that passes what the rules say, whatever was joined: the words, the bins' ends and the record.
--- What joins, and where, is known here by `Agrees` and `Lies` alone. Assumes nothing.
+-- What joins, and where, is known here by `Agrees` and `UnionLies` alone. Assumes nothing.
 use mathlib.Core.Path.{_≡_, refl, sym, ap, _∙_}
 use mathlib.Core.Logic.{_≢_}
 use mathlib.Core.Bool.{Bool, true, false, cond}
@@ -8,21 +8,24 @@ use Prim.Native.Nat.{ℕ, _+_, _-_, _%_, _≤_, _<_}
 use native.Mathlib.Omega.{arith}
 use Rattle.lists.specs.Lists.{Mem, headOr}
 use Rattle.record.specs.declared.heap.Heap.{Heap}
-use Rattle.record.specs.Heap.{tableOf, with}
+use Rattle.record.specs.Heap.{tableOf, summaryOf, withSummary, withEnds}
 use Rattle.rules.specs.Shape.{Entry, entry, shape, binList}
 use Rattle.rules.specs.Kinds.{ordinary, unused, outside}
 use Rattle.rules.specs.Check.{Passes}
 use Rattle.rules.specs.Draft.{Draft, leaveBin, relink, settle}
 use Rattle.rules.specs.Join.{Joined, joinedAs, leaveBins}
 use Rattle.rules.proofs.SpotLaws.{bounds, inside}
-use Rattle.bins.specs.Books.{Books, leaveM}
-use Rattle.bins.proofs.BooksLaws.{Far}
-use Rattle.bins.proofs.HeapBooks.{member-below, ordinary-listed}
-use Rattle.settling.specs.Settling.{leaveBinM, settleM, donorAfter, topAfter}
-use Rattle.settling.proofs.DraftLaws.{booksOf, Follows, Gone, Settled, leave-step, link-step, link-follows, settle-step}
-use Rattle.release.specs.declared.Joined.{Joined as Union}
+use Rattle.books.specs.Books.{Books, booksOf}
+use Rattle.bins.specs.Bins.{leaveM}
+use Rattle.books.proofs.BooksLaws.{Far}
+use Rattle.books.proofs.HeapBooks.{member-below, ordinary-listed}
+use Rattle.settling.specs.Settling.{arrival, leaveBinM, settleM, settledM}
+use Rattle.settling.proofs.DraftLaws.{Follows, LeavesBin, Settled, leave-step, link-step, link-follows, settle-step}
+use Rattle.drafts.proofs.JoinLaws.{givenBack}
+use Rattle.seek.specs.declared.Place.{Place}
+use Rattle.release.specs.declared.Union.{Union}
 use Rattle.release.specs.Release.{giveBackM}
-use Rattle.release.proofs.JoinMeaning.{Agrees, Lies}
+use Rattle.release.proofs.JoinMeaning.{Agrees, UnionLies}
 
 -- the books b are those of the draft d, in which no chunk of a bin is near c
 record Out (ws : List ℕ) (h : Heap) (c : ℕ) (b : Books) (d : Draft) : Type 0 where
@@ -30,16 +33,10 @@ record Out (ws : List ℕ) (h : Heap) (c : ℕ) (b : Books) (d : Draft) : Type 0
   follows : Follows ws h d
   far : (j x : ℕ) → j < h .bins → Mem x (d .lists j) → Far c x
 
--- giving back makes of the books b what the rules say, and the record's donor and top are known from what was joined
-pub record Released (ws : List ℕ) (h : Heap) (b : Books) (j : Union) (lower upper : ℕ) (after : Draft) : Type 0 where
-  pub is : giveBackM b (tableOf h) j lower upper ≡ booksOf ws after
-  pub housed : after .homeless ≡ false
-  pub heap : after .heap
-      ≡ with h (after .heap .heads) (after .heap .tails) (donorAfter (j .becomes) (j .chunk .0) (h .donor .0)) (topAfter (j .becomes) (j .chunk .0) (h .top .0)) (h .merge) (h .used)
-
--- what the rules make of a draft, by what was joined
-abbrev pub givenBack : Joined → Draft → Draft
-givenBack j d = settle (j .becomes) (j .here) (relink (j .low) (j .here ∷ []) (j .high) (leaveBins (j .leaving) d))
+-- giving back makes of the books b what the rules say, and the summary is known from what was joined
+pub record Released (ws : List ℕ) (h : Heap) (b : Books) (p : Place) (u : Union) (after : Draft) : Type 0 where
+  pub is : giveBackM b (tableOf h) p u ≡ booksOf ws after
+  pub heap : after .heap ≡ withEnds (withSummary h (settledM (summaryOf h) (u .becomes) (u .chunk .0))) (after .heap .heads) (after .heap .tails)
 
 -- the bottom of the result, at b: no header of a chunk in a bin reaches up to it, nor does it lie above c
 record Bottom (ws : List ℕ) (h : Heap) (c b : ℕ) : Type 0 where
@@ -51,8 +48,8 @@ record Bottom (ws : List ℕ) (h : Heap) (c b : ℕ) : Type 0 where
 -- no chunk has left its bin on the way to the draft d
 module _ {ws : List ℕ} {h : Heap} (p : Passes ws h) {d : Draft} (follows : Follows ws h d)
     (has : (i x : ℕ) → Mem x (binList ws h i) → Mem x (d .lists i))
-    {c : ℕ} {lower upper : Entry} {u : Union} (lies : Lies ws h c lower upper u) where
-  leaves : (x : Entry) → Mem x (shape ws (h .bytes)) → ordinary h x ≡ true → Gone ws h d x (leaveBin x d)
+    {c : ℕ} {lower upper : Entry} {u : Union} (lies : UnionLies ws h c lower upper u) where
+  leaves : (x : Entry) → Mem x (shape ws (h .bytes)) → ordinary h x ≡ true → LeavesBin ws h d x (leaveBin x d)
   leaves x m o =
       let b = ordinary-listed ws h p x m o in
       leave-step ws h d follows x (b .0) (b .1) (b .2) (has (b .0) (x .place) (b .3))
@@ -158,10 +155,13 @@ module _ {ws : List ℕ} {h : Heap} (p : Passes ws h) {d : Draft} (follows : Fol
         (gone .far) (lies .becomes .0)
 
     -- the code's calls, one after the other
-    gives : giveBackM (booksOf ws d) (tableOf h) u (lower .place) (upper .place) ≡ settleM (booksOf ws afterLinking) (tableOf h) (u .becomes) from (u .end - from)
+    gives : (place : Place) → place .before .0 ≡ lower .place → place .end ≡ upper .place
+        → giveBackM (booksOf ws d) (tableOf h) place u ≡ settleM (booksOf ws afterLinking) (tableOf h) (arrival (u .becomes) from (u .end - from))
     unfolding giveBackM
-    gives =
+    gives place below above =
         rw (
+          below,
+          above,
           gone .is,
           agrees .below,
           agrees .flags,
@@ -171,8 +171,8 @@ module _ {ws : List ℕ} {h : Heap} (p : Passes ws h) {d : Draft} (follows : Fol
     given-is : givenBack j d ≡ settle (u .becomes) new afterLinking
     given-is = rw (agrees .here, agrees .becomes, agrees .leaving)
 
-    -- the chunk above the one that is given back is at `end`
-    pub given-back : {end : ℕ} → upper .place ≡ end → Released ws h (booksOf ws d) u (lower .place) end (givenBack j d)
-    given-back q =
-        rw (given-is, ← q)
-        (record { is = gives ∙ rw (lies .becomes .1) (settles .is); housed = rw (lies .becomes .1) (settles .housed); heap = rw (lies .becomes .1) (settles .heap) })
+    -- the neighbours of the place that is given back are `lower` and `upper`
+    pub given-back : (place : Place) → place .before .0 ≡ lower .place → place .end ≡ upper .place → Released ws h (booksOf ws d) place u (givenBack j d)
+    given-back place below above =
+        rw given-is
+        (record { is = gives place below above ∙ rw (lies .becomes .1) (settles .is); heap = rw (lies .becomes .1) (settles .heap) })

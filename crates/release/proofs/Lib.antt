@@ -6,10 +6,3 @@ pub mod ReleaseMeaning
 pub mod FindLaws
 pub mod TailMeaning
 pub mod GiveMeaning
-pub mod AgainLaws
-pub mod GapLaws
-pub mod GapFilled
-pub mod GapKept
-pub mod ReleaseKept
-pub mod ShrinkKept
-pub mod ReleaseSpares

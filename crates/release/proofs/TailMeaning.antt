@@ -3,31 +3,33 @@
 use mathlib.Core.Path.{_≡_, refl, sym, ap, _∙_}
 use mathlib.Core.Bool.{Bool, true, false, cond, false≢true}
 use mathlib.Core.List.{List, [], _∷_, _++_}
-use Prim.Native.Nat.{ℕ, _+_, _-_, _%_, _≤_, _<_}
+use Prim.Native.Nat.{ℕ, _+_, _-_, _%_, _<_}
 use native.Mathlib.Omega.{arith}
 use Rattle.lists.specs.Lists.{Mem, headOr}
 use Rattle.lists.proofs.MembersLaws.{last-append}
 use Rattle.record.specs.declared.heap.Heap.{Heap}
 use Rattle.record.specs.declared.kinds.Kind.{Kind}
 use Rattle.record.specs.declared.kinds.Kind.the-variants.{InUse}
-use Rattle.record.specs.Heap.{tableOf, with}
-use Rattle.region.specs.Words.{Store, put, word, written, forward, backward}
+use Rattle.record.specs.Heap.{at, summaryOf}
+use Rattle.region.specs.Words.{Store, word, forward, backward}
 use Rattle.region.proofs.WordsLaws.{off}
-use Rattle.rules.specs.Shape.{Entry, entry, flagsAt, binList}
+use Rattle.rules.specs.Shape.{Entry, flagsAt, binList}
 use Rattle.rules.specs.Kinds.{freeKind, used, blockEnd, outside}
 use Rattle.rules.specs.Check.{Passes}
-use Rattle.rules.specs.Draft.{Draft, asRead, alsoWrites}
+use Rattle.rules.specs.Draft.{Draft, asRead}
 use Rattle.rules.specs.Join.{joining, release}
 use Rattle.rules.proofs.KindsLaws.{kind-in-use}
 use Rattle.rules.proofs.SpotLaws.{inside}
-use Rattle.bins.specs.Books.{books}
-use Rattle.bins.proofs.RunsLaws.{PassBy}
-use Rattle.bins.proofs.WayLaws.{way-keeps}
-use Rattle.settling.specs.Settling.{donorAfter, topAfter}
-use Rattle.settling.proofs.DraftLaws.{booksOf, Follows, begins}
-use Rattle.release.specs.declared.Joined.{Joined}
-use Rattle.release.specs.Release.{neighbourM, joinedM, joinM, giveBackM}
-use Rattle.release.proofs.JoinMeaning.{Agrees, Lies, LiveChunk, sees, joining-sees, here, own, sides, neighbour-is, seen-free, seen-above, part-far, part-joins, part-lies}
+use Rattle.books.specs.Books.{books}
+use Rattle.books.proofs.SegmentLaws.{PassBy}
+use Rattle.books.proofs.WayLaws.{way-keeps}
+use Rattle.settling.proofs.DraftLaws.{Follows, follows-begins}
+use Rattle.seek.specs.declared.Place.{Place}
+use Rattle.release.specs.declared.Union.{Union}
+use Rattle.release.specs.Release.{neighbourM, joinedM, joinM}
+use Rattle.drafts.proofs.JoinLaws.{LiveChunk, sees, joining-sees, here, own, sides, seen-free, seen-above, part-far}
+use Rattle.drafts.proofs.ShrinkLaws.{ShrinkingChunk, keptChunk, tailChunk, splitStores, splitWords, splitDraft, tailAfter}
+use Rattle.release.proofs.JoinMeaning.{Agrees, UnionLies, neighbour-is, part-joins, part-lies}
 use Rattle.release.proofs.GivingMeaning.{Released, given-back}
 
 -- a chunk in use is seen as one, with merging or without
@@ -35,42 +37,34 @@ in-use-seen : (t : Bool) → cond t InUse InUse ≡ InUse
 in-use-seen true = refl
 in-use-seen false = refl
 
--- the chunk e of a live block keeps n bytes, and its tail is large enough for a chunk
-pub record ShrinkingChunk (ws : List ℕ) (h : Heap) (low : List Entry) (e : Entry) (high : List Entry) (n : ℕ) : Type 0 where
-  pub chunk : LiveChunk ws h low e high
-  pub large : 24 ≤ n
-  pub eight : n % 8 ≡ 0
-  pub less : n + 24 ≤ e .size
-
 module _ {ws : List ℕ} {h : Heap} {low : List Entry} {e : Entry} {high : List Entry} {n : ℕ} (shrinks : ShrinkingChunk ws h low e high n) where
+  abbrev kept : Entry
+  kept = keptChunk shrinks
+
+  abbrev tail : Entry
+  tail = tailChunk shrinks
+
+  abbrev stores : List Store
+  stores = splitStores shrinks
+
+  abbrev words : List ℕ
+  words = splitWords shrinks
+
+  abbrev after : Draft
+  after = tailAfter shrinks
+
   abbrev chunk : LiveChunk ws h low e high
   chunk = shrinks .chunk
 
   abbrev well : Passes ws h
   well = chunk .well
 
-  abbrev pub keptChunk : Entry
-  keptChunk = entry (e .place) n used
+  -- where the tail lies, whatever its flags, and what the code joins to it
+  abbrev pub tailPlace : ℕ → Place
+  tailPlace flags = record { before = at (e .place); chunk = at (e .place + n); end = blockEnd e; flags = flags }
 
-  abbrev pub tailChunk : Entry
-  tailChunk = entry (e .place + n) (e .size - n) used
-
-  abbrev splitStores : List Store
-  splitStores = put (e .place) forward (e .place + n) ∷ []
-
-  -- the words and the draft once the kept chunk's forward link is stored
-  abbrev pub splitWords : List ℕ
-  splitWords = written ws splitStores
-
-  abbrev pub splitDraft : Draft
-  splitDraft = alsoWrites splitStores (asRead ws h)
-
-  -- what the code joins, and what the rule makes of the heap
-  abbrev pub tailJoined : Joined
-  tailJoined = joinM splitWords (h .bytes) (h .donor .0) (h .top .0) (h .merge) (e .place) (e .place + n) (blockEnd e)
-
-  abbrev pub tailAfter : Draft
-  tailAfter = release (low ++ keptChunk ∷ []) tailChunk high splitDraft
+  abbrev pub tailJoined : ℕ → Union
+  tailJoined flags = joinM words (summaryOf h) (tailPlace flags)
 
   abbrev above : Entry
   above = headOr outside high
@@ -79,16 +73,15 @@ module _ {ws : List ℕ} {h : Heap} {low : List Entry} {e : Entry} {high : List 
   place-eight = inside ws h well e (here chunk) .place
 
   -- no chunk's flags stand in the word that was stored
-  flags-stand : (c : ℕ) → c % 8 ≡ 0 → flagsAt splitWords c ≡ flagsAt ws c
+  flags-stand : (c : ℕ) → c % 8 ≡ 0 → flagsAt words c ≡ flagsAt ws c
   flags-stand c z =
       let k = place-eight in
-      ap (λ (v : ℕ). v % 8) (off splitStores ws c backward (omega arith))
+      ap (λ (v : ℕ). v % 8) (off stores ws c backward (omega arith))
 
   end-eight : blockEnd e % 8 ≡ 0
   end-eight = let i = inside ws h well e (here chunk) in omega arith
 
-  neighbour-stands : (c : ℕ) → c % 8 ≡ 0 → neighbourM splitWords (h .bytes) (h .donor .0) (h .top .0) (h .merge) c
-      ≡ neighbourM ws (h .bytes) (h .donor .0) (h .top .0) (h .merge) c
+  neighbour-stands : (c : ℕ) → c % 8 ≡ 0 → neighbourM words (summaryOf h) c ≡ neighbourM ws (summaryOf h) c
   unfolding neighbourM
   neighbour-stands c z = rw (flags-stand c z)
 
@@ -99,14 +92,14 @@ module _ {ws : List ℕ} {h : Heap} {low : List Entry} {e : Entry} {high : List 
       ap (λ (k : Kind). cond (h .merge) k InUse) (sym (kind-in-use (h .bytes) (h .donor .0) (h .top .0) d (λ z. omega arith) (λ z. omega arith) (omega arith)))
       ∙ in-use-seen (h .merge)
 
-  tail-lies-by : Lies ws h (e .place + n) keptChunk above (joinedM ws InUse (sees h above) (e .place) (e .place + n) (blockEnd e))
+  tail-lies-by : UnionLies ws h (e .place + n) kept above (joinedM ws InUse (sees h above) (e .place) (e .place + n) (blockEnd e))
   tail-lies-by =
       let z = place-eight in
-      part-lies chunk (e .place + n) keptChunk InUse (sees h above) (omega arith) (omega arith) (omega arith)
+      part-lies chunk (e .place + n) kept InUse (sees h above) (omega arith) (omega arith) (omega arith)
       (λ q. absurd (false≢true q)) (seen-free chunk) (seen-above chunk)
 
   -- what the code joins in the words so changed is what it would have joined before
-  joined-stands : joinedM splitWords InUse (sees h above) (e .place) (e .place + n) (blockEnd e)
+  joined-stands : joinedM words InUse (sees h above) (e .place) (e .place + n) (blockEnd e)
       ≡ joinedM ws InUse (sees h above) (e .place) (e .place + n) (blockEnd e)
   unfolding joinedM
   joined-stands =
@@ -115,11 +108,11 @@ module _ {ws : List ℕ} {h : Heap} {low : List Entry} {e : Entry} {high : List 
       let z = place-eight in
       let y = end-eight in
       let to : ℕ = cond (freeKind (sees h above)) (word ws (blockEnd e) forward) (blockEnd e) in
-      rw (off splitStores ws (blockEnd e) forward (omega arith), flags-stand to (omega (arith, t .2)))
+      rw (off stores ws (blockEnd e) forward (omega arith), flags-stand to (omega (arith, t .2)))
 
-  join-sees : tailJoined ≡ joinedM ws InUse (sees h above) (e .place) (e .place + n) (blockEnd e)
+  join-sees : (flags : ℕ) → tailJoined flags ≡ joinedM ws InUse (sees h above) (e .place) (e .place + n) (blockEnd e)
   unfolding joinM
-  join-sees =
+  join-sees flags =
       rw (
         neighbour-stands (e .place) place-eight,
         neighbour-stands (blockEnd e) end-eight,
@@ -129,47 +122,34 @@ module _ {ws : List ℕ} {h : Heap} {low : List Entry} {e : Entry} {high : List 
       )
       joined-stands
 
-  tail-lies : Lies ws h (e .place + n) keptChunk above tailJoined
-  tail-lies = rw join-sees tail-lies-by
+  tail-lies : (flags : ℕ) → UnionLies ws h (e .place + n) kept above (tailJoined flags)
+  tail-lies flags = rw (join-sees flags) tail-lies-by
 
-  tail-joins : Agrees (joining h (low ++ keptChunk ∷ []) tailChunk high) keptChunk above tailJoined
-  tail-joins =
-      rw (joining-sees (low ++ keptChunk ∷ []) tailChunk high h, join-sees, last-append outside low (keptChunk ∷ []), used-seen keptChunk refl refl)
-      (rw (last-append outside low (keptChunk ∷ [])) at
-      (part-joins chunk (low ++ keptChunk ∷ []) tailChunk InUse (sees h above) (omega arith) refl (seen-free chunk)))
+  tail-joins : (flags : ℕ) → Agrees (joining h (low ++ kept ∷ []) tail high) kept above (tailJoined flags)
+  tail-joins flags =
+      rw (joining-sees (low ++ kept ∷ []) tail high h, join-sees flags, last-append outside low (kept ∷ []), used-seen kept refl refl)
+      (rw (last-append outside low (kept ∷ [])) at
+      (part-joins chunk (low ++ kept ∷ []) tail InUse (sees h above) (omega arith) refl (seen-free chunk)))
 
   -- the stored word is none of a chunk that is in a bin
-  follows : Follows ws h splitDraft
+  follows : Follows ws h (splitDraft shrinks)
   unfolding asRead
   follows =
-      let f = begins ws h well in
+      let f = follows-begins ws h well in
       record {
-        way = way-keeps _ _ _ (f .way) splitStores clear;
+        way = way-keeps _ _ _ (f .way) stores clear;
         from = f .from;
         table = f .table;
         heap = f .heap;
-        housed = f .housed;
       }
     where
-      clear : (j x : ℕ) → j < h .bins → Mem x (binList ws h j) → PassBy splitStores x
+      clear : (j x : ℕ) → j < h .bins → Mem x (binList ws h j) → PassBy stores x
       clear j x lj m =
           let a = part-far chunk (e .place) (omega arith) (omega arith) j x lj m in
           let z = place-eight in
           omega arith
 
-  tail-released : Released ws h (books splitWords (h .heads) (h .tails)) tailJoined (e .place) (blockEnd e) tailAfter
+  pub tail-released : (flags : ℕ) → Released ws h (books words (h .heads) (h .tails)) (tailPlace flags) (tailJoined flags) after
   unfolding release asRead
-  tail-released =
-      given-back well follows (λ i x m. m) tail-lies tail-joins (sides chunk .abovePlace)
-
-  pub tail-back-is : giveBackM (books splitWords (h .heads) (h .tails)) (tableOf h) tailJoined (e .place) (blockEnd e)
-      ≡ booksOf ws tailAfter
-  tail-back-is = tail-released .is
-
-  -- of the record only the bins' ends, the donor and the top change
-  pub tail-heap : tailAfter .heap
-      ≡ with h (tailAfter .heap .heads) (tailAfter .heap .tails) (donorAfter (tailJoined .becomes) (tailJoined .chunk .0) (h .donor .0)) (topAfter (tailJoined .becomes) (tailJoined .chunk .0) (h .top .0)) (h .merge) (h .used)
-  tail-heap = tail-released .heap
-
-  pub tail-housed : tailAfter .homeless ≡ false
-  tail-housed = tail-released .housed
+  tail-released flags =
+      given-back well follows (λ i x m. m) (tail-lies flags) (tail-joins flags) (tailPlace flags) refl (sym (sides chunk .abovePlace))

@@ -1,26 +1,29 @@
 -- What the code joins and writes where a chunk is given back, step by step: these definitions mirror the code.
 -- That they do what the rules say of a heap that passes is proved (`ReleaseMeaning`).
-use mathlib.Core.Bool.{Bool, cond}
+use mathlib.Core.Bool.{cond}
 use mathlib.Core.List.{List}
 use Prim.Native.Nat.{ℕ, _-_}
-use Rattle.bins.specs.Books.{Books}
+use Rattle.books.specs.Books.{Books}
+use Rattle.chain.specs.Chain.{kindM}
 use Rattle.headers.specs.Headers.{aboveWords, freeWords}
+use Rattle.record.specs.declared.heap.Summary.{Summary}
 use Rattle.record.specs.declared.kinds.Kind.{Kind}
 use Rattle.record.specs.declared.kinds.Kind.the-variants.{InUse}
 use Rattle.record.specs.Heap.{at}
 use Rattle.region.specs.Words.{word, forward, backward}
-use Rattle.release.specs.declared.Joined.{Joined}
+use Rattle.release.specs.declared.Union.{Union}
 use Rattle.rules.specs.Join.{joinedAs}
-use Rattle.rules.specs.Kinds.{freeKind, kindAt, ordinaryKind}
+use Rattle.rules.specs.Kinds.{freeKind, ordinaryKind}
 use Rattle.rules.specs.Shape.{entry, flagsAt}
-use Rattle.settling.specs.Settling.{leaveBinM, alsoWritten, settleM}
+use Rattle.seek.specs.declared.Place.{Place}
+use Rattle.settling.specs.Settling.{arrival, leaveBinM, alsoWritten, settleM}
 
 -- the kind of the chunk at c, if merging is on
-unfoldable pub neighbourM : List ℕ → ℕ → ℕ → ℕ → Bool → ℕ → Kind
-neighbourM ws bytes donor top merge c = cond merge (kindAt bytes donor top (entry c 0 (flagsAt ws c))) InUse
+unfoldable pub neighbourM : List ℕ → Summary → ℕ → Kind
+neighbourM ws s c = cond (s .merge) (kindM s (entry c 0 (flagsAt ws c))) InUse
 
 -- a chunk at c between the neighbours `under` and `over`, which are at `before` and at `end`
-unfoldable pub joinedM : List ℕ → Kind → Kind → ℕ → ℕ → ℕ → Joined
+unfoldable pub joinedM : List ℕ → Kind → Kind → ℕ → ℕ → ℕ → Union
 joinedM ws under over before c end =
     let to : ℕ = cond (freeKind over) (word ws end forward) end in
     record {
@@ -33,13 +36,13 @@ joinedM ws under over before c end =
       upper = ordinaryKind over;
     }
 
-unfoldable pub joinM : List ℕ → ℕ → ℕ → ℕ → Bool → ℕ → ℕ → ℕ → Joined
-joinM ws bytes donor top merge before c end =
-    joinedM ws (neighbourM ws bytes donor top merge before) (neighbourM ws bytes donor top merge end) before c end
+unfoldable pub joinM : List ℕ → Summary → Place → Union
+joinM ws s p =
+    joinedM ws (neighbourM ws s (p .before .0)) (neighbourM ws s (p .end)) (p .before .0) (p .chunk .0) (p .end)
 
-unfoldable pub giveBackM : Books → List ℕ → Joined → ℕ → ℕ → Books
-giveBackM b table j lower upper =
-    let out : Books = leaveBinM (leaveBinM b (j .lower) lower) (j .upper) upper in
-    let linked : Books = alsoWritten out (freeWords (j .below .0) (j .chunk .0) (j .end)) in
-    let all : Books = alsoWritten linked (aboveWords (j .chunk .0) (j .end) (j .flags)) in
-    settleM all table (j .becomes) (j .chunk .0) (j .end - j .chunk .0)
+unfoldable pub giveBackM : Books → List ℕ → Place → Union → Books
+giveBackM b table p u =
+    let out : Books = leaveBinM (leaveBinM b (u .lower) (p .before .0)) (u .upper) (p .end) in
+    let linked : Books = alsoWritten out (freeWords (u .below .0) (u .chunk .0) (u .end)) in
+    let all : Books = alsoWritten linked (aboveWords (u .chunk .0) (u .end) (u .flags)) in
+    settleM all table (arrival (u .becomes) (u .chunk .0) (u .end - u .chunk .0))

@@ -1,5 +1,3 @@
 pub mod ResizeSteps
-pub mod MovedLaws
-pub mod WantedLaws
 pub mod MoveMeaning
 pub mod ResizeMeaning

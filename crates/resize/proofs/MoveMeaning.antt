@@ -2,7 +2,7 @@
 -- Assumes nothing.
 use mathlib.Core.Path.{_≡_, refl, sym, ap, _∙_}
 use mathlib.Core.Logic.{_⊎_, inl, inr}
-use mathlib.Core.Bool.{true, false}
+use mathlib.Core.Bool.{true}
 use mathlib.Core.List.{List, _∷_, _++_}
 use Prim.Native.Nat.{ℕ, _-_, _/_, _%_, _≤_}
 use native.Mathlib.Omega.{arith}
@@ -14,8 +14,8 @@ use Rattle.region.specs.Words.{word, backward}
 use Rattle.region.proofs.WordsLaws.{off}
 use Rattle.rules.specs.Check.{Passes}
 use Rattle.rules.specs.Draft.{Draft, asRead, Spot}
-use Rattle.rules.specs.Free.{isLive, freeBlock}
-use Rattle.rules.specs.Kinds.{live, blockOf, blockEnd, blockWords, outside}
+use Rattle.rules.specs.Free.{isLive, blockSpot, freeBlock}
+use Rattle.rules.specs.Kinds.{blockOf, blockEnd, blockWords, outside}
 use Rattle.rules.specs.Shape.{Entry, shape}
 use Rattle.rules.proofs.SpotLaws.{around, inside, one-chunk}
 use Rattle.rules.proofs.NamedLaws.{live-between}
@@ -23,13 +23,13 @@ use Rattle.seek.specs.Seek.{placed}
 use Rattle.blocks.specs.Blocks.{copiedM}
 use Rattle.blocks.proofs.BlocksMeaning.{Disjoint, copy-is}
 use Rattle.grant.proofs.ServeMeaning.{grant-table}
-use Rattle.grant.proofs.GrantKept.{given, granted-large}
-use Rattle.grant.proofs.GrantedChunk.{grantedWords, beside, granted-lies, appended}
-use Rattle.grant.proofs.GrantSpares.{grant-spares}
+use Rattle.drafts.proofs.GrantKept.{theGrant, granted-large}
+use Rattle.drafts.proofs.GrantedChunk.{grantedWords, granted-beside, granted-lies, appended}
+use Rattle.drafts.proofs.GrantSpared.{grant-spares}
 use Rattle.release.specs.Give.{givenUpM}
 use Rattle.release.proofs.GiveMeaning.{drawn, give-up-is}
-use Rattle.release.proofs.ReleaseMeaning.{place, splits, housed}
-use Rattle.resize.proofs.MovedLaws.{Moving, to, copies, copies-within, copiedOver, copiedWords, copiedHeap, copied-passes, there-again, old-live, live-again, again-is, moved-words}
+use Rattle.drafts.proofs.BlockLaws.{BlockAt, splits}
+use Rattle.drafts.proofs.MovedLaws.{Moving, to, copies, copies-within, copiedOver, copiedWords, copiedHeap, copied-passes, still-there, old-live, still-live, moved-reread, moved-words}
 
 -- the chunk e of a live block, which has less than n bytes, and room for n elsewhere
 module _ {ws : List ℕ} {h : Heap} {n : ℕ} {e : Entry} (moves : Moving ws h n e) where
@@ -54,7 +54,7 @@ module _ {ws : List ℕ} {h : Heap} {n : ℕ} {e : Entry} (moves : Moving ws h n
       let i = inside ws h (moves .room .well) e (moves .member) in
       let k = granted-lies (moves .room) in
       let b = live-between ws h (moves .room .well) e (moves .member) (moves .live) .1 in
-      go (granted-large (moves .room)) (i .place) (k .place) (i .size) (k .size) (b .some) (beside (moves .room) e (moves .member) (moves .live))
+      go (granted-large (moves .room)) (i .place) (k .place) (i .size) (k .size) (b .some) (granted-beside (moves .room) e (moves .member) (moves .live))
     where
       go : n ≤ new .size → e .place % 8 ≡ 0 → new .place % 8 ≡ 0 → e .size % 8 ≡ 0 → new .size % 8 ≡ 0 → 24 ≤ e .size
           → (blockEnd e ≤ new .place) ⊎ (blockEnd new ≤ e .place) → Disjoint (e .place) (new .place) (blockWords e)
@@ -66,32 +66,32 @@ module _ {ws : List ℕ} {h : Heap} {n : ℕ} {e : Entry} (moves : Moving ws h n
       let b = live-between ws h (moves .room .well) e (moves .member) (moves .live) .1 in
       let i = inside ws h (moves .room .well) e (moves .member) in
       copy-is ws uncopied e new (omega arith) disjoint
-      (λ j k. off (given (moves .room) .draft .stores) ws (blockOf e) j (grant-spares (moves .room) e (moves .member) (moves .live) _ (omega arith) (omega arith)))
+      (λ j k. off (theGrant (moves .room) .draft .stores) ws (blockOf e) j (grant-spares (moves .room) e (moves .member) (moves .live) _ (omega arith) (omega arith)))
       ∙ sym (appended (moves .room) (copies moves) (copies-within moves))
 
   abbrev passesAgain : Passes words heap
   passesAgain = copied-passes moves
 
   abbrev liveAgain : isLive (asRead words heap) (blockOf e) ≡ true
-  liveAgain = live-again moves
+  liveAgain = still-live moves
 
   abbrev thereAgain : Mem e (shape words (heap .bytes))
-  thereAgain = there-again moves
+  thereAgain = still-there moves
 
   abbrev spotAgain : Spot
-  spotAgain = place words heap passesAgain (blockOf e) liveAgain
+  spotAgain = blockSpot (asRead words heap) (blockOf e)
 
-  split-again : (shape words (heap .bytes) ≡ spotAgain .low ++ spotAgain .here ∷ spotAgain .high) × (live heap (spotAgain .here) ≡ true) × (blockOf (spotAgain .here) ≡ blockOf e)
+  split-again : BlockAt words heap (blockOf e) spotAgain
   split-again = splits words heap passesAgain (blockOf e) liveAgain
 
   -- it is the old chunk that is found there
   here-again : spotAgain .here ≡ e
   here-again =
-      let b = split-again .2 in
-      one-chunk words heap passesAgain (spotAgain .here) e (in-split (spotAgain .low) (spotAgain .here) (spotAgain .high) (split-again .0)) thereAgain (omega arith)
+      let b = split-again .block in
+      one-chunk words heap passesAgain (spotAgain .here) e (in-split (spotAgain .low) (spotAgain .here) (spotAgain .high) (split-again .split)) thereAgain (omega arith)
 
   split-at : shape words (heap .bytes) ≡ spotAgain .low ++ e ∷ spotAgain .high
-  split-at = split-again .0 ∙ ap (λ (x : Entry). spotAgain .low ++ x ∷ spotAgain .high) here-again
+  split-at = split-again .split ∙ ap (λ (x : Entry). spotAgain .low ++ x ∷ spotAgain .high) here-again
 
   -- the chunk below it, as its link names it
   below-again : word words (e .place) backward - word words (e .place) backward % 8 ≡ lastOr outside (spotAgain .low) .place
@@ -103,7 +103,7 @@ module _ {ws : List ℕ} {h : Heap} {n : ℕ} {e : Entry} (moves : Moving ws h n
       omega (arith, a .ownBackward, o .0, i .place)
 
   drawn-again : drawn words (freeBlock (blockOf e) (asRead words heap)) ≡ drawn ws freedAfter
-  drawn-again = rw (again-is moves .0, moved-words moves) refl
+  drawn-again = rw (moved-reread moves .0, moved-words moves) refl
 
   pub move-is : givenUpM words (tableOf h) heap (record { before = at (word words (e .place) backward - word words (e .place) backward % 8); chunk = at (e .place); end = blockEnd e; flags = e .flags })
       ≡ drawn ws freedAfter
@@ -112,7 +112,3 @@ module _ {ws : List ℕ} {h : Heap} {n : ℕ} {e : Entry} (moves : Moving ws h n
       (ap (λ (x : Entry). givenUpM words (tableOf heap) heap (placed (lastOr outside (spotAgain .low) .place) x)) (sym here-again)
       ∙ give-up-is words heap passesAgain (blockOf e) liveAgain
       ∙ drawn-again)
-
-  pub move-housed : freedAfter .homeless ≡ false
-  unfolding freeBlock
-  move-housed = again-is moves .2 ∙ housed words heap passesAgain (blockOf e) liveAgain

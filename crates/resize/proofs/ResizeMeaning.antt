@@ -15,7 +15,7 @@ use Rattle.rules.specs.Allocate.{sourceOf, grant}
 use Rattle.rules.specs.Check.{Passes, passes}
 use Rattle.rules.specs.Cut.{Grant}
 use Rattle.rules.specs.Draft.{Draft, asRead}
-use Rattle.rules.specs.Free.{isLive, freeBlock}
+use Rattle.rules.specs.Free.{isLive, blockSpot, freeBlock}
 use Rattle.rules.specs.Kinds.{overhead, blockOf, blockEnd}
 use Rattle.rules.specs.Outcome.{made, grants}
 use Rattle.rules.specs.Reallocate.{resize, resized}
@@ -27,17 +27,16 @@ use Rattle.rules.proofs.SpotLaws.{bounds, inside}
 use Rattle.seek.specs.declared.Place.{Place}
 use Rattle.grant.proofs.ChooseMeaning.{choose-is}
 use Rattle.grant.proofs.ServeMeaning.{serve-is}
-use Rattle.grant.proofs.GrantedChunk.{granted-lies}
+use Rattle.drafts.proofs.GrantedChunk.{granted-lies}
 use Rattle.release.proofs.FindLaws.{placeOf}
 use Rattle.release.proofs.GiveMeaning.{give-up-tail-is}
-use Rattle.release.proofs.ReleaseMeaning.{place, splits}
-use Rattle.release.proofs.ShrinkKept.{chunk-shrinks}
-use Rattle.release.proofs.TailMeaning.{tail-housed}
+use Rattle.drafts.proofs.BlockLaws.{splits}
+use Rattle.drafts.proofs.ShrinkKept.{chunk-shrinks, shrink-kept}
 use Rattle.replies.proofs.ChangeLaws.{change-ruled}
-use Rattle.resize.specs.Resize.{againM, shrinkM, movedM, moveM, resizeM}
-use Rattle.resize.proofs.MovedLaws.{Moving, copiedOver}
-use Rattle.resize.proofs.WantedLaws.{block-moves, block-shrinks}
-use Rattle.resize.proofs.MoveMeaning.{copy-written, move-is, move-housed}
+use Rattle.resize.specs.Resize.{rereadM, shrinkM, movedM, moveM, resizeM}
+use Rattle.drafts.proofs.MovedLaws.{Moving, copiedOver, move-all-put}
+use Rattle.drafts.proofs.WantedLaws.{block-moves, block-shrinks}
+use Rattle.resize.proofs.MoveMeaning.{copy-written, move-is}
 
 -- the live block at b, in a heap that passes
 module _ (ws : List ℕ) (h : Heap) (q : passes ws h ≡ true) (z : ℕ) (k : permitted z ≡ true) (b : ℕ) (l : isLive (asRead ws h) b ≡ true) where
@@ -48,22 +47,22 @@ module _ (ws : List ℕ) (h : Heap) (q : passes ws h ≡ true) (z : ℕ) (k : pe
   n = need overhead z
 
   abbrev e : Entry
-  e = place ws h well b l .here
+  e = blockSpot (asRead ws h) b .here
 
   abbrev p : Place
   p = placeOf ws h well b l
 
   member : Mem e (shape ws (h .bytes))
-  member = in-split (place ws h well b l .low) e (place ws h well b l .high) (splits ws h well b l .0)
+  member = in-split (blockSpot (asRead ws h) b .low) e (blockSpot (asRead ws h) b .high) (splits ws h well b l .split)
 
-  -- where the chunk lies
-  record Lies : Type 0 where
+  -- the size of the chunk, its block, and that they are small
+  record Measured : Type 0 where
     pub size : blockEnd e - e .place ≡ e .size
     pub block : blockAt (e .place) ≡ blockOf e
     pub few : e .place + e .size ≤ 65536
 
-  lies : Lies
-  lies =
+  measured : Measured
+  measured =
       let i = inside ws h well e member in
       let w = bounds ws h well in
       record { size = omega arith; block = omega arith; few = omega arith }
@@ -76,28 +75,28 @@ module _ (ws : List ℕ) (h : Heap) (q : passes ws h ≡ true) (z : ℕ) (k : pe
   stays : n ≤ e .size → e .size < n + 24 → AsRuled
   unfolding resizeM resize resized asRead
   stays m u =
-      let i = lies in
+      let i = measured in
       rw (i .size, le-ltb (e .size) n m, lt-leb (n + 24) (e .size) u, i .block, change-ruled (e .size) (e .size) (omega arith) (omega arith), q, k, l)
 
   -- the tail is given back
   shrinks : n + 24 ≤ e .size → AsRuled
   unfolding resizeM shrinkM resize resized
   shrinks u =
-      let i = lies in
-      let c = chunk-shrinks (block-shrinks well b l z u) in
+      let i = measured in
+      let c = block-shrinks well b l z u in
       let r : (e .place + n) % 2 ^ 32 ≡ e .place + n = omega arith in
       rw (
         i .size,
         le-ltb (e .size) n (omega arith),
         le-leb (n + 24) (e .size) u,
         r,
-        give-up-tail-is c (e .flags),
+        give-up-tail-is (chunk-shrinks c) (e .flags),
         i .block,
         change-ruled (e .size) n (omega arith) (omega arith),
         q,
         k,
         l,
-        tail-housed c,
+        shrink-kept c .allPut,
       )
 
   -- the block moves, if something can serve
@@ -105,7 +104,7 @@ module _ (ws : List ℕ) (h : Heap) (q : passes ws h ≡ true) (z : ℕ) (k : pe
     refuses : nowhere (sourceOf n (asRead ws h)) ≡ true → AsRuled
     unfolding resizeM moveM resize
     refuses none =
-        let i = lies in
+        let i = measured in
         rw (i .size, lt-ltb (e .size) n less, choose-is ws h well n, none, q, k, l)
 
     module _ (some : nowhere (sourceOf n (asRead ws h)) ≡ false) where
@@ -119,9 +118,9 @@ module _ (ws : List ℕ) (h : Heap) (q : passes ws h ≡ true) (z : ℕ) (k : pe
       after = copiedOver moving
 
       code-moves : resizeM ws (tableOf h) h p n ≡ leftBy ws (made (grants (e .size) (g .granted)) (freeBlock (blockOf e) after))
-      unfolding resizeM moveM movedM againM
+      unfolding resizeM moveM movedM rereadM
       code-moves =
-          let i = lies in
+          let i = measured in
           let o = granted-lies (moving .room) in
           let block : blockAt (g .granted .place) ≡ blockOf (g .granted) = omega arith in
           rw (
@@ -139,7 +138,7 @@ module _ (ws : List ℕ) (h : Heap) (q : passes ws h ≡ true) (z : ℕ) (k : pe
       rule-moves : resize ws h b z ≡ made (grants (e .size) (g .granted)) (freeBlock (blockOf e) after)
       unfolding resize resized
       rule-moves =
-          rw (q, k, l, lt-ltb (e .size) n less, some, move-housed moving)
+          rw (q, k, l, lt-ltb (e .size) n less, some, move-all-put moving)
 
       moves : AsRuled
       moves = code-moves ∙ sym (ap (leftBy ws) rule-moves)

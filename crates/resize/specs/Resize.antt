@@ -5,13 +5,13 @@ use Prim.Native.Nat.{ℕ, _+_, _-_, _/_, _%_, _^_}
 use lib.Dec.{leb, ltb}
 use Rattle.blocks.specs.Blocks.{copiedM}
 use Rattle.grant.specs.Choose.{chooseM}
-use Rattle.grant.specs.Serve.{Leaves, servedM}
+use Rattle.grant.specs.Serve.{AfterGrant, servedM}
 use Rattle.replies.specs.Replies.{changeM, left}
 use Rattle.record.specs.declared.answers.Answer.the-variants.{Granted, Refused}
 use Rattle.record.specs.declared.answers.Refusal.the-variants.{NoRoom}
 use Rattle.record.specs.declared.heap.Heap.{Heap}
 use Rattle.record.specs.declared.sources.Source.{Source}
-use Rattle.record.specs.Heap.{at}
+use Rattle.record.specs.Heap.{at, summaryOf}
 use Rattle.region.specs.Places.{blockAt}
 use Rattle.region.specs.Words.{word, store, forward, backward}
 use Rattle.release.specs.Give.{givenUpM}
@@ -20,35 +20,35 @@ use Rattle.rules.specs.Serve.{nowhere}
 use Rattle.rules.specs.Statements.{Left}
 use Rattle.seek.specs.declared.Place.{Place}
 
-abbrev sizeOf : Place → ℕ
-sizeOf p = p .end - p .chunk .0
+abbrev sizeM : Place → ℕ
+sizeM p = p .end - p .chunk .0
 
 unfoldable pub shrinkM : List ℕ → List ℕ → Heap → Place → ℕ → Left
 shrinkM ws table h p n =
     let rest : ℕ = (p .chunk .0 + n) % 2 ^ 32 in
     let s : State = givenUpM (store ws (p .chunk .0) forward rest) table h (record { before = p .chunk; chunk = at rest; end = p .end; flags = p .flags }) in
-    left (Granted (record { 0 = blockAt (p .chunk .0) }) (changeM (sizeOf p) n)) (s .heap) (s .words)
+    left (Granted (record { 0 = blockAt (p .chunk .0) }) (changeM (sizeM p) n)) (s .heap) (s .words)
 
 -- the chunk of the block, with the chunk below it as its link names it
-unfoldable pub againM : List ℕ → Place → Place
-againM ws p =
+unfoldable pub rereadM : List ℕ → Place → Place
+rereadM ws p =
     let link : ℕ = word ws (p .chunk .0) backward in
     record { before = at (link - link % 8); chunk = p .chunk; end = p .end; flags = p .flags }
 
 -- what is made of a grant that the block moves to
-unfoldable pub movedM : List ℕ → Place → Leaves → Left
+unfoldable pub movedM : List ℕ → Place → AfterGrant → Left
 movedM table p l =
-    let ws : List ℕ = copiedM (sizeOf p / 4 - 2) (l .words) (p .chunk .0) (l .chunk .0) 2 in
-    let s : State = givenUpM ws table (l .heap) (againM ws p) in
-    left (Granted (record { 0 = blockAt (l .chunk .0) }) (changeM (sizeOf p) (l .size))) (s .heap) (s .words)
+    let ws : List ℕ = copiedM (sizeM p / 4 - 2) (l .words) (p .chunk .0) (l .chunk .0) 2 in
+    let s : State = givenUpM ws table (l .heap) (rereadM ws p) in
+    left (Granted (record { 0 = blockAt (l .chunk .0) }) (changeM (sizeM p) (l .size))) (s .heap) (s .words)
 
 unfoldable pub moveM : List ℕ → List ℕ → Heap → Place → ℕ → Left
 moveM ws table h p n =
-    let source : Source = chooseM ws table (h .heads) (h .donor .0) (h .top .0) n in
+    let source : Source = chooseM ws table (h .heads) (summaryOf h) n in
     cond (nowhere source) (left (Refused NoRoom) h ws) (movedM table p (servedM ws table h source n))
 
 unfoldable pub resizeM : List ℕ → List ℕ → Heap → Place → ℕ → Left
 resizeM ws table h p n =
-    cond (ltb (sizeOf p) n) (moveM ws table h p n)
-    (cond (leb (n + 24) (sizeOf p)) (shrinkM ws table h p n)
-    (left (Granted (record { 0 = blockAt (p .chunk .0) }) (changeM (sizeOf p) (sizeOf p))) h ws))
+    cond (ltb (sizeM p) n) (moveM ws table h p n)
+    (cond (leb (n + 24) (sizeM p)) (shrinkM ws table h p n)
+    (left (Granted (record { 0 = blockAt (p .chunk .0) }) (changeM (sizeM p) (sizeM p))) h ws))

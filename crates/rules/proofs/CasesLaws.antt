@@ -1,4 +1,4 @@
--- The fourteen marked cases hold: computed by the checker. Assumes nothing.
+-- The fourteen proved cases of the document hold: the checker computes them. Assumes nothing.
 use mathlib.Core.Path.{_≡_, refl}
 use mathlib.Core.Bool.{true}
 use Prim.Native.Nat.{ℕ}
@@ -21,7 +21,7 @@ use Rattle.rules.specs.Ask.{askChunk, askBin}
 use Rattle.rules.specs.Calls.{step, next}
 use Rattle.rules.specs.Cases.{cases, caseHolds}
 
--- opens all that a call's outcome is computed by: `unfolding computes`
+-- `unfolding computes` opens every definition by which a call's outcome is computed
 unfoldable pub computes : ℕ
 unfolding word store validTable shape members inUse kindAt passesAs passes chosen asRead leave putBetween putInto leaveBin putInBin settle relink cut grantAt grantFrom joining release setup allocate allocateCleared freeBlock free resized resize reallocate setMerge checked check askChunk askBin step next
 computes = 0

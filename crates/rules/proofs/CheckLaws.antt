@@ -1,4 +1,4 @@
--- The check's test decides the check's facts, both ways, on every region and every record (`passes-iff`). Assumes nothing.
+-- The test `passes` decides `Passes`, on every region and every record (`passes-iff`). Assumes nothing.
 use mathlib.Core.Path.{_≡_, refl}
 use mathlib.Core.Bool.{false≢true}
 use mathlib.Core.List.{List, [], _∷_}
@@ -15,13 +15,13 @@ use Rattle.record.specs.Heap.{tableOf}
 use Rattle.record.specs.Table.{binOf}
 use Rattle.record.proofs.TableLaws.{valid-iff}
 use Rattle.region.specs.Words.{word, forward, backward, size, nextInBin, previousInBin, bin}
-use Rattle.rules.specs.Shape.{Entry, shape, binList, heapBytes}
-use Rattle.rules.specs.Kinds.{ordinary, blockEnd, outside}
+use Rattle.rules.specs.Shape.{Entry, shape, binList, heapBytes, chunkEnd}
+use Rattle.rules.specs.Kinds.{ordinary, outside}
 use Rattle.rules.specs.Check.{Fits, fits, Tabled, tabled, Chained, chained, Ended, ended, Backed, backed, Sound, sound, Reserved, reserved, Linked, linked, isBin, BelongsTo, belongsTo, Listed, listed, inBin, usedBytes, PassesAs, Passes, passesAs, passes}
 
--- the table in the record has as many sizes as the record has bins
+-- the record's table has as many sizes as the record has bins
 pub table-bins : (h : Heap) → Tabled h → length (tableOf h) ≡ h .bins
-table-bins h t = length-take-le (h .bins) (h .sizes) (omega (arith, t .bins, t .sizePlaces))
+table-bins h t = length-take-le (h .bins) (h .sizes) (omega arith)
 
 module _ (ws : List ℕ) (h : Heap) where
   fits-iff : Decides (fits ws h) (Fits ws h)
@@ -137,7 +137,7 @@ module _ (ws : List ℕ) (h : Heap) where
       (ended-iff es))
       (backed-iff 0 es))
       (for-each sound-iff es))
-      (for-some (λ e. both (reserved-iff (h .top .0) e) (number-is (blockEnd e + 8) (h .bytes))) es))
+      (for-some (λ e. both (reserved-iff (h .top .0) e) (number-is (chunkEnd e + 8) (h .bytes))) es))
       (if-then (less 0 (h .donor .0)) (for-some (λ e. both (reserved-iff (h .donor .0) e) (less (h .donor .0) (h .top .0))) es)))
       (for-below (λ i. listed-iff es i (binList ws h i)) (h .bins)))
       (for-each (λ e. if-then (itself (ordinary h e)) (in-bin-iff (e .place) (binOf (tableOf h) (e .size)))) es))

@@ -1,5 +1,5 @@
--- Whether a heap passes, and how it is read, depends on the words below its heap bytes alone (`same-passes`, `same-read`),
--- so an odd last word of the region makes no difference (`even-passes`, `even-read`). Assumes nothing.
+-- Whether a heap passes, and how it is read, depends only on the words of the heap bytes (`same-passes`, `same-read`);
+-- an odd last word of the region makes no difference (`even-passes`, `even-read`). Assumes nothing.
 use mathlib.Core.Path.{_≡_, sym, _∙_}
 use mathlib.Core.Logic.{_↔_}
 use mathlib.Core.List.{List}
@@ -21,7 +21,7 @@ use Rattle.rules.proofs.HeadersLaws.{SameHeader, headers-shape, headers
 abbrev pub Agree : ℕ → List ℕ → List ℕ → Type 0
 Agree n ws ws′ = (i : ℕ) → i < n → getD ws i 0 ≡ getD ws′ i 0
 
--- a heap that passes, and another region with the same words below the heap bytes
+-- a heap that passes, and a second region with the same words in the heap bytes
 module _ (ws ws′ : List ℕ) (h : Heap) (same : Agree (h .bytes / 4) ws ws′) (p : Passes ws h) where
   agrees : (c k : ℕ) → c / 4 + k < h .bytes / 4 → word ws c k ≡ word ws′ c k
   unfolding word
@@ -38,13 +38,13 @@ module _ (ws ws′ : List ℕ) (h : Heap) (same : Agree (h .bytes / 4) ws ws′)
       }
 
   pub same-shape : shape ws′ (h .bytes) ≡ shape ws (h .bytes)
-  same-shape = headers-shape ws ws′ h p same-headers
+  same-shape = headers-shape p same-headers
 
   pub same-passes : Fits ws′ h → Passes ws′ h
-  same-passes fits = headers-pass ws ws′ h p same-headers fits
+  same-passes fits = headers-pass p same-headers fits
 
   pub same-read : asRead ws′ h ≡ asRead ws h
-  same-read = headers-read ws ws′ h p same-headers
+  same-read = headers-read p same-headers
 
 -- the region without an odd last word
 abbrev pub evenPart : List ℕ → List ℕ

@@ -1,5 +1,5 @@
--- Whether a heap passes, and how it is read, depends on the words of its chunks' headers alone: the two links of every chunk,
--- and the other four words of a free one. Assumes nothing.
+-- Whether a heap passes, and how it is read, depends only on the headers of its chunks: the two links of every chunk
+-- and the four other words of a free one. Assumes nothing.
 use mathlib.Core.Path.{_≡_, refl, sym, ap, ap₂, _∙_, fun-ext}
 use mathlib.Core.Bool.{false}
 use mathlib.Core.List.{List, [], _∷_, List·Memᴰ·head, List·Memᴰ·tail}
@@ -23,7 +23,7 @@ pub record SameHeader (ws ws′ : List ℕ) (e : Entry) : Type 0 where
   pub links : (word ws (e .place) forward ≡ word ws′ (e .place) forward) × (word ws (e .place) backward ≡ word ws′ (e .place) backward)
   pub words : e .flags ≡ unused → (k : ℕ) → k < 6 → word ws (e .place) k ≡ word ws′ (e .place) k
 
--- a bin's reading is the same in two regions where the forward bin links of its members are
+-- a bin is read alike in two regions where its members have the same forward bin links
 members-same : (ws ws′ : List ℕ) (k c : ℕ)
     → ((d : ℕ) → Mem d (membersFrom k ws c) → word ws d nextInBin ≡ word ws′ d nextInBin)
     → membersFrom k ws′ c ≡ membersFrom k ws c
@@ -42,28 +42,28 @@ members-same ws ws′ (suc k) c f =
           ∙ sym g
     ]
 
--- links that hold in one region hold in another with the same words
+-- backward links, and bin links, that are right in one region are right in another with the same link words
 backed-same : (ws ws′ : List ℕ) (q : ℕ) (es : List Entry)
     → ((e : Entry) → Mem e es → word ws (e .place) backward ≡ word ws′ (e .place) backward)
     → Backed ws q es → Backed ws′ q es
 backed-same ws ws′ q [] f b = tt
-backed-same ws ws′ q (e ∷ es) f b =
-    (sym (f e (List·Memᴰ·head refl)) ∙ b .0, backed-same ws ws′ (e .place) es (λ d m. f d (List·Memᴰ·tail m)) (b .1))
+backed-same ws ws′ q (e ∷ es) f (back, rest) =
+    (sym (f e (List·Memᴰ·head refl)) ∙ back, backed-same ws ws′ (e .place) es (λ d m. f d (List·Memᴰ·tail m)) rest)
 
 linked-same : (ws ws′ : List ℕ) (q : ℕ) (cs : List ℕ)
     → ((c : ℕ) → Mem c cs → (word ws c nextInBin ≡ word ws′ c nextInBin) × (word ws c previousInBin ≡ word ws′ c previousInBin))
     → Linked ws q cs → Linked ws′ q cs
 linked-same ws ws′ q [] f b = tt
-linked-same ws ws′ q (c ∷ cs) f b =
-    let a = f c (List·Memᴰ·head refl) in
-    (sym (a .1) ∙ b .0, sym (a .0) ∙ b .1, linked-same ws ws′ c cs (λ d m. f d (List·Memᴰ·tail m)) (b .2))
+linked-same ws ws′ q (c ∷ cs) f (previous, next, rest) =
+    let (sameNext, samePrevious) = f c (List·Memᴰ·head refl) in
+    (sym samePrevious ∙ previous, sym sameNext ∙ next, linked-same ws ws′ c cs (λ d m. f d (List·Memᴰ·tail m)) rest)
 
--- a heap that passes, and another region in which its chunks have the same headers
-module _ (ws ws′ : List ℕ) (h : Heap) (p : Passes ws h) (same : (e : Entry) → Mem e (shape ws (h .bytes)) → SameHeader ws ws′ e) where
+-- a heap that passes, and a second region in which its chunks have the same headers
+module _ {ws ws′ : List ℕ} {h : Heap} (p : Passes ws h) (same : (e : Entry) → Mem e (shape ws (h .bytes)) → SameHeader ws ws′ e) where
   abbrev es : List Entry
   es = shape ws (h .bytes)
 
-  -- the other region's chain from c on is ds too
+  -- if the chunks ds have the same headers, the second region's chain from c on is ds
   abbrev Same : ℕ → List Entry → Type 0
   Same c ds = ((e : Entry) → Mem e ds → SameHeader ws ws′ e) → chainFrom ws′ (h .bytes) c ≡ ds
 
@@ -74,20 +74,20 @@ module _ (ws ws′ : List ℕ) (h : Heap) (p : Passes ws h) (same : (e : Entry) 
     where
       last : (c : ℕ) → (Up ws (h .bytes) c → ⊥) → Same c (lastEntry ws (h .bytes) c ∷ [])
       last c n m =
-          let a = m _ (List·Memᴰ·head refl) .links in
-          shape-stops ws′ (h .bytes) c (λ u. n (rw (a .0) u)) ∙ rw (a .1) refl
+          let (forth, back) = m _ (List·Memᴰ·head refl) .links in
+          shape-stops ws′ (h .bytes) c (λ u. n (rw forth u)) ∙ rw back refl
 
       more : (c : ℕ) (ds : List Entry) → Up ws (h .bytes) c → Same (word ws c forward) ds → Same c (upEntry ws (h .bytes) c ∷ ds)
       more c ds u r m =
-          let a = m _ (List·Memᴰ·head refl) .links in
+          let (forth, back) = m _ (List·Memᴰ·head refl) .links in
           let s = r (λ e k. m e (List·Memᴰ·tail k)) in
-          shape-goes ws′ (h .bytes) c (rw (← a .0) u) ∙ rw (← a .0, ← a .1, s) refl
+          shape-goes ws′ (h .bytes) c (rw (← forth) u) ∙ rw (← forth, ← back, s) refl
 
-  -- members of bins are ordinary chunks
+  -- members of bins are ordinary chunks, so their six header words are the same
   member-word : (i : ℕ) → i < h .bins → (c : ℕ) → Mem c (binList ws h i) → (k : ℕ) → k < 6 → word ws c k ≡ word ws′ c k
   member-word i l c m k s =
-      let r = p .bins i l .chunks c m in
-      rw (← r .2 .0) (same (r .0) (r .1) .words (is-ordinary ws h p (r .0) (r .1) (r .2 .1 .0) .free .flags) k s)
+      let (e, on, (place, (o, _))) = p .bins i l .chunks c m in
+      rw (← place) (same e on .words (is-ordinary ws h p e on o .free .flags) k s)
 
   -- past the bin count all heads are 0
   pub headers-list : (i : ℕ) → binList ws′ h i ≡ binList ws h i
@@ -151,10 +151,10 @@ module _ (ws ws′ : List ℕ) (h : Heap) (p : Passes ws h) (same : (e : Entry) 
         ends = p .ends;
         backward = backed-same ws ws′ 0 es (λ e m. same e m .links .1) (p .backward);
         chunks = sound-same;
-        top = let t = p .top in (t .0, t .1, (reserved-same _ (t .0) (t .1) (t .2 .0), t .2 .1));
-        donor = λ l. let d = p .donor l in (d .0, d .1, (reserved-same _ (d .0) (d .1) (d .2 .0), d .2 .1));
+        top = let (e, m, (reserved, reaches)) = p .top in (e, m, (reserved-same _ e m reserved, reaches));
+        donor = λ l. let (e, m, (reserved, below)) = p .donor l in (e, m, (reserved-same _ e m reserved, below));
         bins = λ i l. rw (headers-list i) (listed-same i l);
-        binned = λ e m o. let b = p .binned e m o in (b .0, b .1, (b .2 .0, rw (headers-list (b .0)) (b .2 .1)));
+        binned = λ e m o. let (i, takes, (inside, member)) = p .binned e m o in (i, takes, (inside, rw (headers-list i) member));
         used = p .used;
       }
 
@@ -166,4 +166,4 @@ module _ (ws ws′ : List ℕ) (h : Heap) (p : Passes ws h) (same : (e : Entry) 
   headers-read = ap₂ read headers-shape (fun-ext headers-list)
     where
       read : List Entry → (ℕ → List ℕ) → Draft
-      read chain lists = record { heap = h; chain = chain; lists = lists; stores = []; homeless = false }
+      read chain lists = record { heap = h; chain = chain; lists = lists; stores = []; noBinTakes = false }

@@ -10,3 +10,4 @@ pub mod HeadersLaws
 pub mod EvenLaws
 pub mod AskLaws
 pub mod CasesLaws
+pub mod SetupLaws

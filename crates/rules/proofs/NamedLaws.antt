@@ -1,5 +1,5 @@
--- Chunks of a heap that passes by what they are: free, by flags or by kind, of a live block, ordinary, the top and the donor.
--- Where chunks lie is in SpotLaws. Assumes nothing.
+-- What is known of a chunk of a heap that passes by its kind: free, of a live block, ordinary, the top, the donor.
+-- `SpotLaws` says where chunks lie. Assumes nothing.
 use mathlib.Core.Path.{_≡_, sym, ap, _∙_}
 use mathlib.Core.Bool.{true, false≢true}
 use mathlib.Core.List.{List, [], _∷_, _++_}
@@ -9,8 +9,8 @@ use Rattle.lists.specs.Lists.{Mem, headOr, lastOr}
 use Rattle.record.specs.declared.heap.Heap.{Heap}
 use Rattle.record.specs.declared.kinds.Kind.the-variants.{InUse, Donor, Top}
 use Rattle.region.specs.Words.{word, size}
-use Rattle.rules.specs.Shape.{Entry, shape}
-use Rattle.rules.specs.Kinds.{ordinaryKind, freeKind, kindOf, ordinary, isFree, live, blockEnd, isAt, outside}
+use Rattle.rules.specs.Shape.{Entry, shape, chunkEnd}
+use Rattle.rules.specs.Kinds.{ordinaryKind, freeKind, kindOf, ordinary, isFree, live, isAt, outside}
 use Rattle.rules.specs.Check.{Unbinned, Passes}
 use Rattle.rules.specs.Draft.{Spot, spot}
 use Rattle.rules.proofs.KindsLaws.{Being, being, kind-top, kind-donor, ordinary-kind, live-kind, free-kinds, being-as}
@@ -21,27 +21,27 @@ use Rattle.rules.proofs.TiledLaws.{tiled-one}
 pub record Free (ws : List ℕ) (h : Heap) (e : Entry) : Type 0 where
   pub flags : e .flags ≡ 0
   pub sized : word ws (e .place) size ≡ e .size
-  pub between : Between h e
+  pub between : Between (h .bytes) e
 
--- of an ordinary one
+-- what is known of an ordinary chunk
 pub record IsOrdinary (ws : List ℕ) (h : Heap) (e : Entry) : Type 0 where
   pub free : Free ws h e
   pub notTop : e .place ≡ h .top .0 → ⊥
   pub notDonor : e .place ≡ h .donor .0 → ⊥
 
--- the top: above it there is the end alone
+-- what is known of the top: only the end chunk is above it
 pub record IsTop (ws : List ℕ) (h : Heap) (es : List Entry) (e : Entry) : Type 0 where
   pub member : Mem e es
   pub place : e .place ≡ h .top .0
   pub free : Free ws h e
   pub out : Unbinned ws (h .top .0)
-  pub reaches : blockEnd e + 8 ≡ h .bytes
+  pub reaches : chunkEnd e + 8 ≡ h .bytes
   pub kind : kindOf h e ≡ Top
   pub here : spot (isAt (h .top .0)) es .here ≡ e
   pub high : spot (isAt (h .top .0)) es .high ≡ lastOr outside es ∷ []
   pub split : es ≡ spot (isAt (h .top .0)) es .low ++ e ∷ lastOr outside es ∷ []
 
--- the donor
+-- what is known of the donor
 pub record IsDonor (ws : List ℕ) (h : Heap) (es : List Entry) (e : Entry) : Type 0 where
   pub member : Mem e es
   pub place : e .place ≡ h .donor .0
@@ -52,7 +52,7 @@ pub record IsDonor (ws : List ℕ) (h : Heap) (es : List Entry) (e : Entry) : Ty
   pub here : spot (isAt (h .donor .0)) es .here ≡ e
   pub split : es ≡ spot (isAt (h .donor .0)) es .low ++ e ∷ spot (isAt (h .donor .0)) es .high
 
--- what the record says makes a free chunk the top or the donor
+-- a free chunk at the record's top or donor is of that kind
 module _ (ws : List ℕ) (h : Heap) (e : Entry) (f : Free ws h e) where
   top-kind : e .place ≡ h .top .0 → kindOf h e ≡ Top
   top-kind q = sym (kind-top (h .bytes) (h .donor .0) (h .top .0) e (λ z. omega arith) (λ z. omega arith) (λ z. omega arith) q)
@@ -65,8 +65,8 @@ module _ (ws : List ℕ) (h : Heap) (p : Passes ws h) where
   abbrev es : List Entry
   es = shape ws (h .bytes)
 
-  -- a free chunk is neither start nor end, since those are in use
-  pub free-between : (e : Entry) → Mem e es → e .flags ≡ 0 → Between h e
+  -- a free chunk is neither start nor end: those are in use
+  pub free-between : (e : Entry) → Mem e es → e .flags ≡ 0 → Between (h .bytes) e
   free-between e m f =
       let l = ends ws h p in
       let i = inside ws h p e m in
@@ -76,7 +76,7 @@ module _ (ws : List ℕ) (h : Heap) (p : Passes ws h) where
       λ q. let s = ap (λ (x : Entry). x .flags) (one-chunk ws h p e (lastOr outside es) m (l .end) (omega arith)) in omega arith in
       between ws h p e m (omega arith) (omega arith)
 
-  -- free by its flags, and by its kind
+  -- a chunk that is free by its flags; by its kind
   pub flags-free : (e : Entry) → Mem e es → e .flags ≡ 0 → Free ws h e
   flags-free e m f = record { flags = f; sized = p .chunks e m .sized f; between = free-between e m f }
 
@@ -89,12 +89,11 @@ module _ (ws : List ℕ) (h : Heap) (p : Passes ws h) where
       flags-free e m (omega arith)
 
   -- the chunk of a live block
-  pub live-between : (e : Entry) → Mem e es → live h e ≡ true → (e .flags ≡ 1) × Between h e
+  pub live-between : (e : Entry) → Mem e es → live h e ≡ true → (e .flags ≡ 1) × Between (h .bytes) e
   live-between e m f =
       let i = inside ws h p e m in
       let b = being-as h e InUse (live-kind (kindOf h e) f) in
-      let z = b .2 in
-      (omega arith, between ws h p e m (b .0) (omega (arith, b .1)))
+      (omega arith, between ws h p e m (b .0) (omega arith))
 
   pub is-ordinary : (e : Entry) → Mem e es → ordinary h e ≡ true → IsOrdinary ws h e
   is-ordinary e m o =
@@ -108,14 +107,11 @@ module _ (ws : List ℕ) (h : Heap) (p : Passes ws h) where
 
   the-top : IsTop ws h es (p .top .0)
   the-top =
-      let t : Entry = p .top .0 in
-      let m = p .top .1 in
-      let r = p .top .2 .0 in
-      let reaches : blockEnd t + 8 ≡ h .bytes = p .top .2 .1 in
+      let (t, m, (r, reaches)) = p .top in
       let f = flags-free t m (r .free) in
       let s = spot-at ws h p (h .top .0) t m (r .here) in
       let a : Spot = spot (isAt (h .top .0)) es in
-      let high = only-end (a .low) t (a .high) (s .2) reaches (around ws h p (a .low) t (a .high) (s .2) (omega arith) (omega arith)) in
+      let high = only-end (a .low) t (a .high) (s .split) reaches (around ws h p (a .low) t (a .high) (s .split) (omega arith) (omega arith)) in
       record {
         member = m;
         place = r .here;
@@ -123,17 +119,17 @@ module _ (ws : List ℕ) (h : Heap) (p : Passes ws h) where
         out = r .out;
         reaches = reaches;
         kind = top-kind ws h t f (r .here);
-        here = s .1;
+        here = s .here;
         high = high;
-        split = s .2 ∙ ap (λ (l : List Entry). a .low ++ t ∷ l) high;
+        split = s .split ∙ ap (λ (l : List Entry). a .low ++ t ∷ l) high;
       }
     where
-      only-end : (low : List Entry) (e : Entry) (high : List Entry) → es ≡ low ++ e ∷ high → blockEnd e + 8 ≡ h .bytes
+      only-end : (low : List Entry) (e : Entry) (high : List Entry) → es ≡ low ++ e ∷ high → chunkEnd e + 8 ≡ h .bytes
           → Around ws es low e high → high ≡ lastOr outside es ∷ []
       only-end low e high s r a =
           let l = ends ws h p in
           let i = inside ws h p _ (a .above) in
-          tiled-one (blockEnd e) (h .bytes) high (tiled-at ws h p low e high s .2 .2) (omega arith) (omega arith)
+          tiled-one (chunkEnd e) (h .bytes) high (tiled-at ws h p low e high s .above) (omega arith) (omega arith)
           ∙ ap (λ (d : Entry). d ∷ []) (one-chunk ws h p _ _ (a .above) (l .end) (omega arith))
 
   pub is-top : (e : Entry) → Mem e es → e .place ≡ h .top .0 → IsTop ws h es e
@@ -144,10 +140,7 @@ module _ (ws : List ℕ) (h : Heap) (p : Passes ws h) where
 
   the-donor : (l : 0 < h .donor .0) → IsDonor ws h es (p .donor l .0)
   the-donor l =
-      let t : Entry = p .donor l .0 in
-      let m = p .donor l .1 in
-      let r = p .donor l .2 .0 in
-      let below : h .donor .0 < h .top .0 = p .donor l .2 .1 in
+      let (t, m, (r, below)) = p .donor l in
       let f = flags-free t m (r .free) in
       let s = spot-at ws h p (h .donor .0) t m (r .here) in
       record {
@@ -157,8 +150,8 @@ module _ (ws : List ℕ) (h : Heap) (p : Passes ws h) where
         out = r .out;
         below = below;
         kind = donor-kind ws h t f (λ q. omega arith) (r .here);
-        here = s .1;
-        split = s .2;
+        here = s .here;
+        split = s .split;
       }
 
   pub is-donor : (e : Entry) → Mem e es → 0 < h .donor .0 → e .place ≡ h .donor .0 → IsDonor ws h es e

@@ -15,47 +15,47 @@ use Rattle.rules.specs.Draft.{Draft, asRead, alsoWrites}
 use Rattle.rules.specs.Cut.{Grant, grantFrom}
 use Rattle.rules.specs.Outcome.{Outcome, Refusals, judged, heapFails, made, grants}
 
--- the source that the tries choose for n bytes
+-- the source chosen for n bytes
 abbrev pub sourceOf : ℕ → Draft → Source
 sourceOf n d = chosen (d .heap) (d .chain) (d .lists) n
 
--- n bytes from the first of the four sources that has them
+-- n bytes are granted from it
 abbrev pub grant : ℕ → Draft → Grant
 grant n d = grantFrom (sourceOf n d) n d
 
--- what is written into a granted block besides: nothing, or zeros to the chunk's end
+-- what a call writes into the granted block: nothing, or zeros up to the chunk's end
 abbrev pub asFound : Entry → List Store
 asFound e = []
 
 abbrev pub cleared : Entry → List Store
 cleared e = map (λ k. put (blockOf e) k 0) (numbersFrom 0 (blockWords e))
 
--- the refusals in their order, after the one for a heap that fails
+-- the refusals in their order, behind `fails`, that of a heap that fails
 abbrev pub allocateRefusals : Bool × Refusal → Draft → ℕ → Refusals
 allocateRefusals fails d z =
     let n = need overhead z in
     fails
     ∷ (not (permitted z), BlockSize)
     ∷ (nowhere (sourceOf n d), NoRoom)
-    ∷ (grant n d .draft .homeless, NoBinTakes)
+    ∷ (grant n d .draft .noBinTakes, NoBinTakes)
     ∷ []
 
--- the block granted and filled
+-- the outcome of an accepted call: the block is granted, then filled
 abbrev pub allocated : (Entry → List Store) → Draft → ℕ → Outcome
 allocated fill d z =
     let g = grant (need overhead z) d in
     made (grants 0 (g .granted)) (alsoWrites (fill (g .granted)) (g .draft))
 
--- either call on z bytes, by what it writes into the block
+-- both calls on z bytes; `fill` is what the call writes into the block
 abbrev pub allocateWith : (Entry → List Store) → List ℕ → Heap → ℕ → Outcome
 allocateWith fill ws h z =
     let before = asRead ws h in
     judged h (allocateRefusals (heapFails ws h) before z) (allocated fill before z)
 
--- z bytes, and the block's words as they were found
+-- z bytes; the block's words stay as found
 unfoldable pub allocate : List ℕ → Heap → ℕ → Outcome
 allocate ws h z = allocateWith asFound ws h z
 
--- the exact product of count and element size, and every word of the granted block 0
+-- the exact product of count and element size in bytes; every word of the block becomes 0
 unfoldable pub allocateCleared : List ℕ → Heap → ℕ → ℕ → Outcome
 allocateCleared ws h count elementSize = allocateWith cleared ws h (count * elementSize)

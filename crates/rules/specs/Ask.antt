@@ -25,32 +25,33 @@ abbrev pub shown : Option ℕ → ℕ
 shown none = 0
 shown (some v) = v
 
--- what there may be none of: a value under a condition, the first and the last of a list, a bin's number; the list of a bin, if there is one
+-- answers that may be absent: a value under a condition, the first and the last of a list, a bin's number;
+-- and the list of a bin, empty where there is no bin
 abbrev pub onlyIf : Bool → ℕ → Option ℕ
 onlyIf true v = some v
 onlyIf false v = none
 
-abbrev pub firstOf : List ℕ → Option ℕ
-firstOf [] = none
-firstOf (c ∷ cs) = some c
+abbrev pub firstIn : List ℕ → Option ℕ
+firstIn [] = none
+firstIn (c ∷ cs) = some c
 
-abbrev pub lastOf : List ℕ → Option ℕ
-lastOf [] = none
-lastOf (c ∷ cs) = some (lastOr c cs)
+abbrev pub lastIn : List ℕ → Option ℕ
+lastIn [] = none
+lastIn (c ∷ cs) = some (lastOr c cs)
 
-abbrev pub numberOf : Binned → Option ℕ
-numberOf (Bin i) = some i
-numberOf NoBin = none
+abbrev pub numberOfBin : Binned → Option ℕ
+numberOfBin (Bin i) = some i
+numberOfBin NoBin = none
 
 abbrev pub listOf : Draft → Binned → List ℕ
 listOf d (Bin i) = d .lists i
 listOf d NoBin = []
 
--- the bin of a chunk; not of one in use, donor or top
+-- the bin of a chunk; there is none for one in use, the donor and the top
 abbrev pub binOfChunk : Draft → Entry → Binned
 binOfChunk d e = cond (ordinary (d .heap) e) (binOf (tableOf (d .heap)) (e .size)) NoBin
 
--- what stands before and after a chunk in its bin's list
+-- the chunks before and after a chunk in its bin's list
 abbrev pub beforeInBin : Draft → Entry → List ℕ
 beforeInBin d e = upTo (eqb (e .place)) (listOf d (binOfChunk d e))
 
@@ -60,25 +61,25 @@ afterInBin d e = past (eqb (e .place)) (listOf d (binOfChunk d e))
 abbrev pub placesOf : List Entry → List ℕ
 placesOf es = map (λ (e : Entry). e .place) es
 
--- the answers, from question 1 on: bin number; block (not of a free chunk, start or end); chunk of a live block;
--- next (not of the end); next in bin; previous (not of the start); previous in bin; size; type (free 0, in use 1)
+-- the answers to questions 1 to 9: bin number; block (none for a free chunk, start and end); chunk of a live block;
+-- next (none for the end); next in bin; previous (none for the start); previous in bin; size; type (free 0, in use 1)
 abbrev pub chunkAnswers : Draft → Spot → List (Option ℕ)
 chunkAnswers d s =
     let e = s .here in
-    numberOf (binOfChunk d e)
+    numberOfBin (binOfChunk d e)
     ∷ onlyIf (live (d .heap) e) (blockOf e)
     ∷ some (e .place)
-    ∷ firstOf (placesOf (s .high))
-    ∷ firstOf (afterInBin d e)
-    ∷ lastOf (placesOf (s .low))
-    ∷ lastOf (beforeInBin d e)
+    ∷ firstIn (placesOf (s .high))
+    ∷ firstIn (afterInBin d e)
+    ∷ lastIn (placesOf (s .low))
+    ∷ lastIn (beforeInBin d e)
     ∷ some (e .size)
     ∷ some (e .flags)
     ∷ []
 
--- the same of a bin's list: count of chunks, first, last
+-- the answers to questions 1 to 3 about a bin: count of chunks, first, last
 abbrev pub binAnswers : List ℕ → List (Option ℕ)
-binAnswers cs = some (length cs) ∷ firstOf cs ∷ lastOf cs ∷ []
+binAnswers cs = some (length cs) ∷ firstIn cs ∷ lastIn cs ∷ []
 
 -- question 3 is asked of a live block, every other of a chunk
 abbrev pub askedSpot : Draft → ℕ → ℕ → Spot
@@ -87,19 +88,19 @@ askedSpot d q p = cond (eqb q 3) (blockSpot d p) (spot (isAt p) (d .chain))
 abbrev pub isThere : Draft → ℕ → ℕ → Bool
 isThere d q p = cond (eqb q 3) (isLive d p) (any (isAt p) (d .chain))
 
--- question q has an answer in a list of them
+-- there is a question q
 abbrev pub isAsked : ℕ → List (Option ℕ) → Bool
 isAsked q answers = leb 1 q && leb q (length answers)
 
--- the answer to question q, as it is shown
+-- the answer to question q; 0 where there is none
 abbrev pub answerTo : ℕ → List (Option ℕ) → ℕ
 answerTo q answers = shown (getD answers (q - 1) none)
 
--- the refusals in their order, after the one for a heap that fails; what is asked about is there or is not
+-- the refusals in their order, behind `fails`, that of a heap that fails; `there` says whether the chunk, block or bin exists
 abbrev pub askRefusals : Bool × Refusal → ℕ → List (Option ℕ) → Bool → Refusals
 askRefusals fails q answers there = fails ∷ (not (isAsked q answers) || not there, NotThere) ∷ []
 
--- the answer, and the heap stays as it is
+-- the outcome of an accepted question, which changes nothing
 abbrev pub asked : Heap → ℕ → List (Option ℕ) → Outcome
 asked h q answers = unchanged h (Told (answerTo q answers))
 

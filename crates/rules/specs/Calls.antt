@@ -1,4 +1,4 @@
--- Calls as data, one step, and a run of them (document 01, "The calls"; the demands speak of any run).
+-- Calls as data, the step that one makes, and runs of calls (document 01, "The calls").
 use mathlib.Core.Bool.{Bool}
 use mathlib.Core.List.{List, [], _∷_}
 use Prim.Native.Nat.{ℕ}
@@ -14,7 +14,7 @@ use Rattle.rules.specs.Reallocate.{reallocate}
 use Rattle.rules.specs.Merge.{setMerge, check}
 use Rattle.rules.specs.Ask.{askChunk, askBin}
 
--- the nine calls, each with what it is given
+-- the nine calls with their arguments
 pub data Call : Type 0 where
   -- table, donor size, merge setting
   Setup : List ℕ → ℕ → Bool → Call
@@ -48,7 +48,7 @@ pub record State : Type 0 where
   pub words : List ℕ
   pub heap : Heap
 
--- the record that the next call is given: after a refusal the one before, since a refused setup gives an empty one
+-- the record for the next call: after a refusal the one before, since a refused setup gives an empty one
 abbrev pub recordAfter : Heap → Heap → Answer → Heap
 recordAfter before after Done = after
 recordAfter before after (Granted b c) = after

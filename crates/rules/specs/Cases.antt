@@ -1,4 +1,4 @@
--- The fourteen marked cases (document 01, "The demonstration" and "Both sides") as one table over the rules:
+-- The fourteen proved cases (document 01, "The demonstration" and "Both sides") as one table:
 -- the region, the calls before, the call, and every fact that the document states of it.
 use mathlib.Core.Bool.{Bool, true, false, cond, _&&_}
 use mathlib.Core.List.{List, [], _∷_}
@@ -23,9 +23,9 @@ use Rattle.rules.specs.Calls.{Call, Setup, Allocate, Free, Reallocate, s
 pub data Fact : Type 0 where
   -- accepted: offset, change
   Gives : ℕ → ℤ → Fact
-  -- refused with this number, all other figures 0, no word and no field changed
+  -- refused with this number; all other figures are 0, no word and no field changes
   Refuses : ℕ → Fact
-  -- the same of setup, whose record is then empty
+  -- the same of setup, which then gives an empty record
   RefusesSetup : ℕ → Fact
   -- the heap passes the check
   Sound : Fact
@@ -40,7 +40,7 @@ pub data Fact : Type 0 where
   -- the word at this byte offset
   Word : ℕ → ℕ → Fact
 
--- a region of so many words, the calls before, the call, and what is stated of it
+-- `words` is the region's length
 pub record Case : Type 0 where
   pub words : ℕ
   pub before : List Call
@@ -63,7 +63,7 @@ turns =
 abbrev pub turn : ℕ → List Fact → Case
 turn k facts = given 64 (opening ∷ take (k - 1) turns) (getD turns (k - 1) opening) facts
 
--- the table: the eleven calls, then 9 and 10 words, then a size above the most
+-- the table: the eleven calls, setup of 9 and of 10 words, and a size above the greatest
 abbrev pub cases : List Case
 cases =
     turn 1 (Gives 16 (pos 24) ∷ Chunk 8 24 InUse ∷ Chunk 32 40 Donor ∷ Sound ∷ [])
@@ -98,7 +98,7 @@ cases =
     ∷ given 64 (opening ∷ []) (Allocate 65489) (Refuses 5 ∷ [])
     ∷ []
 
--- How a fact is tested.
+-- Tests of facts.
 
 abbrev sameInt : ℤ → ℤ → Bool
 sameInt (pos a) (pos b) = eqb a b
@@ -158,7 +158,7 @@ holds s o (Chunks n) = eqb (length (shape (written (s .words) (o .stores)) (o .h
 holds s o (Bin i cs) = sameList (binList (written (s .words) (o .stores)) (o .heap) i) cs
 holds s o (Word offset value) = eqb (word (written (s .words) (o .stores)) offset 0) value
 
--- the lent region holds anything: here every bit of it is set
+-- a lent region may hold anything: here every bit is set
 abbrev lent : ℕ → State
 lent n = record { words = replicate n 4294967295; heap = empty }
 

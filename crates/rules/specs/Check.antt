@@ -1,5 +1,5 @@
--- The check (document 01, "The check", with all that it reaches by "all of the above"): the facts of a heap that passes,
--- part by part in the document's order, the same as a test, and the four counts.
+-- The check (document 01, "The check" and the sections that it refers to): the invariant of a heap, part by part in the
+-- document's order, each part also as a test; and the four counts.
 use mathlib.Core.Path.{_≡_}
 use mathlib.Core.Bool.{Bool, true, false, not, _&&_, _||_}
 use mathlib.Core.List.{List, [], _∷_}
@@ -14,10 +14,10 @@ use Rattle.record.specs.declared.table.Binned.the-variants.{Bin, NoBin}
 use Rattle.record.specs.Heap.{places, tableOf}
 use Rattle.record.specs.Table.{least, ValidTable, validTable, binOf}
 use Rattle.region.specs.Words.{word, forward, backward, size, nextInBin, previousInBin, bin}
-use Rattle.rules.specs.Shape.{Entry, shape, binList, heapBytes}
-use Rattle.rules.specs.Kinds.{used, unused, endSize, ordinary, isFree, live, blockEnd, outside}
+use Rattle.rules.specs.Shape.{Entry, shape, binList, heapBytes, chunkEnd}
+use Rattle.rules.specs.Kinds.{used, unused, endSize, ordinary, isFree, live, outside}
 
--- The region has 10 to 16,384 words, and the heap bytes are as many as fit it.
+-- The region has 10 to 16,384 words, and the record has the heap bytes of that length.
 abbrev pub fewestWords : ℕ
 fewestWords = 10
 
@@ -32,14 +32,14 @@ pub record Fits (ws : List ℕ) (h : Heap) : Type 0 where
 abbrev pub fits : List ℕ → Heap → Bool
 fits ws h = leb fewestWords (length ws) && leb (length ws) mostWords && eqb (h .bytes) (heapBytes (length ws))
 
--- from place n of an array on there is nothing but 0
+-- from index n on an array holds only 0
 abbrev pub Unused : ℕ → List ℕ → Type 0
 Unused n l = (i : ℕ) → n ≤ i → getD l i 0 ≡ 0
 
 abbrev pub unusedFrom : ℕ → List ℕ → Bool
 unusedFrom n l = every (λ v. eqb v 0) (drop n l)
 
--- The record has places for 32 bins; its table is valid; what is past the bin count is 0.
+-- The record's three arrays have 32 elements; its table is valid; past the bin count all elements are 0.
 pub record Tabled (h : Heap) : Type 0 where
   pub sizePlaces : length (h .sizes) ≡ places
   pub headPlaces : length (h .heads) ≡ places
@@ -56,7 +56,8 @@ tabled h =
     && leb (h .bins) places && validTable (tableOf h)
     && unusedFrom (h .bins) (h .sizes) && unusedFrom (h .bins) (h .heads) && unusedFrom (h .bins) (h .tails)
 
--- Forward links from 0 go up to the end chunk, the last 8 bytes, which has none; every chunk is at a multiple of 8.
+-- Forward links lead up from 0 to the end chunk, which is the last 8 bytes and whose forward link is 0;
+-- every chunk is at a multiple of 8.
 pub record Chained (ws : List ℕ) (h : Heap) (es : List Entry) : Type 0 where
   pub reachesEnd : lastOr outside es .place + endSize ≡ h .bytes
   pub endsThere : word ws (lastOr outside es .place) forward ≡ 0
@@ -67,7 +68,7 @@ chained ws h es =
     eqb (lastOr outside es .place + endSize) (h .bytes) && eqb (word ws (lastOr outside es .place) forward) 0
     && every (λ e. eqb (e .place % 8) 0) es
 
--- Start and end: 8 bytes each, in use. (The end's size is the last part of `Chained`.)
+-- Start and end have 8 bytes each and are in use. (`reachesEnd` says the end's size.)
 pub record Ended (es : List Entry) : Type 0 where
   pub startSize : headOr outside es .size ≡ endSize
   pub startUsed : headOr outside es .flags ≡ used
@@ -78,7 +79,8 @@ ended es =
     eqb (headOr outside es .size) endSize && eqb (headOr outside es .flags) used
     && eqb (lastOr outside es .flags) used
 
--- Each backward link names the chunk before, which is at p; the start's is 0. The flags stand in its low bits.
+-- Each backward link is the place of the chunk before, with the flags in its low bits; p is the place before the first chunk,
+-- 0 for the whole chain.
 abbrev pub Backed : List ℕ → ℕ → List Entry → Type 0
 Backed ws p [] = Unit {0}
 Backed ws p (e ∷ es) = (word ws (e .place) backward ≡ p + e .flags) × Backed ws (e .place) es
@@ -87,7 +89,7 @@ abbrev pub backed : List ℕ → ℕ → List Entry → Bool
 backed ws p [] = true
 backed ws p (e ∷ es) = eqb (word ws (e .place) backward) (p + e .flags) && backed ws (e .place) es
 
--- Bits 1 and 2 are 0; every chunk between the ends has at least 24 bytes; a free chunk's size word is its size.
+-- Flag bits 1 and 2 are 0; every chunk but start and end has at least 24 bytes; a free chunk's size word is its size.
 pub record Sound (ws : List ℕ) (h : Heap) (e : Entry) : Type 0 where
   pub flags : e .flags ≤ used
   pub room : 0 < e .place → e .place + endSize < h .bytes → least ≤ e .size
@@ -99,7 +101,7 @@ sound ws h e =
     && (not (ltb 0 (e .place)) || (not (ltb (e .place + endSize) (h .bytes)) || leb least (e .size)))
     && (not (eqb (e .flags) unused) || eqb (word ws (e .place) size) (e .size))
 
--- Both bin links and the bin word of a chunk are 0.
+-- Both bin links and the bin word of the chunk at c are 0.
 pub record Unbinned (ws : List ℕ) (c : ℕ) : Type 0 where
   pub next : word ws c nextInBin ≡ 0
   pub previous : word ws c previousInBin ≡ 0
@@ -108,7 +110,7 @@ pub record Unbinned (ws : List ℕ) (c : ℕ) : Type 0 where
 abbrev pub unbinned : List ℕ → ℕ → Bool
 unbinned ws c = eqb (word ws c nextInBin) 0 && eqb (word ws c previousInBin) 0 && eqb (word ws c bin) 0
 
--- The chunk e is free, at the place c, and out of bins.
+-- The chunk e is free, at c, and in no bin, as donor and top are.
 pub record Reserved (ws : List ℕ) (c : ℕ) (e : Entry) : Type 0 where
   pub here : e .place ≡ c
   pub free : e .flags ≡ unused
@@ -119,10 +121,10 @@ reserved ws c e = eqb (e .place) c && eqb (e .flags) unused && unbinned ws c
 
 -- The top chunk is directly below the end chunk.
 abbrev pub TopIs : List ℕ → Heap → Entry → Type 0
-TopIs ws h e = Reserved ws (h .top .0) e × (blockEnd e + endSize ≡ h .bytes)
+TopIs ws h e = Reserved ws (h .top .0) e × (chunkEnd e + endSize ≡ h .bytes)
 
 abbrev pub topIs : List ℕ → Heap → Entry → Bool
-topIs ws h e = reserved ws (h .top .0) e && eqb (blockEnd e + endSize) (h .bytes)
+topIs ws h e = reserved ws (h .top .0) e && eqb (chunkEnd e + endSize) (h .bytes)
 
 -- The donor, if there is one, is below the top chunk.
 abbrev pub DonorIs : List ℕ → Heap → Entry → Type 0
@@ -131,7 +133,8 @@ DonorIs ws h e = Reserved ws (h .donor .0) e × (h .donor .0 < h .top .0)
 abbrev pub donorIs : List ℕ → Heap → Entry → Bool
 donorIs ws h e = reserved ws (h .donor .0) e && ltb (h .donor .0) (h .top .0)
 
--- Each member of a list has a backward bin link to the one before (0 for the first, whose p is 0) and a forward one to the next (0 for the last).
+-- A doubly linked list: each member's backward bin link is the member before (p for the first, 0 for a whole list),
+-- its forward bin link the next one (0 for the last).
 abbrev pub Linked : List ℕ → ℕ → List ℕ → Type 0
 Linked ws p [] = Unit {0}
 Linked ws p (c ∷ cs) =
@@ -142,20 +145,20 @@ linked ws p [] = true
 linked ws p (c ∷ cs) =
     eqb (word ws c previousInBin) p && eqb (word ws c nextInBin) (headOr 0 cs) && linked ws c cs
 
--- the bin is bin i, as a test
+-- `binOf` answered bin i, as a test
 abbrev pub isBin : ℕ → Binned → Bool
 isBin i (Bin j) = eqb i j
 isBin i NoBin = false
 
--- The chunk e is ordinary and of a size that bin i takes.
+-- The chunk e is ordinary and bin i takes its size.
 abbrev pub BelongsTo : Heap → ℕ → Entry → Type 0
 BelongsTo h i e = (ordinary h e ≡ true) × (binOf (tableOf h) (e .size) ≡ Bin i)
 
 abbrev pub belongsTo : Heap → ℕ → Entry → Bool
 belongsTo h i e = ordinary h e && isBin i (binOf (tableOf h) (e .size))
 
--- The list of bin i, from head to tail: linked both ways; each member once, an ordinary chunk of the chain
--- that belongs there, with its bin word right. (The head is where the reading of the list begins.)
+-- The list cs of bin i: doubly linked, its last member at the tail; no member twice; each member an ordinary chunk of the chain
+-- that belongs to bin i, as its bin word says. (No field for the head: `binList` begins there.)
 pub record Listed (ws : List ℕ) (h : Heap) (es : List Entry) (i : ℕ) (cs : List ℕ) : Type 0 where
   pub tail : getD (h .tails) i 0 ≡ lastOr 0 cs
   pub links : Linked ws 0 cs
@@ -169,7 +172,7 @@ listed ws h es i cs =
     && every (λ c. any (λ e. eqb (e .place) c && belongsTo h i e) es) cs
     && every (λ c. eqb (word ws c bin) (8 * i)) cs
 
--- An ordinary chunk is in the list of a bin that takes its size.
+-- The chunk e is in the list of the bin that takes its size.
 abbrev pub InItsBin : List ℕ → Heap → Entry → Type 0
 InItsBin ws h e =
     (i : ℕ) × (binOf (tableOf h) (e .size) ≡ Bin i) × ((i < h .bins) × Mem (e .place) (binList ws h i))
@@ -181,14 +184,14 @@ inBin ws h c NoBin = false
 abbrev pub inItsBin : List ℕ → Heap → Entry → Bool
 inItsBin ws h e = inBin ws h (e .place) (binOf (tableOf h) (e .size))
 
--- Used bytes: the sizes of the chunks of live blocks. Free bytes: those of ordinary chunks, donor and top.
+-- Used bytes: the sizes of the chunks of live blocks, added up. Free bytes: those of ordinary chunks, donor and top.
 abbrev pub usedBytes : Heap → List Entry → ℕ
 usedBytes h es = total (λ e. e .size) (keep (live h) es)
 
 abbrev pub freeBytes : Heap → List Entry → ℕ
 freeBytes h es = total (λ e. e .size) (keep (isFree h) es)
 
--- The heap passes; es is its chain.
+-- The heap passes the check with the chain es.
 pub record PassesAs (ws : List ℕ) (h : Heap) (es : List Entry) : Type 0 where
   pub fits : Fits ws h
   pub table : Tabled h
@@ -202,11 +205,11 @@ pub record PassesAs (ws : List ℕ) (h : Heap) (es : List Entry) : Type 0 where
   pub binned : (e : Entry) → Mem e es → ordinary h e ≡ true → InItsBin ws h e
   pub used : h .used ≡ usedBytes h es
 
--- The heap passes, with the chain that is read from 0.
+-- The heap passes, with the chain as it is read.
 abbrev pub Passes : List ℕ → Heap → Type 0
 Passes ws h = PassesAs ws h (shape ws (h .bytes))
 
--- The same as a test.
+-- `PassesAs` and `Passes` as tests (`passes-iff`).
 unfoldable pub passesAs : List ℕ → Heap → List Entry → Bool
 passesAs ws h es =
     fits ws h && tabled h && chained ws h es && ended es && backed ws 0 es && every (sound ws h) es

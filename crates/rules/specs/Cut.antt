@@ -1,4 +1,4 @@
--- Cutting a chunk to grant a part of it (document 01, "The calls": Allocate).
+-- Splitting a free chunk to grant a part of it (document 01, "The calls": Allocate).
 use mathlib.Core.Bool.{not, cond}
 use mathlib.Core.List.{List, [], _∷_}
 use Prim.Native.Nat.{ℕ, _+_, _-_}
@@ -13,13 +13,13 @@ use Rattle.rules.specs.Shape.{Entry, entry}
 use Rattle.rules.specs.Kinds.{unused, used, isAt, outside}
 use Rattle.rules.specs.Draft.{Draft, Spot, spot, leaveBin, relink, settle, nowUses}
 
--- the parts of a cut chunk: what stays below the granted part, the granted part, what stays above it
+-- the three parts of a cut chunk, lowest first; a part may have no bytes
 pub record Parts : Type 0 where
   pub below : Entry
   pub granted : Entry
   pub above : Entry
 
--- n bytes are granted from `skip` bytes up; where less than 24 would be left above them, those too
+-- n bytes are granted, `skip` bytes above the chunk's place; a rest of less than 24 bytes above them is granted too
 unfoldable pub cut : Entry → ℕ → ℕ → Parts
 cut e skip n =
     let room = e .size - skip in
@@ -30,7 +30,7 @@ cut e skip n =
       above = entry (e .place + skip + given) (room - given) unused;
     }
 
--- the parts that are there
+-- the parts that have bytes
 abbrev pub chunksOf : Parts → List Entry
 chunksOf p = keep (λ e. not (eqb (e .size) 0)) (p .below ∷ p .granted ∷ p .above ∷ [])
 
@@ -43,12 +43,12 @@ leaveAs Start e d = d
 leaveAs InUse e d = d
 leaveAs End e d = d
 
--- what was granted, and the heap after it
+-- the granted chunk, and the draft after the grant
 pub record Grant : Type 0 where
   pub granted : Entry
   pub draft : Draft
 
--- the lowest n bytes of a chunk of this kind are granted; what is left above them is of its kind again
+-- the lowest n bytes of the chunk at a spot are granted; what is left above them is of the chunk's kind again
 unfoldable pub grantAt : Kind → Spot → ℕ → Draft → Grant
 grantAt kind s n d =
     let parts = cut (s .here) 0 n in
@@ -57,7 +57,7 @@ grantAt kind s n d =
     let settled = cond (eqb (rest .size) 0) cutUp (settle kind rest cutUp) in
     record { granted = parts .granted; draft = nowUses 0 (parts .granted .size) settled }
 
--- n bytes from the source that was chosen
+-- n bytes are granted from the chosen source
 unfoldable pub grantFrom : Source → ℕ → Draft → Grant
 grantFrom (FromBin c) n d = grantAt Ordinary (spot (isAt (c .0)) (d .chain)) n d
 grantFrom FromDonor n d = grantAt Donor (spot (isAt (d .heap .donor .0)) (d .chain)) n d

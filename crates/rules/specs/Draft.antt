@@ -1,5 +1,5 @@
--- A heap in the making: the record, the chain, the bins' lists and the words to be written, all of which a step changes together.
--- The steps here are those on lists (document 01, "The calls": leaving a bin, putting into one) and on links of the chain.
+-- A draft: the record, chain, lists and stores of a heap that a call is building. A step changes them together.
+-- The steps here take a chunk out of a bin, put one into a bin, and link chunks into the chain (document 01, "The calls").
 use mathlib.Core.Bool.{Bool, true, false, cond}
 use mathlib.Core.List.{List, [], _∷_, _++_}
 use Prim.Native.Nat.{ℕ, _+_, _*_, _-_}
@@ -14,24 +14,24 @@ use Rattle.record.specs.Table.{smallBins, binOf}
 use Rattle.region.specs.Words.{Store, put, forward, backward, size, nextInBin, previousInBin, bin}
 use Rattle.record.specs.declared.kinds.Kind.{Kind}
 use Rattle.record.specs.declared.kinds.Kind.the-variants.{Start, InUse, Ordinary, Donor, Top, End}
-use Rattle.rules.specs.Shape.{Entry, shape, binList}
-use Rattle.rules.specs.Kinds.{unused, blockEnd, outside}
+use Rattle.rules.specs.Shape.{Entry, shape, binList, chunkEnd}
+use Rattle.rules.specs.Kinds.{unused, outside}
 
--- the record, the chain, each bin's list, and the words to be written so far
+-- the stores stand in the order in which they are made
 pub record Draft : Type 0 where
   pub heap : Heap
   pub chain : List Entry
   pub lists : ℕ → List ℕ
   pub stores : List Store
   -- a chunk was to be put, and no bin takes its size
-  pub homeless : Bool
+  pub noBinTakes : Bool
 
--- the heap as it is read, nothing written yet
+-- the draft with which a call begins: the heap as it is read, and no stores
 unfoldable pub asRead : List ℕ → Heap → Draft
 asRead ws h =
-    record { heap = h; chain = shape ws (h .bytes); lists = binList ws h; stores = []; homeless = false }
+    record { heap = h; chain = shape ws (h .bytes); lists = binList ws h; stores = []; noBinTakes = false }
 
--- more words are to be written, after the others
+-- more stores, after the others
 abbrev pub alsoWrites : List Store → Draft → Draft
 alsoWrites ss d =
     record {
@@ -39,10 +39,10 @@ alsoWrites ss d =
       chain = d .chain;
       lists = d .lists;
       stores = d .stores ++ ss;
-      homeless = d .homeless;
+      noBinTakes = d .noBinTakes;
     }
 
--- the record is another one
+-- another record
 abbrev pub withHeap : Heap → Draft → Draft
 withHeap h d =
     record {
@@ -50,14 +50,15 @@ withHeap h d =
       chain = d .chain;
       lists = d .lists;
       stores = d .stores;
-      homeless = d .homeless;
+      noBinTakes = d .noBinTakes;
     }
 
--- used bytes, where one block of `before` bytes in all becomes one of `after`
+-- used bytes when a chunk in use of `before` bytes becomes one of `after`; 0 stands for no chunk
 abbrev pub nowUses : ℕ → ℕ → Draft → Draft
 nowUses before after d = withHeap (withUsed (d .heap) (d .heap .used + after - before)) d
 
--- where two parts of a list meet: the last of xs is followed by the first of ys, and the first of ys preceded by the last of xs
+-- the bin links where xs and ys meet in one list: the forward link of the last of xs and the backward link of the first of ys.
+-- An empty part has no link to write; head and tail are `relist`'s
 abbrev pub followedBy : List ℕ → ℕ → List Store
 followedBy [] v = []
 followedBy (x ∷ xs) v = put (lastOr x xs) nextInBin v ∷ []
@@ -69,7 +70,7 @@ precededBy (y ∷ ys) v = put y previousInBin v ∷ []
 abbrev pub meet : List ℕ → List ℕ → List Store
 meet xs ys = followedBy xs (headOr 0 ys) ++ precededBy ys (lastOr 0 xs)
 
--- bin i has the list cs from now on; head and tail are its first and last, 0 if it is empty
+-- bin i gets the list cs, whose links the stores ss write; head and tail become its first and last member, 0 if it is empty
 abbrev pub relist : ℕ → List ℕ → List Store → Draft → Draft
 relist i cs ss d =
     record {
@@ -77,10 +78,10 @@ relist i cs ss d =
       chain = d .chain;
       lists = λ j. cond (eqb j i) cs (d .lists j);
       stores = d .stores ++ ss;
-      homeless = d .homeless;
+      noBinTakes = d .noBinTakes;
     }
 
--- the chunk at c leaves bin i: what stood before it and after it meet
+-- the chunk at c leaves bin i: its two neighbours in the list are linked to each other
 unfoldable pub leave : ℕ → ℕ → Draft → Draft
 leave i c d =
     let xs = upTo (eqb c) (d .lists i) in
@@ -92,37 +93,37 @@ unfoldable pub putBetween : ℕ → List ℕ → ℕ → List ℕ → Draft → 
 putBetween i xs c ys d =
     relist i (xs ++ c ∷ ys) (meet xs (c ∷ []) ++ meet (c ∷ []) ys ++ put c bin (8 * i) ∷ []) d
 
--- at the head in a bin of the small array, at the tail in any other
+-- put at the head in a bin of the small array (last in, first out), at the tail in any other (first in, first out)
 unfoldable pub putInto : ℕ → ℕ → Draft → Draft
 putInto i c d =
     cond (ltb i (smallBins (tableOf (d .heap))))
     (putBetween i [] c (d .lists i) d)
     (putBetween i (d .lists i) c [] d)
 
--- a chunk leaves the bin that is named; there may be none
+-- a chunk leaves the bin that `binOf` answered, if it answered one
 abbrev pub leaves : Entry → Binned → Draft → Draft
 leaves e (Bin i) d = leave i (e .place) d
 leaves e NoBin d = d
 
--- an ordinary chunk leaves its bin, which is that of its size
+-- an ordinary chunk leaves the bin of its size
 unfoldable pub leaveBin : Entry → Draft → Draft
 leaveBin e d = leaves e (binOf (tableOf (d .heap)) (e .size)) d
 
--- a chunk is put into the bin that is named; where there is none, the draft says so
+-- a chunk is put into the bin that `binOf` answered; without one the draft notes it, for refusal 9
 abbrev pub isPut : Entry → Binned → Draft → Draft
 isPut e (Bin i) d = putInto i (e .place) d
 isPut e NoBin d =
-    record { heap = d .heap; chain = d .chain; lists = d .lists; stores = d .stores; homeless = true }
+    record { heap = d .heap; chain = d .chain; lists = d .lists; stores = d .stores; noBinTakes = true }
 
 -- a free chunk is put into the bin of its size
 unfoldable pub putInBin : Entry → Draft → Draft
 putInBin e d = isPut e (binOf (tableOf (d .heap)) (e .size)) d
 
--- the bin words of a chunk that is in no bin
+-- the bin links and the bin word of a chunk in no bin: all 0
 abbrev pub noBinWords : ℕ → List Store
 noBinWords c = put c nextInBin 0 ∷ put c previousInBin 0 ∷ put c bin 0 ∷ []
 
--- a free chunk takes its place: as the donor or the top, out of bins, or else in its bin
+-- a free chunk settles: it becomes the donor or the top, which are in no bin, or is put into its bin
 unfoldable pub settle : Kind → Entry → Draft → Draft
 settle Donor e d = alsoWrites (noBinWords (e .place)) (withHeap (withDonor (d .heap) (e .place)) d)
 settle Top e d = alsoWrites (noBinWords (e .place)) (withHeap (withTop (d .heap) (e .place)) d)
@@ -131,19 +132,19 @@ settle Start e d = d
 settle InUse e d = d
 settle End e d = d
 
--- the size word, which only a free chunk has
+-- the store of the size word, which only a free chunk has
 abbrev pub sizeStores : Entry → Bool → List Store
 sizeStores e true = put (e .place) size (e .size) ∷ []
 sizeStores e false = []
 
--- the links of neighbouring chunks es, the first of which follows a chunk at p; a free one has its size word too
+-- the stores of the headers of neighbouring chunks es, where the chunk before them is at p: both links, and a free one's size
 abbrev pub headers : ℕ → List Entry → List Store
 headers p [] = []
 headers p (e ∷ es) =
-    put (e .place) forward (blockEnd e) ∷ put (e .place) backward (p + e .flags)
+    put (e .place) forward (chunkEnd e) ∷ put (e .place) backward (p + e .flags)
     ∷ sizeStores e (eqb (e .flags) unused) ++ headers (e .place) es
 
--- the chain is `low`, then the new chunks es, then `high`: their headers are written, and the backward link of the chunk above them
+-- the chain becomes `low`, then the new chunks es, then `high`: the headers of es are written, and the backward link of the chunk above them
 unfoldable pub relink : List Entry → List Entry → List Entry → Draft → Draft
 relink low es high d =
     let below = lastOr outside low in
@@ -155,7 +156,7 @@ relink low es high d =
       stores =
           d .stores ++ headers (below .place) es
           ++ put (above .place) backward (lastOr below es .place + above .flags) ∷ [];
-      homeless = d .homeless;
+      noBinTakes = d .noBinTakes;
     }
 
 -- the chain at one of its chunks: what is below it, the chunk, what is above it
@@ -164,7 +165,7 @@ pub record Spot : Type 0 where
   pub here : Entry
   pub high : List Entry
 
--- at the first chunk for which a test holds
+-- the spot of the first chunk for which a test holds; `outside` if there is none
 abbrev pub spot : (Entry → Bool) → List Entry → Spot
 spot p es =
     record { low = upTo p es; here = headOr outside (keep p es); high = past p es }

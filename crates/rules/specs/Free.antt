@@ -13,11 +13,12 @@ use Rattle.rules.specs.Draft.{Draft, asRead, Spot, spot, nowUses}
 use Rattle.rules.specs.Join.{release}
 use Rattle.rules.specs.Outcome.{Outcome, Refusals, judged, heapFails, made, changeOf}
 
--- there is a live block at b: it is found on the chain, and no word before it is believed
+-- there is a live block at b. The chain is searched for it and the word before b is not trusted: on a double free
+-- it may be a stale header that still says in use
 abbrev pub isLive : Draft → ℕ → Bool
 isLive d b = any (holdsBlock (d .heap) b) (d .chain)
 
--- the chain at its chunk
+-- the chain at the chunk of that block
 abbrev pub blockSpot : Draft → ℕ → Spot
 blockSpot d b = spot (holdsBlock (d .heap) b) (d .chain)
 
@@ -27,19 +28,19 @@ freeBlock b d =
     let s = blockSpot d b in
     nowUses (s .here .size) 0 (release (s .low) (s .here) (s .high) d)
 
--- block 0 is accepted and nothing is done
+-- block 0 is accepted and changes nothing
 abbrev pub freedFrom : Draft → ℕ → Draft
 freedFrom d b = cond (eqb b 0) d (freeBlock b d)
 
--- the refusals in their order, after the one for a heap that fails
+-- the refusals in their order, behind `fails`, that of a heap that fails
 abbrev pub freeRefusals : Bool × Refusal → Draft → ℕ → Refusals
 freeRefusals fails d b =
     fails
     ∷ (not (eqb b 0) && not (isLive d b), NotLive)
-    ∷ (freedFrom d b .homeless, NoBinTakes)
+    ∷ (freedFrom d b .noBinTakes, NoBinTakes)
     ∷ []
 
--- what an accepted free makes: used bytes fall by the chunk's size, and by none for block 0
+-- the outcome of an accepted free: used bytes fall by the chunk's size, for block 0 by nothing
 abbrev pub freed : Draft → ℕ → Outcome
 freed d b = made (Returned (changeOf (cond (eqb b 0) 0 (blockSpot d b .here .size)) 0)) (freedFrom d b)
 

@@ -1,4 +1,4 @@
--- Joining, and giving a chunk back (document 01, "The calls": Free).
+-- Joining a chunk with its free neighbours (coalescing), and giving it back (document 01, "The calls": Free).
 use mathlib.Core.Bool.{cond, _&&_}
 use mathlib.Core.List.{List, [], _∷_, _++_}
 use Prim.Native.Nat.{_-_}
@@ -7,12 +7,12 @@ use Rattle.lists.specs.Lists.{headOr, lastOr, butLast}
 use Rattle.record.specs.declared.heap.Heap.{Heap}
 use Rattle.record.specs.declared.kinds.Kind.{Kind}
 use Rattle.record.specs.declared.kinds.Kind.the-variants.{Start, InUse, Ordinary, Donor, Top, End}
-use Rattle.rules.specs.Shape.{Entry, entry}
-use Rattle.rules.specs.Kinds.{kindOf, ordinaryKind, freeKind, unused, blockEnd, outside}
+use Rattle.rules.specs.Shape.{Entry, entry, chunkEnd}
+use Rattle.rules.specs.Kinds.{kindOf, ordinaryKind, freeKind, unused, outside}
 use Rattle.rules.specs.Draft.{Draft, leaveBin, relink, settle}
 
--- a chunk to be freed, joined with its neighbours: the chain below, the joined chunk and what it becomes, the chain above,
--- and the ordinary chunks that it swallowed, which leave their bins, the lower one first
+-- what joining gives: the chain below the joined chunk, that chunk and its kind, the chain above it,
+-- and the ordinary chunks that it contains, which have to leave their bins, the lower one first
 pub record Joined : Type 0 where
   pub low : List Entry
   pub here : Entry
@@ -20,7 +20,7 @@ pub record Joined : Type 0 where
   pub high : List Entry
   pub leaving : List Entry
 
--- a joining with donor or top is the new donor or top
+-- the kind of a chunk that joined one of this kind above it: the new donor, the new top, or ordinary
 abbrev pub joinedAs : Kind → Kind
 joinedAs Donor = Donor
 joinedAs Top = Top
@@ -29,8 +29,8 @@ joinedAs Start = Ordinary
 joinedAs InUse = Ordinary
 joinedAs End = Ordinary
 
--- with merging on an ordinary chunk just below joins, then an ordinary, donor or top chunk just above;
--- a donor below is not ordinary, so nothing joins it
+-- with merging on, an ordinary chunk just below joins, then an ordinary, donor or top chunk just above.
+-- Nothing joins a donor below: it is not ordinary
 unfoldable pub joining : Heap → List Entry → Entry → List Entry → Joined
 joining h low e high =
     let below = lastOr outside low in
@@ -38,7 +38,7 @@ joining h low e high =
     let down = h .merge && ordinaryKind (kindOf h below) in
     let up = h .merge && freeKind (kindOf h above) in
     let from = cond down (below .place) (e .place) in
-    let to = cond up (blockEnd above) (blockEnd e) in
+    let to = cond up (chunkEnd above) (chunkEnd e) in
     record {
       low = cond down (butLast low) low;
       here = entry from (to - from) unused;
@@ -52,8 +52,8 @@ abbrev pub leaveBins : List Entry → Draft → Draft
 leaveBins [] d = d
 leaveBins (e ∷ es) d = leaveBins es (leaveBin e d)
 
--- the chunk e between `low` and `high` is given back: what it joins leaves its bin, the result is linked in
--- and becomes donor or top or goes to its bin. No other header word is written
+-- the chunk e between `low` and `high` is given back: the chunks that it joins leave their bins; the result is linked
+-- into the chain and settles as donor, as top or in its bin. Headers inside the result stay as stale words
 unfoldable pub release : List Entry → Entry → List Entry → Draft → Draft
 release low e high d =
     let j = joining (d .heap) low e high in

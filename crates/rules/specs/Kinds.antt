@@ -1,29 +1,30 @@
--- The kinds of a chunk, and blocks (document 01, "Words, chunks, blocks").
--- That a block starts eight bytes above its chunk is said here and nowhere else in the rules.
+-- The kind of a chunk, and its block (document 01, "Words, chunks, blocks").
+-- The eight bytes between a chunk's place and its block's stand in `overhead` and nowhere else in the rules.
 use mathlib.Core.Bool.{Bool, true, false, cond}
 use Prim.Native.Nat.{ℕ, _+_, _-_, _/_, _%_}
 use lib.Dec.{eqb}
 use Rattle.record.specs.declared.heap.Heap.{Heap}
 use Rattle.record.specs.declared.kinds.Kind.{Kind}
 use Rattle.record.specs.declared.kinds.Kind.the-variants.{Start, InUse, Ordinary, Donor, Top, End}
-use Rattle.rules.specs.Shape.{Entry, entry}
+use Rattle.rules.specs.Shape.{Entry, entry, chunkEnd}
 
--- flags of a free chunk and of one in use
+-- the flags of a free chunk and of one in use
 abbrev pub unused : ℕ
 unused = 0
 
 abbrev pub used : ℕ
 used = 1
 
--- the size of each end, which is a header of two words
+-- the size of the start chunk and of the end chunk: two header words and no block
 abbrev pub endSize : ℕ
 endSize = 8
 
--- the lowest flag says in use
+-- bit 0 means in use
 unfoldable pub inUse : Entry → Bool
 inUse e = eqb (e .flags % 2) 1
 
--- the ends by their places, a chunk in use by its flag, top and donor by the record; all other free chunks are ordinary
+-- start and end are known by their places, a chunk in use by its flag, top and donor by the record;
+-- every other free chunk is ordinary
 unfoldable pub kindAt : ℕ → ℕ → ℕ → Entry → Kind
 kindAt bytes donor top e =
     cond (eqb (e .place) 0) Start
@@ -36,7 +37,7 @@ kindAt bytes donor top e =
 abbrev pub kindOf : Heap → Entry → Kind
 kindOf h e = kindAt (h .bytes) (h .donor .0) (h .top .0) e
 
--- which kinds are ordinary; free; those of chunks with a live block
+-- tests of a kind: ordinary; free; holding a live block
 abbrev pub ordinaryKind : Kind → Bool
 ordinaryKind Start = false
 ordinaryKind InUse = false
@@ -61,7 +62,7 @@ liveKind Donor = false
 liveKind Top = false
 liveKind End = false
 
--- an ordinary chunk; one of the three free kinds; a chunk with a live block
+-- the same tests of a chunk
 abbrev pub ordinary : Heap → Entry → Bool
 ordinary h e = ordinaryKind (kindOf h e)
 
@@ -79,18 +80,18 @@ abbrev pub blockOf : Entry → ℕ
 blockOf e = e .place + overhead
 
 abbrev pub blockEnd : Entry → ℕ
-blockEnd e = e .place + e .size
+blockEnd e = chunkEnd e
 
 abbrev pub blockWords : Entry → ℕ
 blockWords e = (blockEnd e - blockOf e) / 4
 
--- the chunk at a place, and the chunk of a live block at a place
+-- the chunk is at c; the chunk holds the live block at b
 abbrev pub isAt : ℕ → Entry → Bool
 isAt c e = eqb (e .place) c
 
 abbrev pub holdsBlock : Heap → ℕ → Entry → Bool
 holdsBlock h b e = cond (live h e) (eqb (blockOf e) b) false
 
--- what stands for a chunk where the chain has none: nothing joins it and it holds nothing
+-- the entry that stands in where a list has no chunk: it is marked in use, so nothing joins it, and holds no bytes
 abbrev pub outside : Entry
 outside = entry 0 0 used

@@ -11,14 +11,14 @@ use Rattle.rules.specs.Shape.{shape}
 use Rattle.rules.specs.Check.{passes, countsOf}
 use Rattle.rules.specs.Outcome.{Outcome, judged, heapFails, unchanged}
 
--- on or off, and no other field
+-- sets the field and changes nothing else
 unfoldable pub setMerge : List ℕ → Heap → Bool → Outcome
 setMerge ws h on = judged h (heapFails ws h ∷ []) (unchanged (withMerge h on) Done)
 
--- the four counts, or refusal 4
+-- the check's answer: the four counts, or refusal 4
 unfoldable pub checked : List ℕ → Heap → Answer
 checked ws h = cond (passes ws h) (Counted (countsOf h (shape ws (h .bytes)))) (Refused HeapFails)
 
--- as a call: nothing is changed
+-- the check as a call, which changes nothing
 unfoldable pub check : List ℕ → Heap → Outcome
 check ws h = unchanged h (checked ws h)

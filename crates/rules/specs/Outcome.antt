@@ -14,13 +14,13 @@ use Rattle.rules.specs.Kinds.{blockOf}
 use Rattle.rules.specs.Check.{passes}
 use Rattle.rules.specs.Draft.{Draft}
 
--- all that a rule says of a call
+-- what a rule says of a call
 pub record Outcome : Type 0 where
   pub answer : Answer
   pub heap : Heap
   pub stores : List Store
 
--- a refusal: its number, the record as it came (setup hands an empty one in here), no word written
+-- a refusal: the record as it came (setup passes an empty one), and no word written
 abbrev pub refused : Heap → Refusal → Outcome
 refused h r = record { answer = Refused r; heap = h; stores = [] }
 
@@ -28,11 +28,11 @@ refused h r = record { answer = Refused r; heap = h; stores = [] }
 abbrev pub unchanged : Heap → Answer → Outcome
 unchanged h a = record { answer = a; heap = h; stores = [] }
 
--- an accepted call, with what it made of the heap
+-- an accepted call that made the draft d
 abbrev pub made : Answer → Draft → Outcome
 made a d = record { answer = a; heap = d .heap; stores = d .stores }
 
--- a call's refusals in their order, each with its test: the first that holds is given, else the call is accepted
+-- a call's refusals in their order, each with its test: the first whose test holds is given; if none does, the call is accepted
 abbrev pub Refusals : Type 0
 Refusals = List (Bool × Refusal)
 
@@ -40,14 +40,14 @@ abbrev pub judged : Heap → Refusals → Outcome → Outcome
 judged h [] o = o
 judged h (t ∷ ts) o = elim (t .0) [ true ↦ refused h (t .1) | false ↦ judged h ts o ]
 
--- refusal 4, before every other of every call but setup
+-- refusal 4, the first of every call but setup
 abbrev pub heapFails : List ℕ → Heap → Bool × Refusal
 heapFails ws h = (not (passes ws h), HeapFails)
 
--- the signed change in used bytes, where a chunk of `before` bytes in use becomes one of `after`
+-- the signed change in used bytes when a chunk in use of `before` bytes becomes one of `after`
 abbrev pub changeOf : ℕ → ℕ → ℤ
 changeOf before after = pos after -ℤ pos before
 
--- the block of a chunk is granted in place of one whose chunk had `before` bytes
+-- the block of the chunk e is granted, in place of a block whose chunk had `before` bytes (0 for a new block)
 abbrev pub grants : ℕ → Entry → Answer
 grants before e = Granted (record { 0 = blockOf e }) (changeOf before (e .size))

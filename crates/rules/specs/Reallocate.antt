@@ -9,8 +9,8 @@ use Rattle.record.specs.declared.answers.Refusal.the-variants.{BlockSize, NotLi
 use Rattle.record.specs.declared.heap.Heap.{Heap}
 use Rattle.record.specs.Table.{least}
 use Rattle.region.specs.Words.{Store, put, word, forward}
-use Rattle.rules.specs.Shape.{Entry, entry}
-use Rattle.rules.specs.Kinds.{overhead, blockOf, blockEnd, blockWords, used}
+use Rattle.rules.specs.Shape.{Entry, entry, chunkEnd}
+use Rattle.rules.specs.Kinds.{overhead, blockOf, blockWords, used}
 use Rattle.rules.specs.Serve.{need, permitted, nowhere}
 use Rattle.rules.specs.Draft.{Draft, asRead, alsoWrites, Spot, nowUses}
 use Rattle.rules.specs.Cut.{Grant}
@@ -19,24 +19,24 @@ use Rattle.rules.specs.Outcome.{Outcome, Refusals, judged, heapFails, ma
 use Rattle.rules.specs.Allocate.{allocate, sourceOf, grant}
 use Rattle.rules.specs.Free.{isLive, blockSpot, freeBlock}
 
--- the whole old block, copied to the start of the new one
+-- the stores that copy the whole old block to the start of the new one
 abbrev pub copied : List ℕ → Entry → Entry → List Store
 copied ws old new =
     map (λ k. put (blockOf new) k (word ws (blockOf old) k)) (numbersFrom 0 (blockWords old))
 
--- the chunk keeps n bytes; the tail above them is split off and given back. The kept chunk's forward link is written
+-- the chunk keeps n bytes, and its forward link leads to their end; the tail above is split off and given back
 abbrev pub shrunk : Spot → ℕ → Draft → Grant
 shrunk s n d =
     let e = s .here in
     let kept = entry (e .place) n used in
     let tail = entry (e .place + n) (e .size - n) used in
-    let split = alsoWrites (put (kept .place) forward (blockEnd kept) ∷ []) d in
+    let split = alsoWrites (put (kept .place) forward (chunkEnd kept) ∷ []) d in
     record {
       granted = kept;
       draft = nowUses (e .size) n (release (s .low ++ kept ∷ []) tail (s .high) split);
     }
 
--- a new block is granted, the old one copied to its start and given back
+-- a new block is granted; the old one is copied to its start and given back
 abbrev pub moved : List ℕ → Spot → ℕ → Draft → Grant
 moved ws s n d =
     let g = grant n d in
@@ -45,17 +45,17 @@ moved ws s n d =
       draft = freeBlock (blockOf (s .here)) (alsoWrites (copied ws (s .here) (g .granted)) (g .draft));
     }
 
--- a chunk that has n bytes loses a tail of 24 or more and else stays as it is; one that has not is moved
+-- a block whose chunk has fewer than n bytes moves; a chunk with n + 24 or more gives its tail back; any other stays as it is
 unfoldable pub resized : List ℕ → Spot → ℕ → Draft → Grant
 resized ws s n d =
     cond (ltb (s .here .size) n) (moved ws s n d)
     (cond (leb (n + least) (s .here .size)) (shrunk s n d) (record { granted = s .here; draft = d }))
 
--- the live block at b gets z bytes
+-- the live block at b gets room for z bytes
 abbrev pub resizing : List ℕ → Draft → ℕ → ℕ → Grant
 resizing ws d b z = resized ws (blockSpot d b) (need overhead z) d
 
--- the refusals in their order, after the one for a heap that fails
+-- the refusals in their order, behind `fails`, that of a heap that fails
 abbrev pub resizeRefusals : Bool × Refusal → List ℕ → Draft → ℕ → ℕ → Refusals
 resizeRefusals fails ws d b z =
     let n = need overhead z in
@@ -63,10 +63,10 @@ resizeRefusals fails ws d b z =
     ∷ (not (permitted z), BlockSize)
     ∷ (not (isLive d b), NotLive)
     ∷ (ltb (blockSpot d b .here .size) n && nowhere (sourceOf n d), NoRoom)
-    ∷ (resizing ws d b z .draft .homeless, NoBinTakes)
+    ∷ (resizing ws d b z .draft .noBinTakes, NoBinTakes)
     ∷ []
 
--- what an accepted one makes of a live block
+-- the outcome of an accepted call on a live block
 abbrev pub resizedTo : List ℕ → Draft → ℕ → ℕ → Outcome
 resizedTo ws d b z =
     let g = resizing ws d b z in

@@ -1,4 +1,4 @@
--- Need, "can serve", and from where a need is met (document 01, "The calls": Allocate).
+-- The need of a request, the chunks that can serve it, and the one that is chosen (document 01, "The calls": Allocate).
 use mathlib.Core.Bool.{Bool, true, false, not, cond, _&&_}
 use mathlib.Core.List.{List, [], _∷_}
 use Prim.Native.Nat.{ℕ, suc, _+_, _*_, _-_, _/_, max}
@@ -18,11 +18,11 @@ use Rattle.rules.specs.Kinds.{inUse, isAt, outside}
 abbrev pub upToEight : ℕ → ℕ
 upToEight n = (n + 7) / 8 * 8
 
--- the need of z bytes in a chunk that has `above` bytes before its block: up to a multiple of 8, at least 24
+-- the need: the chunk size for z bytes, with `above` bytes of header before the block; a multiple of 8, at least 24
 abbrev pub need : ℕ → ℕ → ℕ
 need above z = max least (upToEight (z + above))
 
--- a permitted size
+-- the sizes that may be asked for: 1 to 65,488 bytes
 abbrev pub mostBytes : ℕ
 mostBytes = 65488
 
@@ -30,7 +30,7 @@ abbrev pub permitted : ℕ → Bool
 permitted z = leb 1 z && leb z mostBytes
 
 -- The chunk e can serve n: ordinary with at least n bytes, the top with at least n + 24, the donor with as many if n is small.
--- An entry of the chain, the table and the places of donor and top decide it, and nothing else.
+-- Only the entry, the table and the places of donor and top decide it.
 unfoldable pub serves : List ℕ → ℕ → ℕ → ℕ → Entry → Bool
 serves table donor top n e =
     not (inUse e)
@@ -38,19 +38,19 @@ serves table donor top n e =
     (cond (eqb (e .place) donor) (leb (n + least) (e .size) && small table n)
     (leb n (e .size)))
 
--- the chunk at the place c of a bin's list; there is none at 0
+-- the chunk at c as a source; 0 means that the list had none
 abbrev pub fromBin : ℕ → Source
 fromBin c = cond (eqb c 0) Nowhere (FromBin (at c))
 
--- the size of the chunk at c on the chain
+-- the size of the chunk at c, read from the chain
 abbrev pub sizeOn : List Entry → ℕ → ℕ
 sizeOn es c = headOr outside (keep (isAt c) es) .size
 
--- the first chunk of a list, in list order, that has at least n bytes
+-- first fit: the first chunk of a list, in list order, that has at least n bytes
 abbrev pub firstFit : List Entry → ℕ → List ℕ → Source
 firstFit es n cs = fromBin (headOr 0 (keep (λ c. leb n (sizeOn es c)) cs))
 
--- try 1: the bin of n
+-- try 1: first fit in the bin of n
 abbrev pub ownBin : List Entry → (ℕ → List ℕ) → ℕ → Binned → Source
 ownBin es lists n (Bin i) = firstFit es n (lists i)
 ownBin es lists n NoBin = Nowhere
@@ -77,13 +77,13 @@ firstOf (FromDonor ∷ ss) = FromDonor
 firstOf (FromTop ∷ ss) = FromTop
 firstOf (Nowhere ∷ ss) = firstOf ss
 
--- the four tries, in their order
+-- the source for n: the four tries in order
 unfoldable pub chosen : Heap → List Entry → (ℕ → List ℕ) → ℕ → Source
 chosen h es lists n =
     let own = binOf (tableOf h) n in
     firstOf (ownBin es lists n own ∷ tryDonor h es n ∷ largerBin h lists own ∷ tryTop h es n ∷ [])
 
--- nothing can serve
+-- no source was found
 abbrev pub nowhere : Source → Bool
 nowhere (FromBin c) = false
 nowhere FromDonor = false

@@ -16,16 +16,16 @@ use Rattle.rules.specs.Check.{fewestWords, mostWords}
 use Rattle.rules.specs.Draft.{headers, noBinWords}
 use Rattle.rules.specs.Outcome.{Outcome, Refusals, judged}
 
--- bytes that are no donor's: the ends and a top chunk of the least size
-abbrev pub kept : ℕ
-kept = 40
+-- the bytes that the donor must leave: start, end and a top chunk of the least size
+abbrev pub endsAndTop : ℕ
+endsAndTop = 40
 
--- a donor's size is 0, for none, or a multiple of 8 from 24 on that leaves those bytes
+-- a donor's size is 0 (no donor), or a multiple of 8, at least 24, that leaves those bytes
 abbrev pub donorFits : ℕ → ℕ → Bool
 donorFits bytes donor =
-    eqb donor 0 || (leb least donor && eqb (donor % 8) 0 && leb donor (bytes - kept))
+    eqb donor 0 || (leb least donor && eqb (donor % 8) 0 && leb donor (bytes - endsAndTop))
 
--- where the top chunk starts: above the start chunk, and above the donor if there is one
+-- where the top chunk starts: above the start chunk and the donor, if there is one
 abbrev pub firstTop : ℕ → ℕ
 firstTop donor = endSize + donor
 
@@ -44,7 +44,7 @@ fresh bytes table donor merge =
       used = 0;
     }
 
--- the donor, if its size is not 0, with its bin words
+-- the donor as an entry, and the stores of its bin words; nothing if its size is 0
 abbrev pub donorChunk : ℕ → List Entry
 donorChunk donor = cond (eqb donor 0) [] (entry endSize donor unused ∷ [])
 
@@ -60,7 +60,7 @@ firstHeaders bytes donor =
     ++ donorBinWords donor ++ noBinWords top
     ++ put end forward 0 ∷ put end backward (top + used) ∷ []
 
--- its refusals, in their order
+-- the refusals, in their order
 abbrev pub setupRefusals : List ℕ → List ℕ → ℕ → Refusals
 setupRefusals ws table donor =
     (ltb (length ws) fewestWords || ltb mostWords (length ws), RegionLength)
@@ -68,7 +68,7 @@ setupRefusals ws table donor =
     ∷ (not (donorFits (heapBytes (length ws)) donor), DonorSize)
     ∷ []
 
--- what an accepted one makes of a region with so many heap bytes
+-- the outcome of an accepted setup, on a region with so many heap bytes
 abbrev pub opened : ℕ → List ℕ → ℕ → Bool → Outcome
 opened bytes table donor merge =
     record { answer = Done; heap = fresh bytes table donor merge; stores = firstHeaders bytes donor }

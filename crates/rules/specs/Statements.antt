@@ -1,4 +1,4 @@
--- What each public call states: its reply and the region's words afterwards are the rule's outcome, and nothing else.
+-- What each public call ensures: its reply and the region's words afterwards are the rule's outcome.
 -- A call's `ensures` and the theorem that its outcome is determined cite the same proposition.
 use mathlib.Core.Path.{_≡_}
 use mathlib.Core.Bool.{Bool}
@@ -22,7 +22,7 @@ pub record Left : Type 0 where
   pub heap : Heap
   pub words : List ℕ
 
--- by an outcome on the words ws; by a reply, with the words then
+-- what an outcome leaves of the words ws; what a reply leaves, with the words afterwards
 abbrev pub leftBy : List ℕ → Outcome → Left
 leftBy ws o = record { answer = o .answer; heap = o .heap; words = written ws (o .stores) }
 
@@ -33,7 +33,7 @@ replied r ws = record { answer = r .answer; heap = r .heap; words = ws }
 abbrev pub Meets : List ℕ → Outcome → Reply → List ℕ → Type 0
 Meets before o r after = replied r after ≡ leftBy before o
 
--- of the nine calls, each by its rule
+-- the nine calls, each by its rule
 abbrev pub SetsUp : List ℕ → List ℕ → ℕ → Bool → Reply → List ℕ → Type 0
 SetsUp ws table donor merge = Meets ws (setup ws table donor merge)
 

@@ -9,21 +9,21 @@ use Rattle.rules.specs.Kinds.{blockOf, blockEnd}
 use Rattle.rules.specs.Shape.{Entry}
 use Rattle.seek.specs.declared.Place.{Place}
 use Rattle.seek.specs.declared.Sought.{Sought}
-use Rattle.seek.specs.declared.Sought.the-variants.{Found, Nowhere}
+use Rattle.seek.specs.declared.Sought.the-variants.{Found, NotFound}
 
 -- the chunk e, above one at p
 abbrev pub placed : ℕ → Entry → Place
 placed p e = record { before = at p; chunk = at (e .place); end = blockEnd e; flags = e .flags }
 
 -- the first of es that meets the test, where the chunk below es is at p
-unfoldable pub soughtIn : (Entry → Bool) → ℕ → List Entry → Sought
-soughtIn q p [] = Nowhere
-soughtIn q p (e ∷ es) = cond (q e) (Found (placed p e)) (soughtIn q (e .place) es)
+unfoldable pub soughtM : (Entry → Bool) → ℕ → List Entry → Sought
+soughtM q p [] = NotFound
+soughtM q p (e ∷ es) = cond (q e) (Found (placed p e)) (soughtM q (e .place) es)
 
 -- a chunk with these flags at c has a live block
-unfoldable pub liveAt : ℕ → ℕ → ℕ → Bool
-liveAt bytes c flags = not (eqb c 0) && not (eqb (c + 8) bytes) && eqb (flags % 2) 1
+unfoldable pub liveM : ℕ → ℕ → ℕ → Bool
+liveM bytes c flags = not (eqb c 0) && not (eqb (c + 8) bytes) && eqb (flags % 2) 1
 
 -- the chunk e has a live block, and it is at b
-unfoldable pub hasBlock : ℕ → ℕ → Entry → Bool
-hasBlock bytes b e = cond (liveAt bytes (e .place) (e .flags)) (eqb (blockOf e) b) false
+unfoldable pub hasBlockM : ℕ → ℕ → Entry → Bool
+hasBlockM bytes b e = cond (liveM bytes (e .place) (e .flags)) (eqb (blockOf e) b) false

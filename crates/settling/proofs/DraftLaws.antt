@@ -2,20 +2,19 @@
 -- a chunk is put into its bin. After each step the books are those of the draft. Assumes nothing.
 use mathlib.Core.Path.{_≡_, refl}
 use mathlib.Core.Logic.{_≢_}
-use mathlib.Core.Bool.{Bool, true, false, cond}
 use mathlib.Core.List.{List, [], _∷_, _++_}
 use Prim.Native.Nat.{ℕ, _+_, _-_, _/_, _%_, _^_, _≤_, _<_}
 use native.Mathlib.Decide.{decLt}
 use native.Mathlib.Nat.{add-zero}
 use native.Mathlib.Omega.{arith}
-use lib.Dec.{eqb, ltb}
-use lib.ListN.{length, getD, length-take}
+use lib.Dec.{eqb}
+use lib.ListN.{length, length-take}
 use Rattle.lists.specs.Lists.{Mem, headOr, lastOr, upTo, past}
 use Rattle.record.specs.declared.heap.Heap.{Heap}
 use Rattle.record.specs.declared.kinds.Kind.{Kind}
 use Rattle.record.specs.declared.kinds.Kind.the-variants.{Start, InUse, Ordinary, Donor, Top, End}
 use Rattle.record.specs.declared.table.Binned.the-variants.{Bin}
-use Rattle.record.specs.Heap.{tableOf, with, withEnds}
+use Rattle.record.specs.Heap.{tableOf, summaryOf, withSummary, withEnds}
 use Rattle.record.specs.Table.{smallBins, binOf}
 use Rattle.record.proofs.TableLaws.{bin-from}
 use Rattle.region.specs.Words.{Store, put, written, backward, forward, size}
@@ -24,18 +23,17 @@ use Rattle.headers.specs.Headers.{aboveWords, freeWords}
 use Rattle.rules.specs.Shape.{Entry, entry, binList}
 use Rattle.rules.specs.Kinds.{unused, outside}
 use Rattle.rules.specs.Check.{Passes}
-use Rattle.rules.specs.Draft.{Draft, asRead, meet, leave, leaveBin, putBetween, putInto, putInBin, noBinWords, relink, settle}
+use Rattle.rules.specs.Draft.{Draft, asRead, meet, leave, leaveBin, putBetween, putInBin, noBinWords, relink, settle}
 use Rattle.rules.specs.Join.{joinedAs}
-use Rattle.bins.specs.Books.{Books, books, leaveM, putM, putIntoM}
-use Rattle.bins.proofs.RunsLaws.{Node, PassBy}
-use Rattle.bins.proofs.BooksLaws.{Far, putStores}
-use Rattle.bins.proofs.WayLaws.{OnWay, way-begins, way-keeps, way-leaves, way-left-far, way-stays, way-remains, way-puts-head, way-puts-tail}
-use Rattle.settling.specs.Settling.{putBinnedM, putInBinM, alsoWritten, settleM, donorAfter, topAfter}
-use Rattle.settling.proofs.LinkLaws.{linkStores, relink-written}
-
--- the words and the ends of a draft
-abbrev pub booksOf : List ℕ → Draft → Books
-booksOf ws d = books (written ws (d .stores)) (d .heap .heads) (d .heap .tails)
+use Rattle.books.specs.Books.{Books, books, booksOf}
+use Rattle.bins.specs.Bins.{leaveM}
+use Rattle.bins.proofs.BinsMeaning.{member-leaves, put-into-is}
+use Rattle.books.proofs.SegmentLaws.{Node, PassBy}
+use Rattle.books.proofs.BooksLaws.{Far, putStores, putAt}
+use Rattle.books.proofs.WayLaws.{OnWay, way-begins, way-keeps, way-leaves, way-left-far, way-stays, way-remains}
+use Rattle.settling.specs.Settling.{arrival, putBinnedM, putInBinM, alsoWritten, settleM, settledM}
+use Rattle.drafts.proofs.PutLaws.{put-between}
+use Rattle.drafts.proofs.LinkLaws.{linkStores, relink-written}
 
 -- a header at y is not above the chunk at x, or stands clear above that one's header
 abbrev pub Clears : ℕ → ℕ → Type 0
@@ -65,15 +63,14 @@ pub record Follows (ws : List ℕ) (h : Heap) (d : Draft) : Type 0 where
   pub from : (j c : ℕ) → j < h .bins → Mem c (d .lists j) → Mem c (binList ws h j)
   pub table : tableOf (d .heap) ≡ tableOf h
   pub heap : d .heap ≡ withEnds h (d .heap .heads) (d .heap .tails)
-  pub housed : d .homeless ≡ false
 
-pub begins : (ws : List ℕ) (h : Heap) → Passes ws h → Follows ws h (asRead ws h)
+pub follows-begins : (ws : List ℕ) (h : Heap) → Passes ws h → Follows ws h (asRead ws h)
 unfolding asRead
-begins ws h p =
-    record { way = way-begins ws h p; from = λ j c l m. m; table = refl; heap = refl; housed = refl }
+follows-begins ws h p =
+    record { way = way-begins ws h p; from = λ j c l m. m; table = refl; heap = refl }
 
 -- the chunk e leaves its bin, which makes `after` of the draft d
-pub record Gone (ws : List ℕ) (h : Heap) (d : Draft) (e : Entry) (after : Draft) : Type 0 where
+pub record LeavesBin (ws : List ℕ) (h : Heap) (d : Draft) (e : Entry) (after : Draft) : Type 0 where
   pub is : leaveM (booksOf ws d) (e .place) ≡ booksOf ws after
   pub follows : Follows ws h after
   pub stays : (j c : ℕ) → j < h .bins → Mem c (after .lists j) → Mem c (d .lists j)
@@ -82,9 +79,8 @@ pub record Gone (ws : List ℕ) (h : Heap) (d : Draft) (e : Entry) (after : Draf
 
 -- a chunk of s bytes at c takes its place, which makes `after` of a draft with the books b
 pub record Settled (ws : List ℕ) (h : Heap) (b : Books) (k : Kind) (c s : ℕ) (after : Draft) : Type 0 where
-  pub is : settleM b (tableOf h) k c s ≡ booksOf ws after
-  pub housed : after .homeless ≡ false
-  pub heap : after .heap ≡ with h (after .heap .heads) (after .heap .tails) (donorAfter k c (h .donor .0)) (topAfter k c (h .top .0)) (h .merge) (h .used)
+  pub is : settleM b (tableOf h) (arrival k c s) ≡ booksOf ws after
+  pub heap : after .heap ≡ withEnds (withSummary h (settledM (summaryOf h) k c)) (after .heap .heads) (after .heap .tails)
 
 module _ (ws : List ℕ) (h : Heap) (d : Draft) (f : Follows ws h d) where
   module _ (e : Entry) (i : ℕ) (l : i < h .bins) (t : binOf (tableOf h) (e .size) ≡ Bin i) (m : Mem (e .place) (d .lists i)) where
@@ -92,7 +88,7 @@ module _ (ws : List ℕ) (h : Heap) (d : Draft) (f : Follows ws h d) where
     unfolding leaveBin
     leaves-is = rw (f .table, t)
 
-    pub leave-step : Gone ws h d e (leaveBin e d)
+    pub leave-step : LeavesBin ws h d e (leaveBin e d)
     unfolding leave
     leave-step =
         rw leaves-is
@@ -101,14 +97,13 @@ module _ (ws : List ℕ) (h : Heap) (d : Draft) (f : Follows ws h d) where
         let ys = past (eqb (e .place)) (d .lists i) in
         let a = written-append (d .stores) (meet xs ys) ws in
         record {
-          is = rw a (w .0);
+          is = rw a (member-leaves (f .way) i (e .place) l m);
           follows =
               record {
-                way = rw a (w .1);
+                way = rw a w;
                 from = λ j c lj k. f .from j c lj (way-stays (booksOf ws d) (d .lists) (h .bins) (f .way) i (e .place) l m j k);
                 table = f .table;
                 heap = rw (f .heap);
-                housed = f .housed;
               };
           stays = λ j c lj k. way-stays (booksOf ws d) (d .lists) (h .bins) (f .way) i (e .place) l m j k;
           keeps = λ j c ne k. way-remains (booksOf ws d) (d .lists) (h .bins) (f .way) i (e .place) l m j ne k;
@@ -128,7 +123,6 @@ module _ (ws : List ℕ) (h : Heap) (d : Draft) (f : Follows ws h d) where
         from = f .from;
         table = f .table;
         heap = f .heap;
-        housed = f .housed;
       }
 
   -- a free chunk from one place to another is linked in between low and high
@@ -171,43 +165,28 @@ module _ (ws : List ℕ) (h : Heap) (d : Draft) (f : Follows ws h d) where
     node : Node (length (written ws (d .stores))) c
     node = rw length-written gc
 
-    put-into : (i : ℕ) → i < h .bins → (t : Bool)
-        → cond t (putM (booksOf ws d) i 0 c (getD (d .heap .heads) i 0)) (putM (booksOf ws d) i (getD (d .heap .tails) i 0) c 0)
-        ≡ booksOf ws (cond t (putBetween i [] c (d .lists i) d) (putBetween i (d .lists i) c [] d))
+    between-is : (i : ℕ) (xs ys : List ℕ) → putAt (booksOf ws d) i xs c ys ≡ booksOf ws (putBetween i xs c ys d)
     unfolding putBetween
-    put-into i l true =
-        rw (written-append (d .stores) (putStores i [] c (d .lists i)) ws)
-        (way-puts-head (booksOf ws d) (d .lists) (h .bins) (f .way) i c l node far .0)
-    put-into i l false =
-        rw (written-append (d .stores) (putStores i (d .lists i) c []) ws)
-        (way-puts-tail (booksOf ws d) (d .lists) (h .bins) (f .way) i c l node far .0)
+    between-is i xs ys = rw (written-append (d .stores) (putStores i xs c ys) ws)
 
     pub put-step : putInBinM (booksOf ws d) (tableOf h) c s ≡ booksOf ws (putInBin (entry c s u) d)
-    unfolding putInBinM putBinnedM putIntoM putInBin putInto
+    unfolding putInBinM putBinnedM putInBin
     put-step =
         let b = bin-from (tableOf h) (p .table .valid) s large in
         let l : b .0 < h .bins = omega (arith, b .2 .inside, length-take (h .bins) (h .sizes)) in
-        rw (f .table, b .1, f .table) (put-into (b .0) l (ltb (b .0) (smallBins (tableOf h))))
+        rw (f .table, b .1, put-between (b .0) c d, f .table, put-into-is (f .way) (b .0) c l (smallBins (tableOf h)))
+        (between-is (b .0) _ _)
 
-    kept : (i : ℕ) (t : Bool) → let after = cond t (putBetween i [] c (d .lists i) d) (putBetween i (d .lists i) c [] d) in
-        (after .homeless ≡ false) × (after .heap ≡ withEnds h (after .heap .heads) (after .heap .tails))
-    unfolding putBetween
-    kept i true =
-        (f .housed, rw (f .heap))
-    kept i false =
-        (f .housed, rw (f .heap))
-
-    -- a bin takes it, and of the record only the bins' ends change
-    put-keeps : let after = putInBin (entry c s u) d in
-        (after .homeless ≡ false) × (after .heap ≡ withEnds h (after .heap .heads) (after .heap .tails))
-    unfolding putInBin putInto
+    -- of the record only the bins' ends change
+    put-keeps : let after = putInBin (entry c s u) d in after .heap ≡ withEnds h (after .heap .heads) (after .heap .tails)
+    unfolding putInBin putBetween
     put-keeps =
         let b = bin-from (tableOf h) (p .table .valid) s large in
-        rw (f .table, b .1) (kept (b .0) (ltb (b .0) (smallBins (tableOf (d .heap)))))
+        rw (f .table, b .1, put-between (b .0) c d) (rw (f .heap))
 
     put-settles : Settled ws h (booksOf ws d) Ordinary c s (settle Ordinary (entry c s u) d)
     unfolding settleM settle
-    put-settles = record { is = put-step; housed = put-keeps .0; heap = put-keeps .1 }
+    put-settles = record { is = put-step; heap = put-keeps }
 
     cleared-is : books (written (written ws (d .stores)) (noBinWords c)) (d .heap .heads) (d .heap .tails)
         ≡ books (written ws (d .stores ++ noBinWords c)) (d .heap .heads) (d .heap .tails)
@@ -219,16 +198,6 @@ module _ (ws : List ℕ) (h : Heap) (d : Draft) (f : Follows ws h d) where
     settle-step Start = put-settles
     settle-step InUse = put-settles
     settle-step Ordinary = put-settles
-    settle-step Donor =
-        record {
-          is = cleared-is;
-          housed = f .housed;
-          heap = rw (f .heap);
-        }
-    settle-step Top =
-        record {
-          is = cleared-is;
-          housed = f .housed;
-          heap = rw (f .heap);
-        }
+    settle-step Donor = record { is = cleared-is; heap = rw (f .heap) }
+    settle-step Top = record { is = cleared-is; heap = rw (f .heap) }
     settle-step End = put-settles

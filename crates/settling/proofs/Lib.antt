@@ -1,12 +1,3 @@
 pub mod SettlingSteps
+pub mod SettledLaws
 pub mod DraftLaws
-pub mod FillLaws
-pub mod LayoutLaws
-pub mod HeaderLaws
-pub mod LinkLaws
-pub mod HalfwayLaws
-pub mod LeaveLaws
-pub mod OpenLaws
-pub mod SettleLaws
-pub mod PictureLaws
-pub mod SparesLaws

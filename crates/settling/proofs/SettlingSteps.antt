@@ -2,18 +2,26 @@
 use mathlib.Core.Path.{_≡_}
 use mathlib.Core.List.{List}
 use Prim.Native.Nat.{ℕ}
-use Rattle.bins.specs.Books.{Books, putIntoM}
+use Rattle.books.specs.Books.{Books}
+use Rattle.bins.specs.Bins.{putIntoM}
 use Rattle.record.specs.declared.table.Binned.{Binned}
 use Rattle.record.specs.declared.table.Binned.the-variants.{Bin, NoBin}
 use Rattle.record.specs.Table.{TakenBy, smallBins}
 use Rattle.record.proofs.TableLaws.{bin-is}
 use Rattle.settling.specs.Settling.{putBinnedM, putInBinM}
 
-module _ (b : Books) (table : List ℕ) (c size : ℕ) (r : Binned) (taken : TakenBy table size r) where
-  pub put-nowhere : r ≡ NoBin → b ≡ putInBinM b table c size
-  unfolding putInBinM putBinnedM
-  put-nowhere e = rw (← bin-is table size r taken, e)
+-- putting makes `after` of the books b. It is a record, so that the checker finds by itself what was put
+pub record IsPut (b : Books) (table : List ℕ) (c size : ℕ) (after : Books) : Type 0 where
+  pub is : after ≡ putInBinM b table c size
 
-  pub put-binned : {i small : ℕ} {after : Books} → r ≡ Bin i → small ≡ smallBins table → after ≡ putIntoM b small i c → after ≡ putInBinM b table c size
+pub is-put : {b : Books} {table : List ℕ} {c size : ℕ} {after : Books} → IsPut b table c size after → after ≡ putInBinM b table c size
+is-put p = p .is
+
+module _ {b : Books} {table : List ℕ} {c size : ℕ} (r : Binned) (taken : TakenBy table size r) where
+  pub put-nowhere : r ≡ NoBin → IsPut b table c size b
   unfolding putInBinM putBinnedM
-  put-binned e s f = rw (← bin-is table size r taken, e, ← s) f
+  put-nowhere e = record { is = rw (← bin-is table size r taken, e) }
+
+  pub put-binned : {i small : ℕ} {after : Books} → r ≡ Bin i → small ≡ smallBins table → after ≡ putIntoM b small i c → IsPut b table c size after
+  unfolding putInBinM putBinnedM
+  put-binned e s f = record { is = rw (← bin-is table size r taken, e, ← s) f }

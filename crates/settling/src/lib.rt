@@ -1,19 +1,27 @@
 // A free chunk leaves its place or takes it: in the bin of its size, or out of bins as the donor or the top.
-// What becomes of it, whether it is cut or joined, is not known here.
+// Whether it was cut or joined is not known here.
 ghost use mathlib.Core.Path.{_≡_};
-ghost use Rattle.bins.specs.Books.{books};
-ghost use Rattle.settling.specs.Settling.{donorAfter, leaveBinM, putInBinM, settleM, topAfter};
+ghost use Rattle.books.specs.Books.{books};
+ghost use Rattle.settling.specs.Settling.{leaveBinM, putInBinM, settleM, settledM};
 use bins::leave;
-use bins::put;
+use bins::put_into;
 use chain::is_ordinary;
 use headers::write_no_bin;
+use record::heap::Summary;
 use record::kinds::Kind;
 use record::table::Binned;
 use record::table::bin_of;
 use record::table::small_bins;
 use region::Chunk;
 
-// A chunk leaves its bin, if it is in one: the caller knows its kind.
+// A free chunk that takes its place: what it becomes, where it starts, and its size.
+pub struct Arrival {
+    pub becomes: Kind,
+    pub chunk: Chunk,
+    pub size: u32,
+}
+
+// A chunk leaves its bin, if the caller says that it is in one: the caller knows its kind.
 pub fn leave_bin(
     region: &mut [u32],
     heads: &mut [u32],
@@ -29,7 +37,7 @@ pub fn leave_bin(
     leave(region, heads, tails, chunk);
 }
 
-// Into the bin of its size. A free chunk of less than 24 bytes, which no heap that passes has, has no bin and is put nowhere.
+// Into the bin of its size. A chunk smaller than the first bin, which no heap that passes has, is put nowhere.
 pub fn put_in_bin(
     region: &mut [u32],
     heads: &mut [u32],
@@ -45,51 +53,37 @@ pub fn put_in_bin(
     let Binned::Bin(bin) = binned else {
         return;
     };
-    put(region, heads, tails, small, bin, chunk);
+    put_into(region, heads, tails, small, bin, chunk);
 }
 
-// A free chunk takes its place: in its bin, or, as donor or top, with its bin words 0.
+// An ordinary chunk is put into its bin; of donor and top the bin words are set to 0.
 pub fn settle(
     region: &mut [u32],
     heads: &mut [u32],
     tails: &mut [u32],
     table: &[u32],
-    becomes: Kind,
-    chunk: Chunk,
-    size: u32,
+    arrival: Arrival,
 )
-    ensures { λ _. ⌜ books (now (region .exit)) (now (heads .exit)) (now (tails .exit)) ≡ settleM (books (now (region .entry)) (now (heads .entry)) (now (tails .entry))) (now (table .entry)) becomes (chunk .0) size ⌝ }
+    ensures { λ _. ⌜ books (now (region .exit)) (now (heads .exit)) (now (tails .exit)) ≡ settleM (books (now (region .entry)) (now (heads .entry)) (now (tails .entry))) (now (table .entry)) arrival ⌝ }
 {
+    let becomes = arrival.becomes;
     if !is_ordinary(becomes) {
-        write_no_bin(region, chunk);
+        write_no_bin(region, arrival.chunk);
         return;
     }
-    put_in_bin(region, heads, tails, table, chunk, size);
+    put_in_bin(region, heads, tails, table, arrival.chunk, arrival.size);
 }
 
-// The record's donor and top, once the chunk is in its place.
-pub fn donor_after(becomes: Kind, chunk: Chunk, donor: Chunk) -> Chunk
-    ensures { λ r. ⌜ r .0 ≡ donorAfter becomes (chunk .0) (donor .0) ⌝ }
+// The summary, once the chunk is in its place: it may be the new donor or the new top.
+pub fn settled(summary: Summary, becomes: Kind, chunk: Chunk) -> Summary
+    ensures { λ r. ⌜ r ≡ settledM summary becomes (chunk .0) ⌝ }
 {
     match becomes {
-        Kind::Start => donor,
-        Kind::InUse => donor,
-        Kind::Ordinary => donor,
-        Kind::Donor => chunk,
-        Kind::Top => donor,
-        Kind::End => donor,
-    }
-}
-
-pub fn top_after(becomes: Kind, chunk: Chunk, top: Chunk) -> Chunk
-    ensures { λ r. ⌜ r .0 ≡ topAfter becomes (chunk .0) (top .0) ⌝ }
-{
-    match becomes {
-        Kind::Start => top,
-        Kind::InUse => top,
-        Kind::Ordinary => top,
-        Kind::Donor => top,
-        Kind::Top => chunk,
-        Kind::End => top,
+        Kind::Start => summary,
+        Kind::InUse => summary,
+        Kind::Ordinary => summary,
+        Kind::Donor => summary.with_donor(chunk),
+        Kind::Top => summary.with_top(chunk),
+        Kind::End => summary,
     }
 }

@@ -11,10 +11,13 @@ mod play;
 mod script;
 mod words;
 
-fn space() -> [u8; 2097152]
-    ensures { λ r. ⌜ 2097152 ≡ length r ⌝ }
+// The bytes of the longest script.
+const SCRIPT_BYTES: usize = 2097152;
+
+fn space() -> [u8; SCRIPT_BYTES]
+    ensures { λ r. do ⌜ (← ⟦SCRIPT_BYTES⟧ .entry) ≡ length r ⌝ }
 {
-    [0; 2097152]
+    [0; SCRIPT_BYTES]
 }
 
 // What the space does not hold of a script is not played.

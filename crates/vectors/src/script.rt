@@ -1,9 +1,13 @@
-// The script as numbers, and the numbers as entries: what is to be done, how many arguments follow, and those.
+// The script as numbers, and the numbers as actions: what is to be done, how many arguments follow, and those.
 // Every byte that is no digit separates two numbers, and a comment goes from '#' to the end of its line.
 ghost use mathlib.Core.Path.{_≡_};
 ghost use mathlib.Core.Bool.{true};
 ghost use Prim.Native.Nat.{_<_, _≤_};
-use crate::words::put;
+use crate::words::TWO_TO_32;
+use crate::words::set_word;
+
+// An action has places for this many arguments.
+pub const MOST_ARGS: usize = 64;
 
 // `after` is where the number ends. Where none was found, the value is 0.
 pub struct Number {
@@ -12,9 +16,9 @@ pub struct Number {
     pub found: bool,
 }
 
-pub struct Entry {
+pub struct Action {
     pub op: u32,
-    pub args: [u32; 64],
+    pub args: [u32; MOST_ARGS],
     pub after: usize,
     pub found: bool,
 }
@@ -63,7 +67,7 @@ fn first_digit(script: &[u8], at: usize) -> usize
 
 // Modulo 2^32, so that a number of any length is one.
 fn with_digit(value: u32, next: u32) -> u32 {
-    ((value as u64 * 10 + next as u64) % 4294967296) as u32
+    ((value as u64 * 10 + next as u64) % TWO_TO_32) as u32
 }
 
 pub fn number_at(script: &[u8], at: usize) -> Number
@@ -88,8 +92,8 @@ pub fn number_at(script: &[u8], at: usize) -> Number
     }
 }
 
-// Arguments that `args` has no place for are read and dropped, so an entry may have more than its reader knows.
-fn read_args(script: &[u8], at: usize, count: u32, args: &mut [u32; 64]) -> usize
+// Arguments that `args` has no place for are read and dropped, so an action may have more than its reader knows.
+fn read_args(script: &[u8], at: usize, count: u32, args: &mut [u32; MOST_ARGS]) -> usize
     ensures { λ r. ⌜ at ≤ r ⌝ }
 {
     let mut i = 0;
@@ -100,21 +104,21 @@ fn read_args(script: &[u8], at: usize, count: u32, args: &mut [u32; 64]) -> usiz
             return place;
         }
         place = number.after;
-        put(args, i, number.value);
+        set_word(args, i, number.value);
         i += 1;
     }
     place
 }
 
 // Arguments that are not given are 0.
-pub fn entry_at(script: &[u8], at: usize) -> Entry
+pub fn action_at(script: &[u8], at: usize) -> Action
     ensures { λ r. ⌜ (r .found ≡ true → at < r .after) ⌝ }
 {
     let op = number_at(script, at);
     let count = number_at(script, op.after);
-    let mut args = [0u32; 64];
+    let mut args = [0u32; MOST_ARGS];
     let after = read_args(script, count.after, count.value, &mut args);
-    Entry {
+    Action {
         op: op.value,
         args: args,
         after: after,

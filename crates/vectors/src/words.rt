@@ -1,15 +1,18 @@
-// Words of a slice: one of them put, all of them filled.
+// Words of a slice: one of them set, all of them filled.
 // What the words say is not known here.
 ghost use Prim.Native.Nat.{_≤_};
 
-pub fn least(a: usize, b: usize) -> usize
+// Sums and products are taken modulo this.
+pub const TWO_TO_32: u64 = 4294967296;
+
+pub fn smaller(a: usize, b: usize) -> usize
     ensures { λ r. ⌜ (r ≤ a) × (r ≤ b) ⌝ }
 {
     if a < b { a } else { b }
 }
 
 // An index that is not there is ignored.
-pub fn put(words: &mut [u32], index: u32, value: u32) {
+pub fn set_word(words: &mut [u32], index: u32, value: u32) {
     let i = index as usize;
     if i < words.len() {
         words[i] = value;
@@ -18,7 +21,7 @@ pub fn put(words: &mut [u32], index: u32, value: u32) {
 
 // The next of a row of numbers that only looks random.
 fn following(w: u32) -> u32 {
-    ((w as u64 * 1664525 + 1013904223) % 4294967296) as u32
+    ((w as u64 * 1664525 + 1013904223) % TWO_TO_32) as u32
 }
 
 pub fn fill(words: &mut [u32], seed: u32) {

@@ -1,33 +1,37 @@
 -- `ask::ask_bin` goes through its questions in turn. Assumes nothing.
 use native.Mathlib.Omega.{arith}
 use borrow.Author.Needs.{needs}
-use Rattle.ask.proofs.AskLaws.{no-bin, count-told, first-told, last-told, no-question}
+use Rattle.ask.proofs.AskLaws.{bin-answer, no-bin, count-told, first-told, last-told, no-question}
 use Rattle.ask.proofs.ask_bin.Statement.{statement}
 use Rattle.ask.proofs.ask_bin.Tie as tie
 
 returns : tie.Need-returns
-returns c = no-bin _ _ _ _ _ _ _ (omega arith)
+returns c = bin-answer (no-bin (omega arith))
 
 returns-2 : tie.Need-returns-2
 returns-2 c =
-    count-told _ _ _ _ _ _ _ (c .before .before .before .if1 .left) (c .before .before .end-of .ensures) (c .before .if2 .taken)
-    (c .count-members .ensures)
+    bin-answer
+    (count-told (c .before .before .before .if1 .left) (c .before .before .list-end .ensures) (c .before .if2 .taken)
+    (c .count-members .ensures))
 
 returns-3 : tie.Need-returns-3
 returns-3 c =
-    first-told _ _ _ _ _ _ _ (c .before .before .before .if1 .left) (c .before .before .end-of .ensures) (c .before .if2 .left)
-    (c .if3 .taken)
+    bin-answer
+    (first-told (c .before .before .before .if1 .left) (c .before .before .list-end .ensures) (c .before .if2 .left) (c .if3 .taken))
 
 returns-4 : tie.Need-returns-4
 returns-4 c =
     let read = c .before .before .before .before in
-    last-told _ _ _ _ _ _ _ (read .before .if1 .left) (read .end-of .ensures)
-    (c .before .before .before .if2 .left) (c .before .before .if3 .left) (c .before .if4 .taken) (c .end-of2 .ensures)
+    bin-answer
+    (last-told (read .before .if1 .left) (read .list-end .ensures)
+    (c .before .before .before .if2 .left) (c .before .before .if3 .left) (c .before .if4 .taken) (c .list-end2 .ensures))
 
 returns-5 : tie.Need-returns-5
 returns-5 c =
-    no-question _ _ _ _ _ _ _ (c .before .before .before .before .if1 .left) (c .before .before .before .end-of .ensures)
-    (c .before .before .if2 .left) (c .before .if3 .left) (c .if4 .left)
+    let read = c .before .before .before in
+    bin-answer
+    (no-question (read .before .if1 .left) (read .list-end .ensures)
+    (c .before .before .if2 .left) (c .before .if3 .left) (c .if4 .left))
 
 pub ask-bin-spec : {M : Type 1} → statement M
 ask-bin-spec =

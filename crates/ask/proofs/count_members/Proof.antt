@@ -3,12 +3,12 @@
 use Prim.Native.Nat.{_-_}
 use native.Mathlib.Omega.{arith}
 use borrow.Author.Needs.{needs}
-use Rattle.ask.proofs.AskLaws.{Counting, counting-begins, counting-goes, counted-all, counted-most}
+use Rattle.ask.proofs.AskLaws.{CountsMembers, counting-begins, counting-goes, counted-all, counted-most}
 use Rattle.ask.proofs.count_members.Statement.{statement}
 use Rattle.ask.proofs.count_members.Tie as tie
 
 abbrev Inv-loop : tie.InvT-loop
-Inv-loop region first steps at₀ met₀ at met = Counting region steps first at met
+Inv-loop region first steps at₀ met₀ at met = CountsMembers region steps first at met
 
 abbrev μ-loop : tie.MeasureT-loop
 μ-loop region first steps at₀ met₀ at met = steps - met

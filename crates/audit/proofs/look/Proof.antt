@@ -5,7 +5,7 @@ use lib.ListN.{length}
 use lib.Seq.{length-take-le}
 use borrow.Author.Needs.{needs}
 use borrow.Author.Tests.{not-true, not-false}
-use Rattle.audit.specs.Audit.{fitsLength, tabledAs}
+use Rattle.audit.specs.Audit.{fitsLengthM, isTabledM}
 use Rattle.audit.proofs.AuditMeaning.{audit-short, audit-untabled, audit-walked, lent-words, lent-sizes}
 use Rattle.audit.proofs.look.Statement.{statement}
 use Rattle.audit.proofs.look.Tie as tie
@@ -13,23 +13,27 @@ use Rattle.audit.proofs.look.Tie as tie
 abbrev start : tie.Else1 → tie.Start
 start c = c .before .before .before .before .before .before
 
-fits : (c : tie.Else1) → fitsLength (length (start c .args .region .now)) (start c .args .bytes) ≡ true
+fits : (c : tie.Else1) → fitsLengthM (length (start c .args .region .now)) (start c .args .summary .bytes) ≡ true
 fits c = sym (c .before .fits-length .ensures) ∙ not-false _ (c .if1 .left)
 
-tabled : (c : tie.Else2) → let a = start (c .before .before) .args in tabledAs (a .bins) (a .sizes .now) (a .heads .now) (a .tails .now) ≡ true
+-- behind a table that is right: the length fits
+abbrev long : tie.Else2 → tie.Else1
+long c = c .before .before .before
+
+tabled : (c : tie.Else2) → let a = start (long c) .args in isTabledM (a .summary .bins) (a .sizes .now) (a .heads .now) (a .tails .now) ≡ true
 tabled c = sym (c .before .is-tabled .ensures) ∙ not-false _ (c .if2 .left)
 
 returns : tie.Need-returns
-returns c merge s h t = audit-short _ _ (sym (c .before .fits-length .ensures) ∙ not-true _ (c .if1 .taken))
+returns c s h t = audit-short _ _ (sym (c .before .fits-length .ensures) ∙ not-true _ (c .if1 .taken))
 
 returns-2 : tie.Need-returns-2
-returns-2 c merge s h t =
+returns-2 c s h t =
     audit-untabled _ _ (record { sizes = s; heads = h; tails = t }) (sym (c .before .is-tabled .ensures) ∙ not-true _ (c .if2 .taken))
 
 returns-3 : tie.Need-returns-3
-returns-3 c merge s h t =
-    let right = c .before .before .before in
-    audit-walked _ _ (record { sizes = s; heads = h; tails = t }) (fits (right .before .before)) (tabled right) _ (c .walk-all .ensures)
+returns-3 c s h t =
+    let right = c .before .before .before .before in
+    audit-walked _ _ (record { sizes = s; heads = h; tails = t }) (fits (long right)) (tabled right) _ (c .walk-all .ensures)
 
 pub look-spec : {M : Type 1} → statement M
 look-spec =
@@ -37,10 +41,11 @@ look-spec =
     (tie.spec
     (λ c κs. search needs)
     returns
+    (λ c. search needs)
     (λ c κs. search needs)
     returns-2
     (λ c. search needs)
-    (λ c. sym (length-take-le _ _ (lent-words _ _ (fits (c .before .before .before)))))
-    (λ c. sym (length-take-le _ _ (lent-sizes _ _ _ _ (tabled (c .before .before)))))
+    (λ c. sym (length-take-le _ _ (lent-words _ _ (fits (long (c .before .before))))))
+    (λ c. sym (length-take-le _ _ (lent-sizes _ _ _ _ (tabled (c .before .before .before)))))
     (λ c κs. search needs)
     returns-3)

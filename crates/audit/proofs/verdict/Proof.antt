@@ -6,15 +6,20 @@ use Rattle.audit.proofs.AuditMeaning.{answer-counts, answer-fails}
 use Rattle.audit.proofs.verdict.Statement.{statement}
 use Rattle.audit.proofs.verdict.Tie as tie
 
-abbrev start : tie.After-look → tie.Start
-start c = c .before .before .before .before .before .before .before .before .before .before .before
+-- behind the look: the summary is made, and before that the call began
+module _ (looked : tie.After-look) where
+  abbrev summed : tie.After-summary
+  summed = looked .before .before .before .before .before .before .before .before
+
+  abbrev start : tie.Start
+  start = summed .before .before
 
 -- the look at the record's parts is one at the record
 found : (c : tie.After-look) → AuditIs (start c .args .region .now) (start c .args .t2) (c .look .result)
 found c =
     let h = start c .args .t2 in
     let g = start c .good in
-    c .look .ensures (h .merge)
+    (rw (summed c .summary .ensures) at (c .look .ensures))
     (length-unmapped ℕ (h .sizes) 32 (search needs)) (length-unmapped ℕ (h .heads) 32 (search needs)) (length-unmapped ℕ (h .tails) 32 (search needs))
 
 returns : tie.Need-returns
@@ -26,4 +31,4 @@ returns-2 c = answer-fails _ _ (found (c .before .before)) (c .enum-told .given 
 pub verdict-spec : {M : Type 1} → statement M
 verdict-spec =
     tie.close
-    (tie.spec (λ c. search needs) (λ c κs. search needs) (λ c. search needs) (λ c. search needs) returns returns-2)
+    (tie.spec (λ c κs. search needs) (λ c κs. search needs) (λ c. search needs) (λ c. search needs) returns returns-2)

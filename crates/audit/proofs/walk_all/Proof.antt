@@ -1,6 +1,6 @@
 -- `audit::walk_all` makes the two walks and compares what they count. Assumes nothing.
 use borrow.Author.Needs.{needs}
-use Rattle.audit.proofs.AuditLaws.{walk-broken, not-settled, other-used, lists-dirty, other-count, all-well}
+use Rattle.audit.proofs.AuditLaws.{failed, held, walked, surveyed, walk-broken, not-settled, other-used, lists-dirty, other-count, all-well}
 use Rattle.audit.proofs.walk_all.Statement.{statement}
 use Rattle.audit.proofs.walk_all.Tie as tie
 
@@ -9,8 +9,8 @@ module _ (tested : tie.After-is-settled) where
   abbrev tallied : tie.After-survey
   tallied = tested .before .before
 
-  abbrev walked : tie.After-walk
-  walked = tallied .before .before .before
+  abbrev chain-walked : tie.After-walk
+  chain-walked = tallied .before .before .before
 
 -- behind the sweep of the lists: the used bytes are the record's, the tally has passed its test
 module _ (swept : tie.After-sweep-bins) where
@@ -18,7 +18,7 @@ module _ (swept : tie.After-sweep-bins) where
   same-used = swept .before .before
 
   abbrev settled : tie.Else1
-  settled = same-used .before .before
+  settled = same-used .before .before .before
 
   abbrev tested : tie.After-is-settled
   tested = settled .before
@@ -29,37 +29,59 @@ returns-6 c =
     let clean = c .before .before .before in
     let sweep = clean .before .before .before in
     let test = tested sweep in
-    all-well _ _ _ _ _ _ _ _ _ (walked test .walk .ensures) (tallied test .survey .given .1) (test .is-settled .ensures)
-    (settled sweep .if1 .left) (same-used sweep .if2 .left) _ (sweep .sweep-bins .ensures) (clean .sweep .given .1) (c .if3 .left)
+    walked
+    (all-well
+    (record {
+      survey = surveyed (chain-walked test .walk .ensures) (tallied test .survey .given .1);
+      settled = held (test .is-settled .ensures) (settled sweep .if1 .left);
+      used = same-used sweep .if2 .left;
+    })
+    _ (sweep .sweep-bins .ensures) (clean .sweep .given .1) (c .if3 .left))
 
 returns : tie.Need-returns
-returns c = walk-broken _ _ _ _ _ _ _ _ _ (c .before .before .before .walk .ensures) (c .enum-told .given .1)
+returns c = walked (walk-broken _ (c .before .before .before .walk .ensures) (c .enum-told .given .1))
 
 returns-2 : tie.Need-returns-2
 returns-2 c =
     let test = c .before in
-    not-settled _ _ _ _ _ _ _ _ _ (walked test .walk .ensures) (tallied test .survey .given .1) (test .is-settled .ensures) (c .if1 .taken)
+    walked
+    (not-settled (surveyed (chain-walked test .walk .ensures) (tallied test .survey .given .1))
+    (failed (test .is-settled .ensures) (c .if1 .taken)))
 
 returns-3 : tie.Need-returns-3
 returns-3 c =
-    let test = c .before .before .before in
-    other-used _ _ _ _ _ _ _ _ _ (walked test .walk .ensures) (tallied test .survey .given .1) (test .is-settled .ensures)
-    (c .before .before .if1 .left) (c .if2 .taken)
+    let settled = c .before .before .before in
+    let test = settled .before in
+    walked
+    (other-used (surveyed (chain-walked test .walk .ensures) (tallied test .survey .given .1))
+    (held (test .is-settled .ensures) (settled .if1 .left)) (c .if2 .taken))
 
 returns-4 : tie.Need-returns-4
 returns-4 c =
     let sweep = c .before .before .before in
     let test = tested sweep in
-    lists-dirty _ _ _ _ _ _ _ _ _ (walked test .walk .ensures) (tallied test .survey .given .1) (test .is-settled .ensures)
-    (settled sweep .if1 .left) (same-used sweep .if2 .left) _ (sweep .sweep-bins .ensures) (c .enum-told2 .given .1)
+    walked
+    (lists-dirty
+    (record {
+      survey = surveyed (chain-walked test .walk .ensures) (tallied test .survey .given .1);
+      settled = held (test .is-settled .ensures) (settled sweep .if1 .left);
+      used = same-used sweep .if2 .left;
+    })
+    _ (sweep .sweep-bins .ensures) (c .enum-told2 .given .1))
 
 returns-5 : tie.Need-returns-5
 returns-5 c =
     let clean = c .before .before .before in
     let sweep = clean .before .before .before in
     let test = tested sweep in
-    other-count _ _ _ _ _ _ _ _ _ (walked test .walk .ensures) (tallied test .survey .given .1) (test .is-settled .ensures)
-    (settled sweep .if1 .left) (same-used sweep .if2 .left) _ (sweep .sweep-bins .ensures) (clean .sweep .given .1) (c .if3 .taken)
+    walked
+    (other-count
+    (record {
+      survey = surveyed (chain-walked test .walk .ensures) (tallied test .survey .given .1);
+      settled = held (test .is-settled .ensures) (settled sweep .if1 .left);
+      used = same-used sweep .if2 .left;
+    })
+    _ (sweep .sweep-bins .ensures) (clean .sweep .given .1) (c .if3 .taken))
 
 pub walk-all-spec : {M : Type 1} → statement M
 walk-all-spec =

@@ -2,8 +2,8 @@
 use native.Mathlib.Omega.{arith}
 use mathlib.Core.Path.{_≡_, refl, sym, _∙_}
 use borrow.Author.Needs.{needs}
-use Rattle.bins.specs.Books.{firstFitM}
-use Rattle.bins.proofs.BooksSteps.{fit-spent, fit-ends, fit-here, fit-goes}
+use Rattle.bins.specs.Bins.{firstFitM}
+use Rattle.bins.proofs.BinsSteps.{fit-spent, fit-ends, fit-here, fit-goes}
 use Rattle.bins.proofs.first_fit.Statement.{statement}
 use Rattle.bins.proofs.first_fit.Tie as tie
 

@@ -4,8 +4,8 @@ use native.Mathlib.Omega.{arith}
 use native.Mathlib.Numerals.{add-one}
 use mathlib.Core.Path.{_≡_, sym, ap, _∙_}
 use borrow.Author.Needs.{needs}
-use Rattle.bins.specs.Books.{someEnd, nextOccupiedM}
-use Rattle.bins.proofs.BooksSteps.{end-spent, end-here, end-goes-from}
+use Rattle.bins.specs.Bins.{someEnd, nextOccupiedM}
+use Rattle.bins.proofs.BinsSteps.{end-spent, end-here, end-goes-from}
 use Rattle.bins.proofs.next_occupied.Statement.{statement}
 use Rattle.bins.proofs.next_occupied.Tie as tie
 
@@ -28,13 +28,13 @@ loop-holds c =
 returns-2 : tie.Need-returns-2 Inv-loop μ-loop
 returns-2 c =
     let l = c .before .before .before .loop in
-    rw (c .before .end-of .ensures)
-    (sym (end-here _ _ _ (omega arith) (rw (c .before .end-of .ensures) at (c .if2 .taken))) ∙ l .inv)
+    rw (c .before .list-end .ensures)
+    (sym (end-here _ _ _ (omega arith) (rw (c .before .list-end .ensures) at (c .if2 .taken))) ∙ l .inv)
 
 loop-again : tie.Need-loop-again Inv-loop μ-loop
 loop-again c =
     let l = c .before .before .before .loop in
-    sym (end-goes-from _ _ _ (c .before .before .loop-test .taken) (rw (c .before .end-of .ensures) at (c .if2 .left)))
+    sym (end-goes-from _ _ _ (c .before .before .loop-test .taken) (rw (c .before .list-end .ensures) at (c .if2 .left)))
     ∙ l .inv
 
 returns-3 : tie.Need-returns-3 Inv-loop μ-loop

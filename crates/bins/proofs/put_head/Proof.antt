@@ -7,7 +7,7 @@ returns : tie.Need-returns
 returns c =
     let put = c .before .before .before .before .before .before in
     let head-read = put .before .before .before .before in
-    rw (put .put-between .ensures, head-read .end-of .ensures)
+    rw (put .put-between .ensures, head-read .list-end .ensures)
 
 pub put-head-spec : {M : Type 1} → statement M
 put-head-spec =

@@ -7,7 +7,7 @@ returns : tie.Need-returns
 returns c =
     let put = c .before .before .before .before .before .before in
     let tail-read = put .before .before .before .before in
-    rw (put .put-between .ensures, tail-read .end-of .ensures)
+    rw (put .put-between .ensures, tail-read .list-end .ensures)
 
 pub put-tail-spec : {M : Type 1} → statement M
 put-tail-spec =

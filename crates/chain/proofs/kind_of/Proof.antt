@@ -28,4 +28,4 @@ returns-6 c =
 pub kind-of-spec : {M : Type 1} → statement M
 kind-of-spec =
     tie.close
-    (tie.spec returns (λ c. search needs) (λ c. search needs) returns-2 returns-3 returns-4 returns-5 returns-6)
+    (tie.spec returns (λ c. search needs) (λ c. search needs) (λ c. search needs) (λ c. search needs) returns-2 returns-3 returns-4 returns-5 returns-6)

@@ -5,22 +5,28 @@ use borrow.Author.Needs.{needs}
 use borrow.Author.Tests.{not-true, not-false}
 use lib.Seq.{length-take-le}
 use Rattle.rules.specs.Check.{passes}
-use Rattle.heap.proofs.CallLaws.{asks-bin, fails-bin, lent}
+use Rattle.heap.proofs.CallLaws.{asked-bin, asks-bin, fails-bin, lent}
 use Rattle.heap.proofs.ask_bin.Statement.{statement}
 use Rattle.heap.proofs.ask_bin.Tie as tie
 
 heap-passes : (c : tie.Else1) → let a = c .before .before .before .before .args in passes (a .region .now) (a .heap) ≡ true
 heap-passes c = sym (c .before .passes .ensures) ∙ not-false _ (c .if1 .left)
 
+-- behind the answer: the summary is made, and the heap passes
+module _ (c : tie.After-ask-bin) where
+  abbrev summed : tie.After-summary
+  summed = c .before .before .before .before
+
+  abbrev checked : tie.Else1
+  checked = summed .before .before .before .before
+
 returns : tie.Need-returns
 returns c =
     rw (c .refused .ensures)
-    (fails-bin _ _ _ _ (sym (c .before .before .passes .ensures) ∙ not-true _ (c .before .if1 .taken)))
+    (asked-bin (fails-bin (sym (c .before .before .passes .ensures) ∙ not-true _ (c .before .if1 .taken))))
 
 returns-2 : tie.Need-returns-2
-returns-2 c =
-    let lent = c .before .before .before in
-    asks-bin _ _ (heap-passes (lent .before .before .before)) _ _ _ (c .ask-bin .ensures)
+returns-2 c = asked-bin (asks-bin (heap-passes (checked c)) (summed c .summary .ensures) (c .ask-bin .ensures))
 
 pub ask-bin-spec : {M : Type 1} → statement M
 ask-bin-spec =
@@ -31,8 +37,9 @@ ask-bin-spec =
     (λ c. search needs)
     returns
     (λ c. search needs)
-    (λ c. lent _ _ (heap-passes (c .before .before)))
-    (λ c. sym (length-take-le _ _ (lent _ _ (heap-passes (c .before .before .before)))))
+    (λ c κs. search needs)
+    (λ c. lent _ _ (heap-passes (c .before .before .before .before)))
+    (λ c. sym (length-take-le _ _ (lent _ _ (heap-passes (c .before .before .before .before .before)))))
     (λ c. search needs)
     (λ c. search needs)
     (λ c κs. search needs)

@@ -7,12 +7,12 @@ use borrow.Author.Tests.{not-true, not-false}
 use Rattle.rules.specs.Check.{passes}
 use Rattle.rules.specs.Serve.{permitted}
 use Rattle.heap.proofs.CallLaws.{bins-there}
-use Rattle.heap.proofs.ReallocateLaws.{reallocate-none, reallocate-fails, reallocate-refuses, reallocate-misses, reallocates}
+use Rattle.heap.proofs.ReallocateLaws.{reallocate-meets, reallocate-none, reallocate-fails, reallocate-refuses, reallocate-misses, reallocate-resizes}
 use Rattle.heap.proofs.reallocate.Statement.{statement}
 use Rattle.heap.proofs.reallocate.Tie as tie
 
 returns : tie.Need-returns
-returns c = reallocate-none _ _ _ _ (c .before .before .before .before .if1 .taken) _ _ (c .before .before .allocate .ensures)
+returns c = reallocate-meets (reallocate-none (c .before .before .before .before .if1 .taken) (c .before .before .allocate .ensures))
 
 -- past the check of the heap: a block is given
 abbrev given : tie.Else2 → tie.Else1
@@ -39,15 +39,17 @@ module _ (needed : tie.After-need-of) where
 returns-2 : tie.Need-returns-2
 returns-2 c =
     rw (c .refused .ensures)
-    (reallocate-fails _ _ _ _ (c .before .before .before .before .if1 .left)
-    (sym (c .before .before .passes .ensures) ∙ not-true _ (c .before .if2 .taken)))
+    (reallocate-meets
+    (reallocate-fails (c .before .before .before .before .if1 .left)
+    (sym (c .before .before .passes .ensures) ∙ not-true _ (c .before .if2 .taken))))
 
 returns-3 : tie.Need-returns-3
 returns-3 c =
     let checked = c .before .before .before in
     rw (c .refused2 .ensures)
-    (reallocate-refuses _ _ _ _ (given checked .if1 .left) (heap-passes checked)
-    (sym (c .before .before .is-permitted .ensures) ∙ not-true _ (c .before .if3 .taken)))
+    (reallocate-meets
+    (reallocate-refuses (given checked .if1 .left) (heap-passes checked)
+    (sym (c .before .before .is-permitted .ensures) ∙ not-true _ (c .before .if3 .taken))))
 
 returns-4 : tie.Need-returns-4
 returns-4 c =
@@ -55,8 +57,9 @@ returns-4 c =
     let sized = sought .before .before in
     let checked = checked sized in
     rw (c .refused3 .ensures)
-    (reallocate-misses _ _ _ _ (given checked .if1 .left) (heap-passes checked) (size-permitted sized)
-    _ (sought .find-block .ensures) (c .before .enum-told .given .1))
+    (reallocate-meets
+    (reallocate-misses (given checked .if1 .left) (heap-passes checked) (size-permitted sized)
+    (sought .find-block .ensures) (c .before .enum-told .given .1)))
 
 bins-lent : tie.Need-array-share-prefix-sizes
 bins-lent c = bins-there _ _ (heap-passes (checked (sought (c .before) .before .before)))
@@ -68,8 +71,9 @@ returns-5 c =
     let sought = sought needed in
     let sized = sought .before .before in
     let checked = checked sized in
-    reallocates _ _ _ _ (given checked .if1 .left) (heap-passes checked) (size-permitted sized)
-    _ (sought .find-block .ensures) _ (found needed .sought .given .1) _ (needed .need-of .ensures) _ _ (resized .resize .ensures)
+    reallocate-meets
+    (reallocate-resizes (given checked .if1 .left) (heap-passes checked) (size-permitted sized)
+    (sought .find-block .ensures) (found needed .sought .given .1) (needed .need-of .ensures) (resized .resize .ensures))
 
 pub reallocate-spec : {M : Type 1} → statement M
 reallocate-spec =

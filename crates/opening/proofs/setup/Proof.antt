@@ -6,21 +6,21 @@ use borrow.Author.Needs.{needs}
 use borrow.Author.Tests.{not-true, not-false}
 use lib.ListN.{length}
 use lib.Seq.{length-take-le}
-use Rattle.opening.proofs.SetupLaws.{fits-room, refuses-short, refuses-long, refuses-table, refuses-donor, accepts}
+use Rattle.opening.proofs.SetupMeaning.{fits-room, refuses-short, refuses-long, refuses-table, refuses-donor, accepts, met}
 use Rattle.opening.proofs.setup.Statement.{statement}
 use Rattle.opening.proofs.setup.Tie as tie
 
 returns : tie.Need-returns
-returns c = rw (c .refused .ensures) (refuses-short _ _ _ _ (omega arith))
+returns c = rw (c .refused-setup .ensures) (met (refuses-short (omega arith)))
 
 returns-2 : tie.Need-returns-2
-returns-2 c = rw (c .refused2 .ensures) (refuses-long _ _ _ _ (omega arith) (omega arith))
+returns-2 c = rw (c .refused-setup2 .ensures) (met (refuses-long (omega arith) (omega arith)))
 
 returns-3 : tie.Need-returns-3
 returns-3 c =
-    rw (c .refused3 .ensures)
-    (refuses-table _ _ _ _ (omega arith) (omega arith)
-    (sym (c .before .before .valid .ensures) ∙ not-true _ (c .before .if3 .taken)))
+    rw (c .refused-setup3 .ensures)
+    (met (refuses-table (omega arith) (omega arith)
+    (sym (c .before .before .valid .ensures) ∙ not-true _ (c .before .if3 .taken))))
 
 -- behind a valid table: the call began
 abbrev start : tie.Else3 → tie.Start
@@ -29,12 +29,11 @@ start c = c .before .before .before .before .before .before
 returns-4 : tie.Need-returns-4
 returns-4 c =
     let right = c .before .before .before in
-    rw (c .refused4 .ensures)
-    (refuses-donor _ _ _ _ (omega arith) (omega arith)
+    rw (c .refused-setup4 .ensures)
+    (met (refuses-donor (omega arith) (omega arith)
     (sym (right .before .valid .ensures) ∙ not-false _ (right .if3 .left))
-    _
     (sym (c .before .before .donor-fits .ensures) ∙ not-true _ (c .before .if4 .taken))
-    (omega arith))
+    (omega arith)))
 
 add-t16 : tie.Need-add-t16
 add-t16 c =
@@ -54,12 +53,12 @@ returns-5 c =
     let right = fits .before .before in
     let a = start right .args in
     rw (c .fresh .ensures, written .write-headers .ensures)
-    (accepts _ _ _ _ (omega arith) (omega arith)
+    (met (accepts (omega arith) (omega arith)
     (sym (right .before .valid .ensures) ∙ not-false _ (right .if3 .left))
-    _ (length (a .region .now) / 2 * 2)
+    (length (a .region .now) / 2 * 2)
     (sym (fits .before .donor-fits .ensures) ∙ not-false _ (fits .if4 .left))
     (omega arith)
-    (omega arith))
+    (omega arith)))
 
 pub setup-spec : {M : Type 1} → statement M
 setup-spec =

@@ -1,6 +1,6 @@
 -- `release::give_back` is its definition, write by write. Assumes nothing.
 use borrow.Author.Needs.{needs}
-use Rattle.release.proofs.ReleaseSteps.{gave-back}
+use Rattle.release.proofs.ReleaseSteps.{gives-back, gave-back}
 use Rattle.release.proofs.give_back.Statement.{statement}
 use Rattle.release.proofs.give_back.Tie as tie
 
@@ -13,7 +13,7 @@ module _ (c : tie.After-slice-known14) where
   measured = settled .before .before .before .before
 
   abbrev linked : tie.After-write-above
-  linked = measured .before .before .before
+  linked = measured .before .before .before .before
 
   abbrev freed : tie.After-write-free
   freed = linked .before .before .before .before
@@ -32,9 +32,9 @@ module _ (c : tie.After-slice-known14) where
 
 returns : tie.Need-returns
 returns c =
-    let a = lower-out c .before .before .before .before .before .before .before .before .args in
-    gave-back _ _ (a .joined) (a .lower .0) (a .upper .0) (lower-out c .leave-bin .ensures) (upper-out c .leave-bin2 .ensures) (freed c .write-free .ensures)
-    (linked c .write-above .ensures) (measured c .distance .ensures) (settled c .settle .ensures)
+    gives-back
+    (gave-back (lower-out c .leave-bin .ensures) (upper-out c .leave-bin2 .ensures) (freed c .write-free .ensures)
+    (linked c .write-above .ensures) (measured c .distance .ensures) (settled c .settle .ensures))
 
 pub give-back-spec : {M : Type 1} → statement M
 give-back-spec =

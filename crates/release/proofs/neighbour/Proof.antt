@@ -7,11 +7,13 @@ use Rattle.release.proofs.neighbour.Tie as tie
 
 returns : tie.Need-returns
 unfolding neighbourM
-returns c = rw (not-true (c .before .before .args .merge) (c .if1 .taken))
+returns c = rw (not-true (c .before .before .before .args .summary .merge) (c .if1 .taken))
 
 returns-2 : tie.Need-returns-2
 unfolding neighbourM
-returns-2 c = rw (c .kind-of .ensures 0, c .before .word .ensures, not-false (c .before .before .before .before .args .merge) (c .before .before .if1 .left))
+returns-2 c =
+    let merging = c .before .before in
+    rw (c .kind-of .ensures 0, c .before .word .ensures, not-false (merging .before .before .before .args .summary .merge) (merging .if1 .left))
 
 pub neighbour-spec : {M : Type 1} → statement M
 neighbour-spec =

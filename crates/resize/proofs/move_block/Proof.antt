@@ -1,21 +1,24 @@
 -- `resize::move_block` is its definition, call by call. Assumes nothing.
-use mathlib.Core.Path.{refl}
-use borrow.Author.Needs.{needs}
+use Prim.Native.Nat.{ℕ}
+use mathlib.Core.Path.{_≡_, refl, sym}
+use lib.ListN.{length}
+use borrow.Author.Needs.{needs, length-unmapped}
 use Rattle.grant.proofs.ServeSteps.{served-recorded}
 use Rattle.release.proofs.GiveSteps.{given-recorded}
-use Rattle.resize.proofs.ResizeSteps.{again-sized, moves-not, moves}
+use Rattle.resize.proofs.ResizeSteps.{moves, moved-nowhere, moved-by}
 use Rattle.resize.proofs.move_block.Statement.{statement}
 use Rattle.resize.proofs.move_block.Tie as tie
 
--- behind the whole record, step by step: the old chunk is given up, it is read again, the block is copied, its room is granted
+-- behind the choice of a source: the summary is made
+abbrev summed : tie.After-choose → tie.After-summary
+summed c = c .before .before .before .before .before
+
+-- behind the whole record, step by step: the old chunk is given up, its link is read again, the block is copied, its room is granted
 module _ (c : tie.After-with-books) where
-  abbrev used : tie.After-wrapping-add-u32
-  used = c .before .before .before .before
-
   abbrev given-up : tie.After-give-up
-  given-up = used .before .before .before .before .before
+  given-up = c .before .before .before .before .before .before .before
 
-  abbrev read : tie.After-again
+  abbrev read : tie.After-with-link-reread
   read = given-up .before .before .before .before
 
   abbrev copied : tie.After-copy-block
@@ -27,11 +30,30 @@ module _ (c : tie.After-with-books) where
   abbrev served : tie.After-serve
   served = sized .before .before .before .before .before
 
+  abbrev somewhere : tie.Else1
+  somewhere = served .before .before .before .before
+
 returns : tie.Need-returns
 returns c =
     let nowhere = c .before in
-    moves-not _ _ _ _ _ (nowhere .before .before .choose .ensures) (nowhere .before .is-nowhere .ensures) (nowhere .if1 .taken)
-    (c .refused .ensures)
+    let chosen = nowhere .before .before in
+    moves
+    (moved-nowhere (summed chosen .summary .ensures) (chosen .choose .ensures) (nowhere .before .is-nowhere .ensures)
+    (nowhere .if1 .taken) (c .refused .ensures))
+
+-- the ends that are lent to the grant are the record's, which has 32 of each
+module _ (start : tie.Start) where
+  heads-of : 32 ≡ length (start .args .heap .heads)
+  heads-of = sym (length-unmapped ℕ (start .args .heap .heads) 32 (search needs))
+
+  tails-of : 32 ≡ length (start .args .heap .tails)
+  tails-of = sym (length-unmapped ℕ (start .args .heap .tails) 32 (search needs))
+
+heads-long : tie.Need-slice-aggregate-serve
+heads-long c = heads-of (summed (c .before .before .before .before) .before .before .before)
+
+tails-long : tie.Need-slice-aggregate-serve-2
+tails-long c = tails-of (summed (c .before .before .before .before .before) .before .before .before)
 
 same-length : tie.Need-same-length-2
 same-length c =
@@ -42,34 +64,34 @@ same-length c =
 
 returns-2 : tie.Need-returns-2
 returns-2 c =
-    let served = served c in
-    let somewhere = served .before .before .before .before in
-    let granted = served-recorded _ _ _ _ _ _ _ (served .serve .ensures) _ (used c .wrapping-add-u32 .ensures) _ refl in
-    let after = given-recorded _ _ _ _ _ _ (given-up c .give-up .ensures) _ (again-sized _ _ (read c .again .ensures) (sized c .distance .ensures)) _ (c .before .before .before .distance2 .ensures) _ (c .with-books .ensures) in
-    moves _ _ _ _ _ (somewhere .before .before .choose .ensures) (somewhere .before .is-nowhere .ensures) (somewhere .if1 .left)
-    granted (sized c .distance .ensures) (copied c .copy-block .ensures) (read c .again .ensures)
-    after (c .before .before .block-of .ensures) (c .before .change .ensures)
+    let somewhere = somewhere c in
+    let chosen = somewhere .before .before in
+    let summary-is = summed chosen .summary .ensures in
+    moves
+    (moved-by summary-is (chosen .choose .ensures) (somewhere .before .is-nowhere .ensures) (somewhere .if1 .left)
+    (served-recorded _ _ _ _ summary-is (served c .serve .ensures) refl) (sized c .distance .ensures) (copied c .copy-block .ensures) (read c .with-link-reread .ensures)
+    (given-recorded _ _ _ _ refl (given-up c .give-up .ensures) (c .with-books .ensures))
+    (c .before .before .block-of .ensures) (c .before .change .ensures))
 
 pub move-block-spec : {M : Type 1} → statement M
 move-block-spec =
     tie.close
     (tie.spec
+    (λ c κs. search needs)
     (λ c. search needs)
     (λ c κs. search needs)
     (λ c κs. search needs)
     (λ c κs. search needs)
     (λ c. search needs)
     returns
-    (λ c. search needs)
-    (λ c. search needs)
+    heads-long
+    tails-long
     (λ c κs. search needs)
     (λ c κs. search needs)
     (λ c κs. search needs)
     (λ c κs. search needs)
     (λ c. search needs)
     (λ c. search needs)
-    (λ c κs. search needs)
-    (λ c κs. search needs)
     (λ c κs. search needs)
     (λ c κs. search needs)
     (λ c κs. search needs)

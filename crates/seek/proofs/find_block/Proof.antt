@@ -10,7 +10,7 @@ returns c =
     (c .enum-told .given .1)
 
 -- behind the question whether the block is live: the chunk is found
-module _ (asked : tie.After-is-live) where
+module _ (asked : tie.After-has-live-block) where
   abbrev found : tie.After-sought
   found = asked .before .before
 
@@ -22,14 +22,14 @@ returns-3 c =
     let asked = c .before in
     let sought = sought asked in
     block-found _ _ _ (sought .before .chunk-of .ensures) (sought .find-chunk .ensures) (found asked .sought .given .1)
-    (asked .is-live .ensures) (c .if1 .left)
+    (asked .has-live-block .ensures) (c .if1 .left)
 
 returns-2 : tie.Need-returns-2
 returns-2 c =
     let asked = c .before in
     let sought = sought asked in
     block-dead _ _ _ (sought .before .chunk-of .ensures) (sought .find-chunk .ensures) (found asked .sought .given .1)
-    (asked .is-live .ensures) (c .if1 .taken)
+    (asked .has-live-block .ensures) (c .if1 .taken)
 
 pub find-block-spec : {M : Type 1} → statement M
 find-block-spec =

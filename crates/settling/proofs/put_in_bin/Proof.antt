@@ -1,15 +1,15 @@
 -- `settling::put_in_bin` puts into the bin that takes the size. Assumes nothing.
 use borrow.Author.Needs.{needs}
-use Rattle.settling.proofs.SettlingSteps.{put-binned, put-nowhere}
+use Rattle.settling.proofs.SettlingSteps.{is-put, put-binned, put-nowhere}
 use Rattle.settling.proofs.put_in_bin.Statement.{statement}
 use Rattle.settling.proofs.put_in_bin.Tie as tie
 
 returns : tie.Need-returns
-returns c = put-nowhere _ _ _ _ _ (c .before .before .bin-of .ensures) (c .enum-told .given .1)
+returns c = is-put (put-nowhere _ (c .before .before .bin-of .ensures) (c .enum-told .given .1))
 
 -- the steps of a put, from its end back
 module _ (c : tie.After-slice-known6) where
-  abbrev put : tie.After-put
+  abbrev put : tie.After-put-into
   put = c .before .before .before .before .before .before
 
   abbrev binned : tie.After-binned
@@ -20,7 +20,8 @@ module _ (c : tie.After-slice-known6) where
 
 returns-2 : tie.Need-returns-2
 returns-2 c =
-    put-binned _ _ _ _ _ (told c .bin-of .ensures) (binned c .binned .given .1) (told c .before .small-bins .ensures) (put c .put .ensures)
+    is-put
+    (put-binned _ (told c .bin-of .ensures) (binned c .binned .given .1) (told c .before .small-bins .ensures) (put c .put-into .ensures))
 
 pub put-in-bin-spec : {M : Type 1} → statement M
 put-in-bin-spec =

@@ -6,9 +6,10 @@ use mathlib.Core.List.{List, [], _∷_, _++_}
 use lib.ListN.{length, replicate}
 use borrow.Author.Needs.{needs, length-unmapped}
 use mir.Val.{boolByte}
+use Rattle.record.specs.Heap.{places}
 use Rattle.record.specs.declared.heap.Heap.{Heap}
-use Rattle.abi.specs.Flat.{recordOut}
-use Rattle.abi.proofs.FlatLaws.{BeginsWith, goes-on, four-parts, merge-word}
+use Rattle.abi.specs.Flat.{sizesFrom, headsFrom, tailsFrom, recordWords, recordOut}
+use Rattle.abi.proofs.FlatLaws.{BeginsWith, part-goes-on, four-parts, merge-word}
 use Rattle.abi.proofs.flat.pack.Statement.{statement}
 use Rattle.abi.proofs.flat.pack.Tie as tie
 
@@ -38,32 +39,32 @@ sizes-put c = c .before .before .before .before
 abbrev heads-put : tie.After-copy4 → tie.After-copy3
 heads-put c = c .before .before .before .before
 
-with-first : (c : tie.After-copy) → BeginsWith 6 (firstOf (start c .args .heap)) (c .copy .last .0)
+with-first : (c : tie.After-copy) → BeginsWith sizesFrom (firstOf (start c .args .heap)) (c .copy .last .0)
 with-first c =
-    goes-on 0 6 (replicate 102 0) (firstOf (start c .args .heap)) [] (c .copy .last .0) refl (omega arith) (refl, refl) (c .copy .ensures)
+    part-goes-on 0 sizesFrom (replicate recordWords 0) (firstOf (start c .args .heap)) [] (c .copy .last .0) refl (omega arith) (refl, refl) (c .copy .ensures)
 
-with-sizes : (c : tie.After-copy2) → let h = start (first-put c) .args .heap in BeginsWith 38 (firstOf h ++ h .sizes) (c .copy2 .last .0)
+with-sizes : (c : tie.After-copy2) → let h = start (first-put c) .args .heap in BeginsWith headsFrom (firstOf h ++ h .sizes) (c .copy2 .last .0)
 with-sizes c =
     let first = first-put c in
     let s = start first in
-    goes-on 6 32 (first .copy .last .0) (s .args .heap .sizes) _ (c .copy2 .last .0) (sizes-32 s) (omega arith) (with-first first)
+    part-goes-on sizesFrom places (first .copy .last .0) (s .args .heap .sizes) _ (c .copy2 .last .0) (sizes-32 s) (omega arith) (with-first first)
     (c .copy2 .ensures)
 
 with-heads : (c : tie.After-copy3)
-    → let h = start (first-put (sizes-put c)) .args .heap in BeginsWith 70 ((firstOf h ++ h .sizes) ++ h .heads) (c .copy3 .last .0)
+    → let h = start (first-put (sizes-put c)) .args .heap in BeginsWith tailsFrom ((firstOf h ++ h .sizes) ++ h .heads) (c .copy3 .last .0)
 with-heads c =
     let sizes = sizes-put c in
     let s = start (first-put sizes) in
-    goes-on 38 32 (sizes .copy2 .last .0) (s .args .heap .heads) _ (c .copy3 .last .0) (heads-32 s) (omega arith) (with-sizes sizes)
+    part-goes-on headsFrom places (sizes .copy2 .last .0) (s .args .heap .heads) _ (c .copy3 .last .0) (heads-32 s) (omega arith) (with-sizes sizes)
     (c .copy3 .ensures)
 
 with-tails : (c : tie.After-copy4)
     → let h = start (first-put (sizes-put (heads-put c))) .args .heap in
-    BeginsWith 102 (((firstOf h ++ h .sizes) ++ h .heads) ++ h .tails) (c .copy4 .last .0)
+    BeginsWith recordWords (((firstOf h ++ h .sizes) ++ h .heads) ++ h .tails) (c .copy4 .last .0)
 with-tails c =
     let heads = heads-put c in
     let s = start (first-put (sizes-put heads)) in
-    goes-on 70 32 (heads .copy3 .last .0) (s .args .heap .tails) _ (c .copy4 .last .0) (tails-32 s) (omega arith) (with-heads heads)
+    part-goes-on tailsFrom places (heads .copy3 .last .0) (s .args .heap .tails) _ (c .copy4 .last .0) (tails-32 s) (omega arith) (with-heads heads)
     (c .copy4 .ensures)
 
 returns : tie.Need-returns

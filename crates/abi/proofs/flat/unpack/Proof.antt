@@ -3,12 +3,12 @@ use native.Mathlib.Omega.{arith}
 use mathlib.Core.Path.{_≡_, refl, _∙_}
 use lib.ListN.{length, take, drop, replicate}
 use borrow.Author.Needs.{needs}
-use Rattle.abi.specs.Flat.{recordIn}
-use Rattle.abi.proofs.FlatLaws.{fills, part-length}
+use Rattle.abi.specs.Flat.{recordIn, sizesFrom, headsFrom, tailsFrom, recordWords}
+use Rattle.abi.proofs.FlatLaws.{fills-whole, part-length}
 use Rattle.abi.proofs.flat.unpack.Statement.{statement}
 use Rattle.abi.proofs.flat.unpack.Tie as tie
 
-whole : (c : tie.Start) → length (c .args .t1) ≡ 102
+whole : (c : tie.Start) → length (c .args .t1) ≡ recordWords
 whole c = search needs
 
 returns : tie.Need-returns
@@ -20,9 +20,9 @@ returns c =
     let s = sizes .before .before .before .before in
     let words = s .args .t1 in (
       rw (
-        tails .copy3 .ensures ∙ fills (replicate 32 0) (take 32 (drop 70 words)) refl (part-length words 70 (whole s) (omega arith)),
-        heads .copy2 .ensures ∙ fills (replicate 32 0) (take 32 (drop 38 words)) refl (part-length words 38 (whole s) (omega arith)),
-        sizes .copy .ensures ∙ fills (replicate 32 0) (take 32 (drop 6 words)) refl (part-length words 6 (whole s) (omega arith)),
+        tails .copy3 .ensures ∙ fills-whole (replicate 32 0) (take 32 (drop tailsFrom words)) refl (part-length words tailsFrom (whole s) (omega arith)),
+        heads .copy2 .ensures ∙ fills-whole (replicate 32 0) (take 32 (drop headsFrom words)) refl (part-length words headsFrom (whole s) (omega arith)),
+        sizes .copy .ensures ∙ fills-whole (replicate 32 0) (take 32 (drop sizesFrom words)) refl (part-length words sizesFrom (whole s) (omega arith)),
       ),
       whole s,
     )

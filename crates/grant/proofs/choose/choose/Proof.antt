@@ -1,6 +1,6 @@
 -- `choose::choose` makes the four tries in turn. Assumes nothing.
 use borrow.Author.Needs.{needs}
-use Rattle.grant.proofs.ChooseLaws.{from-own, from-donor, from-larger, from-top, from-nowhere}
+use Rattle.grant.proofs.ChooseLaws.{chooses, from-own, from-donor, from-larger, from-top, from-nowhere}
 use Rattle.grant.proofs.choose.choose.Statement.{statement}
 use Rattle.grant.proofs.choose.choose.Tie as tie
 
@@ -31,22 +31,24 @@ module _ (asked : tie.After-top-serves) where
 returns : tie.Need-returns
 returns c =
     let own = c .before .before in
-    from-own _ _ _ _ _ _ _ (own .before .bin-of .ensures) _ (own .own-bin .ensures) (c .if1 .taken)
+    chooses (from-own (record { taken = own .before .bin-of .ensures; found = own .own-bin .ensures }) (c .if1 .taken))
 
 returns-2 : tie.Need-returns-2
 returns-2 c =
     let donor = c .before in
     let own = own-sought donor in
-    from-donor _ _ _ _ _ _ _ (own .before .bin-of .ensures) _ (own .own-bin .ensures) (own-empty donor .if1 .left)
-    (donor .donor-serves .ensures) (c .if2 .taken)
+    chooses
+    (from-donor (record { taken = own .before .bin-of .ensures; found = own .own-bin .ensures }) (own-empty donor .if1 .left)
+    (donor .donor-serves .ensures) (c .if2 .taken))
 
 returns-3 : tie.Need-returns-3
 returns-3 c =
     let larger = c .before .before in
     let donor = donor-asked larger in
     let own = own-sought donor in
-    from-larger _ _ _ _ _ _ _ (own .before .bin-of .ensures) _ (own .own-bin .ensures) (own-empty donor .if1 .left)
-    (donor .donor-serves .ensures) (no-donor larger .if2 .left) _ (larger .larger-bin .ensures) (c .if3 .taken)
+    chooses
+    (from-larger (record { taken = own .before .bin-of .ensures; found = own .own-bin .ensures }) (own-empty donor .if1 .left)
+    (donor .donor-serves .ensures) (no-donor larger .if2 .left) (larger .larger-bin .ensures) (c .if3 .taken))
 
 returns-4 : tie.Need-returns-4
 returns-4 c =
@@ -54,9 +56,10 @@ returns-4 c =
     let larger = larger-sought top in
     let donor = donor-asked larger in
     let own = own-sought donor in
-    from-top _ _ _ _ _ _ _ (own .before .bin-of .ensures) _ (own .own-bin .ensures) (own-empty donor .if1 .left)
-    (donor .donor-serves .ensures) (no-donor larger .if2 .left) _ (larger .larger-bin .ensures) (larger-empty top .if3 .left)
-    (top .top-serves .ensures) (c .if4 .taken)
+    chooses
+    (from-top (record { taken = own .before .bin-of .ensures; found = own .own-bin .ensures }) (own-empty donor .if1 .left)
+    (donor .donor-serves .ensures) (no-donor larger .if2 .left) (larger .larger-bin .ensures) (larger-empty top .if3 .left)
+    (top .top-serves .ensures) (c .if4 .taken))
 
 returns-5 : tie.Need-returns-5
 returns-5 c =
@@ -64,9 +67,10 @@ returns-5 c =
     let larger = larger-sought top in
     let donor = donor-asked larger in
     let own = own-sought donor in
-    from-nowhere _ _ _ _ _ _ _ (own .before .bin-of .ensures) _ (own .own-bin .ensures) (own-empty donor .if1 .left)
-    (donor .donor-serves .ensures) (no-donor larger .if2 .left) _ (larger .larger-bin .ensures) (larger-empty top .if3 .left)
-    (top .top-serves .ensures) (c .if4 .left)
+    chooses
+    (from-nowhere (record { taken = own .before .bin-of .ensures; found = own .own-bin .ensures }) (own-empty donor .if1 .left)
+    (donor .donor-serves .ensures) (no-donor larger .if2 .left) (larger .larger-bin .ensures) (larger-empty top .if3 .left)
+    (top .top-serves .ensures) (c .if4 .left))
 
 pub choose-spec : {M : Type 1} → statement M
 choose-spec =

@@ -6,7 +6,7 @@ use Rattle.grant.proofs.choose.own_bin.Tie as tie
 
 returns : tie.Need-returns
 unfolding ownM
-returns c = rw (c .before .before .before .binned .given .1, ← c .before .end-of .ensures) (c .first-fit .ensures)
+returns c = rw (c .before .before .before .binned .given .1, ← c .before .list-end .ensures) (c .first-fit .ensures)
 
 returns-2 : tie.Need-returns-2
 unfolding ownM

@@ -9,4 +9,4 @@ unfolding topM
 returns c = rw (c .word .ensures)
 
 pub top-serves-spec : {M : Type 1} → statement M
-top-serves-spec = tie.close (tie.spec (λ c. search needs) (λ c κs. search needs) (λ c. search needs) returns)
+top-serves-spec = tie.close (tie.spec (λ c. search needs) (λ c. search needs) (λ c κs. search needs) (λ c. search needs) returns)

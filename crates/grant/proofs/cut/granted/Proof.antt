@@ -19,4 +19,4 @@ returns-2 c =
     rw (lt-leb (a .need + 24) (a .size) (c .if1 .left))
 
 pub granted-spec : {M : Type 1} → statement M
-granted-spec = tie.close (tie.spec (λ c. search needs) returns returns-2)
+granted-spec = tie.close (tie.spec (λ c. search needs) (λ c. search needs) returns returns-2)

@@ -1,6 +1,6 @@
 -- `cut::take` is its definition, write by write. Assumes nothing.
 use borrow.Author.Needs.{needs}
-use Rattle.grant.proofs.CutSteps.{took-all, took-part}
+use Rattle.grant.proofs.CutSteps.{taking, took-all, took-part}
 use Rattle.grant.proofs.cut.take.Statement.{statement}
 use Rattle.grant.proofs.cut.take.Tie as tie
 
@@ -25,7 +25,7 @@ module _ (c : tie.After-slice-known13) where
   measured = settled .before .before .before .before
 
   abbrev linked : tie.After-write-above2
-  linked = measured .before .before .before
+  linked = measured .before .before .before .before
 
   abbrev freed : tie.After-write-free
   freed = linked .before .before .before .before
@@ -38,14 +38,16 @@ module _ (c : tie.After-slice-known13) where
 
 returns : tie.Need-returns
 returns c =
-    took-all _ _ _ _ (out-of-bin (all-used c) .before .is-ordinary .ensures) (out-of-bin (all-used c) .leave-bin .ensures)
-    (all-used c .write-used .ensures) (nothing-left c .if1 .taken) (c .before .before .write-above .ensures)
+    taking
+    (took-all (out-of-bin (all-used c) .before .is-ordinary .ensures) (out-of-bin (all-used c) .leave-bin .ensures)
+    (all-used c .write-used .ensures) (nothing-left c .if1 .taken) (c .before .before .write-above .ensures))
 
 returns-2 : tie.Need-returns-2
 returns-2 c =
-    took-part _ _ _ _ (out-of-bin (part-used c) .before .is-ordinary .ensures) (out-of-bin (part-used c) .leave-bin .ensures)
+    taking
+    (took-part (out-of-bin (part-used c) .before .is-ordinary .ensures) (out-of-bin (part-used c) .leave-bin .ensures)
     (part-used c .write-used .ensures) (rest-left c .if1 .left) (freed c .write-free .ensures) (linked c .write-above2 .ensures)
-    (measured c .distance .ensures) (settled c .settle .ensures)
+    (measured c .distance .ensures) (settled c .settle .ensures))
 
 pub take-spec : {M : Type 1} → statement M
 take-spec =

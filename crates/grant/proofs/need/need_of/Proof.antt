@@ -1,6 +1,6 @@
 -- `need::need_of` adds the header and goes up to a multiple of 8. Assumes nothing.
 use borrow.Author.Needs.{needs}
-use Rattle.grant.proofs.NeedLaws.{need-none, need-least, need-eights}
+use Rattle.grant.proofs.NeedMeaning.{need-none, need-least, need-eights}
 use Rattle.grant.proofs.need.need_of.Statement.{statement}
 use Rattle.grant.proofs.need.need_of.Tie as tie
 

@@ -5,13 +5,13 @@ use native.Mathlib.Numerals.{add-one}
 use mathlib.Core.Path.{_≡_}
 use borrow.Author.Needs.{needs}
 use lib.ListN.{length, drop}
-use Rattle.record.specs.Table.{run, smallBins}
+use Rattle.record.specs.Table.{eightsFrom, smallBins}
 use Rattle.record.proofs.TableSteps.{small-start, run-stops, run-goes, run-ends}
 use Rattle.record.proofs.table.small_bins.Statement.{statement}
 use Rattle.record.proofs.table.small_bins.Tie as tie
 
 abbrev Inv-loop : tie.InvT-loop
-Inv-loop table next₀ i₀ next i = (1 ≤ i) × (i - 1 + run next (drop i table) ≡ smallBins table)
+Inv-loop table next₀ i₀ next i = (1 ≤ i) × (i - 1 + eightsFrom next (drop i table) ≡ smallBins table)
 
 abbrev μ-loop : tie.MeasureT-loop
 μ-loop table next₀ i₀ next i = length table - i

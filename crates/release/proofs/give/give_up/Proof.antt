@@ -1,24 +1,31 @@
--- `give::give_up` gives the chunk back, and says where donor and top are then. Assumes nothing.
+-- `give::give_up` gives the chunk back, and hands the summary back. Assumes nothing.
 use borrow.Author.Needs.{needs}
-use Rattle.release.proofs.GiveSteps.{gives-up}
+use Rattle.release.proofs.GiveSteps.{gives-up, gave-up}
 use Rattle.release.proofs.give.give_up.Statement.{statement}
 use Rattle.release.proofs.give.give_up.Tie as tie
 
--- behind the new donor: the chunk is given back
-abbrev given : tie.After-donor-after → tie.After-give-back
-given c = c .before .before .before .before .before .before .before
+-- behind the size: the chunk is given back, and before that joined
+module _ (sized : tie.After-distance) where
+  abbrev given : tie.After-give-back
+  given = sized .before .before .before .before .before .before .before
+
+  abbrev joined : tie.After-join
+  joined = given .before .before .before .before .before
 
 returns : tie.Need-returns
 returns c =
-    let given = given (c .before) in
-    let joined = given .before .before .before .before .before in
-    gives-up _ _ _ _ _ _ _ (joined .join .ensures) (given .give-back .ensures)
-    (c .before .donor-after .ensures) (c .top-after .ensures)
+    let settled = c .before in
+    let sized = settled .before .before in
+    gives-up
+    (gave-up (joined sized .join .ensures) (given sized .give-back .ensures) (sized .distance .ensures) (settled .before .distance2 .ensures)
+    (settled .settled .ensures) (c .with-used .ensures))
 
 pub give-up-spec : {M : Type 1} → statement M
 give-up-spec =
     tie.close
     (tie.spec
+    (λ c κs. search needs)
+    (λ c κs. search needs)
     (λ c κs. search needs)
     (λ c κs. search needs)
     (λ c κs. search needs)

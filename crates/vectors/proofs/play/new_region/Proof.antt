@@ -12,7 +12,7 @@ new-region-spec =
     (tie.spec
     (λ c κs. search needs)
     (λ c. search needs)
-    (λ c. sym (length-take-le (c .before .least .result) _ (omega arith)))
+    (λ c. sym (length-take-le (c .before .smaller .result) _ (omega arith)))
     (λ c κs. search needs)
     (λ c. search needs)
     (λ c. search needs))

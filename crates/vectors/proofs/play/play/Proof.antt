@@ -16,8 +16,8 @@ Inv-loop script space₀ state₀ words₀ at₀ space state words at = (length 
 abbrev μ-loop : tie.MeasureT-loop
 μ-loop script space₀ state₀ words₀ at₀ space state words at = length script - at
 
-further : (c : tie.Else1 Inv-loop μ-loop) → c .before .before .before .before .loop .at < c .before .before .entry-at .result .after
-further c = c .before .before .entry-at .ensures (not-false _ (c .if1 .left))
+further : (c : tie.Else1 Inv-loop μ-loop) → c .before .before .before .before .loop .at < c .before .before .action-at .result .after
+further c = c .before .before .action-at .ensures (not-false _ (c .if1 .left))
 
 loop-less : tie.Need-loop-less Inv-loop μ-loop
 loop-less c =

@@ -1,0 +1,4 @@
+pub mod SegmentLaws
+pub mod BooksLaws
+pub mod HeapBooks
+pub mod WayLaws

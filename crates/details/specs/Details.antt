@@ -1,0 +1,50 @@
+-- What a chunk tells, as the code finds it: from the place that was found on the chain, and from the words of a member.
+-- It mirrors the code; that on a heap that passes these are the answers of the rules is proved in `ask`.
+use mathlib.Core.Bool.{Bool, true, cond}
+use mathlib.Core.List.{List}
+use Prim.Native.Nat.{ℕ, _-_, _%_}
+use lib.Dec.{eqb}
+use Rattle.chain.specs.Chain.{kindM}
+use Rattle.record.specs.declared.heap.Summary.{Summary}
+use Rattle.record.specs.declared.table.Binned.{Binned}
+use Rattle.record.specs.declared.table.Binned.the-variants.{Bin, NoBin}
+use Rattle.record.specs.Table.{binOf}
+use Rattle.region.specs.Places.{blockAt}
+use Rattle.region.specs.Words.{word, nextInBin, previousInBin}
+use Rattle.rules.specs.Kinds.{ordinaryKind}
+use Rattle.rules.specs.Shape.{entry}
+use Rattle.seek.specs.declared.Place.{Place}
+use Rattle.seek.specs.Seek.{liveM}
+
+unfoldable pub sizeM : Place → ℕ
+sizeM x = x .end - x .chunk .0
+
+abbrev pub numberIn : Binned → ℕ
+numberIn (Bin i) = i % 32
+numberIn NoBin = 0
+
+unfoldable pub binNumberM : List ℕ → ℕ → ℕ
+binNumberM table size = numberIn (binOf table size)
+
+-- block (2), next (4), previous (6), size (8), and else the type
+unfoldable pub ofPlaceM : ℕ → ℕ → Place → ℕ
+ofPlaceM bytes q x =
+    cond (eqb q 2) (cond (liveM bytes (x .chunk .0) (x .flags)) (blockAt (x .chunk .0)) 0)
+    (cond (eqb q 4) (cond (eqb (x .end) bytes) 0 (x .end))
+    (cond (eqb q 6) (x .before .0)
+    (cond (eqb q 8) (sizeM x) (x .flags))))
+
+unfoldable pub asksOfBinM : ℕ → Bool
+asksOfBinM q = cond (eqb q 1) true (cond (eqb q 5) true (eqb q 7))
+
+-- bin number (1), next in bin (5), and else previous in bin
+unfoldable pub ofMemberM : List ℕ → List ℕ → ℕ → Place → ℕ
+ofMemberM ws table q x =
+    cond (eqb q 1) (binNumberM table (sizeM x))
+    (cond (eqb q 5) (word ws (x .chunk .0) nextInBin) (word ws (x .chunk .0) previousInBin))
+
+unfoldable pub ofChunkM : List ℕ → List ℕ → Summary → ℕ → Place → ℕ
+ofChunkM ws table s q x =
+    cond (asksOfBinM q)
+    (cond (ordinaryKind (kindM s (entry (x .chunk .0) (sizeM x) (x .flags)))) (ofMemberM ws table q x) 0)
+    (ofPlaceM (s .bytes) q x)

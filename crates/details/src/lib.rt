@@ -1,0 +1,108 @@
+// What one chunk tells: of itself and its neighbours on the chain, and as a member of its bin. Where it is was found on the chain before.
+// Nothing is written.
+ghost use mathlib.Core.Path.{_≡_};
+ghost use Rattle.details.specs.Details.{asksOfBinM, binNumberM, ofChunkM, ofMemberM, ofPlaceM, sizeM};
+use chain::is_ordinary;
+use chain::kind_of;
+use record::heap::PLACES;
+use record::heap::Summary;
+use record::questions::BIN_NUMBER;
+use record::questions::BLOCK;
+use record::questions::NEXT;
+use record::questions::NEXT_MEMBER;
+use record::questions::PREVIOUS;
+use record::questions::PREVIOUS_MEMBER;
+use record::questions::SIZE;
+use record::table::Binned;
+use record::table::bin_of;
+use region::NEXT_IN_BIN;
+use region::PREVIOUS_IN_BIN;
+use region::block_of;
+use region::word;
+use seek::Place;
+use seek::has_live_block;
+
+// A place that was found ends above its chunk. The test is there so that the subtraction needs no requirement.
+fn size_of(place: Place) -> u32
+    ensures { λ r. ⌜ r ≡ sizeM place ⌝ }
+{
+    if place.end < place.chunk.0 {
+        return 0;
+    }
+    place.end - place.chunk.0
+}
+
+// A table has at most 32 sizes, so that the remainder changes no bin's number. With it the number fits, whatever the table.
+fn bin_number(table: &[u32], size: u32) -> u32
+    ensures { λ r. ⌜ r ≡ binNumberM (now (table .entry)) size ⌝ }
+{
+    let binned = bin_of(table, size);
+    let Binned::Bin(bin) = binned else {
+        return 0;
+    };
+    (bin % PLACES) as u32
+}
+
+// What the place tells by itself: block, next, previous, size and type.
+fn of_place(bytes: u32, question: u32, place: Place) -> u32
+    ensures { λ r. ⌜ r ≡ ofPlaceM bytes question place ⌝ }
+{
+    if question == BLOCK {
+        if !has_live_block(bytes, place.chunk, place.flags) {
+            return 0;
+        }
+        return block_of(place.chunk).0;
+    }
+    if question == NEXT {
+        if place.end == bytes {
+            return 0;
+        }
+        return place.end;
+    }
+    if question == PREVIOUS {
+        return place.before.0;
+    }
+    if question == SIZE {
+        return size_of(place);
+    }
+    place.flags
+}
+
+fn asks_of_bin(question: u32) -> bool
+    ensures { λ r. ⌜ r ≡ asksOfBinM question ⌝ }
+{
+    if question == BIN_NUMBER {
+        return true;
+    }
+    if question == NEXT_MEMBER {
+        return true;
+    }
+    question == PREVIOUS_MEMBER
+}
+
+// What an ordinary chunk tells as a member of its bin.
+fn of_member(region: &[u32], table: &[u32], question: u32, place: Place) -> u32
+    ensures { λ r. ⌜ r ≡ ofMemberM (now (region .entry)) (now (table .entry)) question place ⌝ }
+{
+    if question == BIN_NUMBER {
+        return bin_number(table, size_of(place));
+    }
+    if question == NEXT_MEMBER {
+        return word(region, place.chunk, NEXT_IN_BIN);
+    }
+    word(region, place.chunk, PREVIOUS_IN_BIN)
+}
+
+// A chunk in use, the donor, the top and the ends are in no bin.
+pub fn of_chunk(region: &[u32], table: &[u32], summary: Summary, question: u32, place: Place) -> u32
+    ensures { λ r. ⌜ r ≡ ofChunkM (now (region .entry)) (now (table .entry)) summary question place ⌝ }
+{
+    if !asks_of_bin(question) {
+        return of_place(summary.bytes, question, place);
+    }
+    let kind = kind_of(summary, place.chunk, place.flags);
+    if !is_ordinary(kind) {
+        return 0;
+    }
+    of_member(region, table, question, place)
+}

@@ -1,0 +1,2 @@
+pub mod FirstRecordMeaning
+pub mod FirstHeadersMeaning

@@ -1,0 +1,2 @@
+pub mod ReclaimSteps
+pub mod ReclaimMeaning

@@ -1,0 +1,26 @@
+-- What settling a chunk leaves of a summary: all but donor and top; and all of it where the chunk is ordinary. Assumes nothing.
+use mathlib.Core.Path.{_≡_, refl}
+use mathlib.Core.Bool.{true}
+use Prim.Native.Nat.{ℕ}
+use Rattle.record.specs.declared.heap.Summary.{Summary}
+use Rattle.record.specs.declared.kinds.Kind.{Kind}
+use Rattle.record.specs.declared.kinds.Kind.the-variants.{Start, InUse, Ordinary, Donor, Top, End}
+use Rattle.rules.specs.Kinds.{ordinaryKind}
+use Rattle.rules.proofs.KindsLaws.{ordinary-kind}
+use Rattle.settling.specs.Settling.{settledM}
+
+-- the summary `after` has what no settling changes from s
+pub record KeptBySettling (s after : Summary) : Type 0 where
+  pub bins : after .bins ≡ s .bins
+  pub used : after .used ≡ s .used
+
+pub settled-keeps : (s : Summary) (k : Kind) (c : ℕ) → KeptBySettling s (settledM s k c)
+settled-keeps s Start c = record { bins = refl; used = refl }
+settled-keeps s InUse c = record { bins = refl; used = refl }
+settled-keeps s Ordinary c = record { bins = refl; used = refl }
+settled-keeps s Donor c = record { bins = refl; used = refl }
+settled-keeps s Top c = record { bins = refl; used = refl }
+settled-keeps s End c = record { bins = refl; used = refl }
+
+pub settled-ordinary : (s : Summary) (k : Kind) (c : ℕ) → ordinaryKind k ≡ true → settledM s k c ≡ s
+settled-ordinary s k c o = rw (ordinary-kind k o)

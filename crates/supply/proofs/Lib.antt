@@ -1,0 +1,2 @@
+pub mod SupplySteps
+pub mod SupplyMeaning

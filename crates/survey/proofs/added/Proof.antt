@@ -1,0 +1,29 @@
+-- `survey::added` adds a share to each count. Assumes nothing.
+use borrow.Author.Needs.{needs}
+use Rattle.survey.proofs.added.Statement.{statement}
+use Rattle.survey.proofs.added.Tie as tie
+
+returns : tie.Need-returns
+returns c =
+    let tops = c .before .before in
+    let ordinary = tops .before .before in
+    rw (
+      c .wrapping-add-u326 .ensures,
+      c .before .wrapping-add-u325 .ensures,
+      tops .wrapping-add-u324 .ensures,
+      tops .before .wrapping-add-u323 .ensures,
+      ordinary .wrapping-add-u322 .ensures,
+      ordinary .before .wrapping-add-u32 .ensures,
+    )
+
+pub added-spec : {M : Type 1} → statement M
+added-spec =
+    tie.close
+    (tie.spec
+    (λ c κs. search needs)
+    (λ c κs. search needs)
+    (λ c κs. search needs)
+    (λ c κs. search needs)
+    (λ c κs. search needs)
+    (λ c κs. search needs)
+    returns)
