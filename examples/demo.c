@@ -1,5 +1,5 @@
-/* The demonstration, in C: a heap of 64 words, nine calls, and then the heap as it stands, chunk by chunk.
-   It prints the nine lines of crates/demo/stdout. README.md says how to build it. */
+/* The demonstration in C: sets up a heap of 64 words, makes nine calls and prints the heap chunk by chunk,
+   the nine lines of crates/demo/stdout. README.md says how to build it. */
 #include <stdio.h>
 
 #include "kruzhvela.h"
@@ -18,14 +18,14 @@ static uint32_t ask(Station *s, uint32_t question, uint32_t chunk)
     return s->answer[KZ_ANSWER_VALUE];
 }
 
-/* The block, or 0 where it is refused. */
+/* The block's offset, 0 if the call is refused. */
 static uint32_t allocate(Station *s, uint32_t z)
 {
     kz_allocate(s->region, WORDS, s->record, z, s->answer);
     return s->answer[KZ_ANSWER_OFFSET];
 }
 
-static uint32_t give_back(Station *s, uint32_t block)
+static uint32_t free_block(Station *s, uint32_t block)
 {
     return kz_free(s->region, WORDS, s->record, block, s->answer);
 }
@@ -58,7 +58,7 @@ static void print_heap(Station *s)
     } while (chunk != 0);
 }
 
-/* Each call with what the demonstration says of it; 1 at the first that differs. */
+/* Makes the calls; 1 at the first answer that differs from the demonstration's. */
 static int play(Station *s)
 {
     const uint32_t table[] = {24, 32, 40, 128};
@@ -68,7 +68,7 @@ static int play(Station *s)
         return 1;
     if (allocate(s, 16) != 0 || s->answer[KZ_ANSWER_REFUSAL] != KZ_NO_ROOM)
         return 1;
-    if (give_back(s, 80) != KZ_ACCEPTED || give_back(s, 112) != KZ_ACCEPTED || give_back(s, 112) != KZ_NOT_LIVE)
+    if (free_block(s, 80) != KZ_ACCEPTED || free_block(s, 112) != KZ_ACCEPTED || free_block(s, 112) != KZ_NOT_LIVE)
         return 1;
     return allocate(s, 16) != 80;
 }
@@ -77,7 +77,7 @@ int main(void)
 {
     static Station station;
     if (play(&station) != 0) {
-        fputs("a call answered otherwise than the demonstration says\n", stderr);
+        fputs("an answer differs from the demonstration's\n", stderr);
         return 1;
     }
     print_heap(&station);

@@ -1,9 +1,11 @@
-/* Kruzhvela for C: a binned heap inside one lent region of 32-bit words. crates/abi proves every function here:
-   answer, record and region afterwards are those of the call's rule (crates/rules/specs), for all arguments that keep the border below.
+/* Kruzhvela for C: a binned heap in one region of 32-bit words that the caller lends. crates/abi proves of every function here
+   that the answer, the record and the region afterwards are those of the call's rule (crates/rules/specs), for all arguments
+   that meet these preconditions, which no proof covers:
 
-   The border, which no proof can cover. Each pointer is not null, is aligned for uint32_t and points to as many words as are said:
-   region to `words`, table to `bins`, record to KZ_RECORD_WORDS, answer to KZ_ANSWER_WORDS. Region, table, record and answer
-   do not overlap, and no one else writes them before the function returns. A bool is 0 or 1. */
+   - Each pointer is not null, is aligned for uint32_t and points to an array of the stated number of words: region `words`,
+     table `bins`, record KZ_RECORD_WORDS, answer KZ_ANSWER_WORDS.
+   - Region, table, record and answer do not overlap, and nothing else writes them before the function returns.
+   - A bool holds 0 or 1. */
 #ifndef KRUZHVELA_H
 #define KRUZHVELA_H
 
@@ -11,33 +13,35 @@
 #include <stddef.h>
 #include <stdint.h>
 
-#define KZ_RECORD_WORDS 102
-#define KZ_ANSWER_WORDS 5
+/* Length of the record's three arrays: the most bins that a heap may have. */
+#define KZ_MOST_BINS 32
 
-/* The words of the record. The caller keeps them from call to call and need not read them. */
-#define KZ_RECORD_BYTES 0
-#define KZ_RECORD_BINS 1
-#define KZ_RECORD_DONOR 2
+/* Words of the record. The caller keeps it between calls and need not read it. */
+#define KZ_RECORD_BYTES 0 /* heap bytes */
+#define KZ_RECORD_BINS 1  /* number of bins */
+#define KZ_RECORD_DONOR 2 /* the donor's place, 0 for none */
 #define KZ_RECORD_TOP 3
-#define KZ_RECORD_MERGE 4 /* 0 or 1; a record with another is damaged: KZ_HEAP_FAILS */
-#define KZ_RECORD_USED 5
-#define KZ_RECORD_SIZES 6  /* 32 words */
-#define KZ_RECORD_HEADS 38 /* 32 words */
-#define KZ_RECORD_TAILS 70 /* 32 words */
+#define KZ_RECORD_MERGE 4 /* 0 or 1; any other value is damage: KZ_HEAP_FAILS */
+#define KZ_RECORD_USED 5  /* used bytes */
+#define KZ_RECORD_SIZES 6 /* the three arrays: bin sizes, heads and tails of the bin lists */
+#define KZ_RECORD_HEADS (KZ_RECORD_SIZES + KZ_MOST_BINS)
+#define KZ_RECORD_TAILS (KZ_RECORD_HEADS + KZ_MOST_BINS)
+#define KZ_RECORD_WORDS (KZ_RECORD_TAILS + KZ_MOST_BINS) /* 102 */
 
-/* The words of an answer to every call but the check. What a call does not give is 0. */
+/* Words of an answer. A word that the call does not name is 0. */
+#define KZ_ANSWER_WORDS 5
 #define KZ_ANSWER_REFUSAL 0
 #define KZ_ANSWER_OFFSET 1
 #define KZ_ANSWER_VALUE 2
-#define KZ_ANSWER_CHANGE 3 /* of the used bytes, in two's complement */
+#define KZ_ANSWER_CHANGE 3 /* in used bytes, two's complement */
 
-/* The words of the check's answer; its refusal is word 0 too. */
+/* Words of the check's answer. Word 0 is the refusal here too. */
 #define KZ_CHECK_CHUNKS 1
 #define KZ_CHECK_ORDINARY 2 /* ordinary free chunks */
 #define KZ_CHECK_USED 3
 #define KZ_CHECK_FREE 4
 
-/* Questions about a chunk by its place; KZ_ASK_CHUNK alone is about a block. The answer is the value; where there is none, 0. */
+/* Questions about the chunk at a place; for KZ_ASK_CHUNK the place is a block's. The answer is the value, 0 for none. */
 #define KZ_ASK_BIN 1   /* of a chunk in a bin */
 #define KZ_ASK_BLOCK 2 /* of a chunk whose block is live */
 #define KZ_ASK_CHUNK 3 /* of a live block */
@@ -53,8 +57,8 @@
 #define KZ_ASK_FIRST 2
 #define KZ_ASK_LAST 3
 
-/* Refusals. Every function returns one, and writes it to word 0 of the answer. A refused call changes neither region nor record;
-   a refused setup leaves a record of zeros. */
+/* Refusals. Every function returns the number that it writes to word 0 of the answer. A refused call changes neither region nor
+   record, except that a refused setup writes a record of zeros. */
 #define KZ_ACCEPTED 0
 #define KZ_REGION_LENGTH 1
 #define KZ_BAD_TABLE 2
@@ -70,28 +74,32 @@
 extern "C" {
 #endif
 
-/* A heap in 10 to 16,384 words: the sizes of its bins, the first of them 24; the bytes of its donor, from which small blocks come,
-   0 for none; whether chunks that are given back join their neighbours. Writes the record and does not read it. */
+/* Sets up a heap in a region of 10 to 16,384 words. table: ascending bin sizes, multiples of 8, the first 24. donor: bytes of the
+   donor chunk, which serves small requests; 0 for none. merge: whether free coalesces a chunk with its free neighbours.
+   Writes the record without reading it. */
 uint32_t kz_setup(uint32_t *region, size_t words, const uint32_t *table, size_t bins, uint32_t donor, bool merge,
                   uint32_t *record, uint32_t *answer);
 
-/* A block of z bytes, 1 to 65,488: its offset in bytes from the region's first word. Its words are as they were found. */
+/* Allocates a block of z bytes, 1 to 65,488, and answers its offset in bytes from the region's first word.
+   The block's words stay as found. */
 uint32_t kz_allocate(uint32_t *region, size_t words, uint32_t *record, uint32_t z, uint32_t *answer);
 
-/* A block of count times size bytes, every word of it 0. */
+/* Allocates a block of count times size bytes and sets every word of it to 0. */
 uint32_t kz_allocate_cleared(uint32_t *region, size_t words, uint32_t *record, uint32_t count, uint32_t size,
                              uint32_t *answer);
 
-/* Gives a block back. Block 0 is accepted, and nothing is done. */
+/* Frees a block. Block 0 is accepted and changes nothing. A double free is refused with KZ_NOT_LIVE, unless a new block has been
+   allocated at that offset in between. */
 uint32_t kz_free(uint32_t *region, size_t words, uint32_t *record, uint32_t block, uint32_t *answer);
 
-/* Gives a block z bytes. It may move, and begins with what it held. Block 0: as kz_allocate. */
+/* Resizes a block to z bytes and answers its offset: it may move. Its contents stay, up to the smaller of both sizes.
+   Block 0: as kz_allocate. */
 uint32_t kz_reallocate(uint32_t *region, size_t words, uint32_t *record, uint32_t block, uint32_t z, uint32_t *answer);
 
-/* Whether chunks that are given back join their neighbours from now on. */
+/* Turns coalescing on or off for the calls that follow. */
 uint32_t kz_set_merge(uint32_t *region, size_t words, uint32_t *record, bool on, uint32_t *answer);
 
-/* Looks at the whole heap, and counts. Every other call but setup looks at it first, too. */
+/* Checks the whole heap and counts its chunks and bytes. Every other call but setup makes the same check first. */
 uint32_t kz_check(uint32_t *region, size_t words, uint32_t *record, uint32_t *answer);
 
 uint32_t kz_ask_chunk(uint32_t *region, size_t words, uint32_t *record, uint32_t question, uint32_t place,

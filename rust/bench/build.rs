@@ -1,5 +1,5 @@
-//! Compiles the C that the heap is measured against: the check by hand, and newlib's two allocators over a fixed arena, from
-//! Debian's newlib-source. Where that package is missing they are left out.
+//! Compiles the peers in C: the check by hand, and newlib's two allocators over a fixed arena, from Debian's package
+//! newlib-source. Without that package newlib is left out.
 
 use std::env;
 use std::path::{Path, PathBuf};
@@ -14,12 +14,12 @@ fn run(command: &mut Command) {
 
 fn compile(out: &Path, name: &str, source: &Path, words: &[String]) -> PathBuf {
     let object = out.join(name).with_extension("o");
-    let fixed = ["-O3", "-fPIC", "-w", "-c", "-include", "c/arena.h"];
+    let fixed = ["-O3", "-fPIC", "-w", "-c", "-include", "c/arena.h", "-I../../include"];
     run(Command::new("cc").args(fixed).args(words).arg(source).arg("-o").arg(&object));
     object
 }
 
-/// The allocator's functions under names of their own, and what else its source asks for.
+/// Renames the allocator's functions, so that they do not clash with libc's, and adds the macros that its source needs.
 fn words(prefix: &str, more: &[&str]) -> Vec<String> {
     let names =
         ["malloc", "free", "realloc", "calloc", "cfree", "memalign", "valloc", "pvalloc", "mallinfo", "mallopt"];
@@ -44,12 +44,13 @@ fn newlib(out: &Path) -> Vec<PathBuf> {
 
 fn main() {
     println!("cargo:rerun-if-changed=c");
+    println!("cargo:rerun-if-changed=../../include/kruzhvela.h");
     println!("cargo:rerun-if-changed={NEWLIB}");
     println!("cargo:rustc-check-cfg=cfg(newlib)");
-    let out = PathBuf::from(env::var_os("OUT_DIR").expect("a folder for what is made"));
+    let out = PathBuf::from(env::var_os("OUT_DIR").expect("OUT_DIR"));
     let limit = Path::new("c/limit.c");
-    let tested = ["-DTESTED".to_string()];
-    let mut objects = vec![compile(&out, "limit", limit, &[]), compile(&out, "tested", limit, &tested)];
+    let bounded = ["-DBOUNDS_CHECKS".to_string()];
+    let mut objects = vec![compile(&out, "limit", limit, &[]), compile(&out, "bounded", limit, &bounded)];
     if Path::new(NEWLIB).is_file() {
         objects.extend(newlib(&out));
         println!("cargo:rustc-cfg=newlib");

@@ -1,4 +1,4 @@
-/* One fixed arena of 65,536 bytes for each of newlib's allocators, as an embedded program would give it. */
+/* One fixed arena of 65,536 bytes for each of newlib's allocators, as in an embedded program. */
 #include "arena.h"
 
 enum { ARENA = 65536 };

@@ -1,4 +1,4 @@
-/* What newlib's allocators grow by; -1, as a pointer, at the arena's end. */
+/* The sbrk of newlib's allocators: (void *)-1 at the arena's end. */
 #include <stddef.h>
 
 void *full_sbrk(ptrdiff_t by);

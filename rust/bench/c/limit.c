@@ -1,23 +1,26 @@
-/* The limit for the check: a walk by hand that reads the same words and keeps the same marks, in C, with nothing between it and
-   the words. It answers the four counts, or 0 where the heap fails.
-   With TESTED each word and each mark is reached behind a test that it is there, as in the proved check, which relies on no walk
-   before: so it is measured what these tests cost. */
+/* The peer of the proved check, written by hand in C: it reads the same words and keeps the same bitmap of marks. It writes the
+   check's answer, or zeros and false if the heap fails.
+   With BOUNDS_CHECKS a bounds check precedes each word and each mark, as in the proved check: the difference is what they cost. */
 #include <stdbool.h>
 #include <stddef.h>
 #include <stdint.h>
 #include <string.h>
 
+#include "kruzhvela.h"
+
 enum { FORWARD, BACKWARD, SIZE, NEXT_IN_BIN, PREVIOUS_IN_BIN, BIN };
-enum { BYTES, BINS, DONOR, TOP, MERGE, USED, SIZES, HEADS = SIZES + 32, TAILS = HEADS + 32 };
+enum { WORD_BYTES = 4, ALIGNMENT = 8, HEADER_BYTES = 8, LEAST_CHUNK = 24, FEWEST_WORDS = 10, MOST_WORDS = 16384 };
+enum { IN_USE = 1, BIN_FACTOR = 8 };
 
-enum { MARKS = 256 };
+/* The bitmap: one bit for each aligned place of the largest heap. A word of it covers WORD_COVERS heap bytes. */
+enum { WORD_BITS = 32, WORD_COVERS = ALIGNMENT * WORD_BITS, MARKS = MOST_WORDS * WORD_BYTES / WORD_COVERS };
 
-#ifdef TESTED
-#define CHECK tested_check
-#define THERE(i, count) ((i) < (count))
+#ifdef BOUNDS_CHECKS
+#define CHECK bounded_check
+#define IN_BOUNDS(i, count) ((i) < (count))
 #else
 #define CHECK limit_check
-#define THERE(i, count) 1
+#define IN_BOUNDS(i, count) 1
 #endif
 
 typedef struct {
@@ -31,56 +34,56 @@ typedef struct {
 
 static inline uint32_t word(Region region, uint32_t chunk, uint32_t number)
 {
-    size_t i = (size_t)(chunk / 4) + number;
-    return THERE(i, region.count) ? region.words[i] : 0;
+    size_t i = (size_t)(chunk / WORD_BYTES) + number;
+    return IN_BOUNDS(i, region.count) ? region.words[i] : 0;
 }
 
 static inline bool is_marked(const uint32_t *marks, uint32_t chunk)
 {
-    return THERE(chunk / 256, MARKS) && (marks[chunk / 256] >> (chunk / 8 % 32) & 1) == 1;
+    return IN_BOUNDS(chunk / WORD_COVERS, MARKS) && (marks[chunk / WORD_COVERS] >> (chunk / ALIGNMENT % WORD_BITS) & 1) == 1;
 }
 
 static inline void flip(uint32_t *marks, uint32_t chunk)
 {
-    if (THERE(chunk / 256, MARKS))
-        marks[chunk / 256] ^= 1u << (chunk / 8 % 32);
+    if (IN_BOUNDS(chunk / WORD_COVERS, MARKS))
+        marks[chunk / WORD_COVERS] ^= 1u << (chunk / ALIGNMENT % WORD_BITS);
 }
 
 static bool table_valid(const uint32_t *record)
 {
-    uint32_t bins = record[BINS];
-    if (bins < 1 || bins > 32 || record[SIZES] != 24)
+    uint32_t bins = record[KZ_RECORD_BINS];
+    if (bins < 1 || bins > KZ_MOST_BINS || record[KZ_RECORD_SIZES] != LEAST_CHUNK)
         return false;
     for (uint32_t i = 1; i < bins; i++)
-        if (record[SIZES + i] % 8 != 0 || record[SIZES + i] <= record[SIZES + i - 1])
+        if (record[KZ_RECORD_SIZES + i] % ALIGNMENT != 0 || record[KZ_RECORD_SIZES + i] <= record[KZ_RECORD_SIZES + i - 1])
             return false;
-    for (uint32_t i = bins; i < 32; i++)
-        if ((record[SIZES + i] | record[HEADS + i] | record[TAILS + i]) != 0)
+    for (uint32_t i = bins; i < KZ_MOST_BINS; i++)
+        if ((record[KZ_RECORD_SIZES + i] | record[KZ_RECORD_HEADS + i] | record[KZ_RECORD_TAILS + i]) != 0)
             return false;
     return true;
 }
 
 static bool walk_chain(Region region, const uint32_t *record, uint32_t *marks, Counts *counts)
 {
-    uint32_t end = record[BYTES] - 8, donor = record[DONOR], top = record[TOP];
+    uint32_t end = record[KZ_RECORD_BYTES] - HEADER_BYTES, donor = record[KZ_RECORD_DONOR], top = record[KZ_RECORD_TOP];
     uint32_t at = 0, before = 0;
     bool donor_seen = donor == 0;
     for (;;) {
         uint32_t next = word(region, at, FORWARD), back = word(region, at, BACKWARD);
         counts->chunks++;
-        if ((back & ~1u) != before)
+        if ((back & ~(uint32_t)IN_USE) != before)
             return false;
         if (at == end)
-            return next == 0 && (back & 1) == 1 && before == top && donor_seen;
-        if (next <= at || next > end || next % 8 != 0)
+            return next == 0 && (back & IN_USE) == IN_USE && before == top && donor_seen;
+        if (next <= at || next > end || next % ALIGNMENT != 0)
             return false;
         uint32_t size = next - at;
         if (at == 0) {
-            if (size != 8 || (back & 1) == 0)
+            if (size != HEADER_BYTES || (back & IN_USE) == 0)
                 return false;
-        } else if (size < 24) {
+        } else if (size < LEAST_CHUNK) {
             return false;
-        } else if ((back & 1) == 1) {
+        } else if ((back & IN_USE) == IN_USE) {
             counts->used += size;
         } else {
             if (word(region, at, SIZE) != size)
@@ -103,24 +106,25 @@ static bool walk_chain(Region region, const uint32_t *record, uint32_t *marks, C
 static bool walk_lists(Region region, const uint32_t *record, uint32_t *marks, uint32_t ordinary)
 {
     uint32_t met = 0;
-    for (uint32_t bin = 0; bin < record[BINS]; bin++) {
-        uint32_t least = record[SIZES + bin];
-        uint32_t limit = bin + 1 < record[BINS] ? record[SIZES + bin + 1] : UINT32_MAX;
+    for (uint32_t bin = 0; bin < record[KZ_RECORD_BINS]; bin++) {
+        uint32_t least = record[KZ_RECORD_SIZES + bin];
+        uint32_t limit = bin + 1 < record[KZ_RECORD_BINS] ? record[KZ_RECORD_SIZES + bin + 1] : UINT32_MAX;
         uint32_t before = 0;
-        for (uint32_t at = record[HEADS + bin]; at != 0;) {
-            if (at % 8 != 0 || at >= record[BYTES])
+        for (uint32_t at = record[KZ_RECORD_HEADS + bin]; at != 0;) {
+            if (at % ALIGNMENT != 0 || at >= record[KZ_RECORD_BYTES])
                 return false;
             if (!is_marked(marks, at))
                 return false;
             flip(marks, at);
             uint32_t size = word(region, at, SIZE);
-            if (word(region, at, PREVIOUS_IN_BIN) != before || word(region, at, BIN) != bin * 8 || size < least || size >= limit)
+            if (word(region, at, PREVIOUS_IN_BIN) != before || word(region, at, BIN) != bin * BIN_FACTOR || size < least ||
+                size >= limit)
                 return false;
             met++;
             before = at;
             at = word(region, at, NEXT_IN_BIN);
         }
-        if (record[TAILS + bin] != before)
+        if (record[KZ_RECORD_TAILS + bin] != before)
             return false;
     }
     return met == ordinary;
@@ -131,19 +135,20 @@ bool CHECK(const uint32_t *words, size_t count, const uint32_t *record, uint32_t
     Region region = {words, count / 2 * 2};
     uint32_t marks[MARKS];
     Counts counts = {0, 0, 0, 0};
-    memset(answer, 0, 5 * sizeof *answer);
-    if (count < 10 || count > 16384 || record[BYTES] != count / 2 * 8 || record[MERGE] > 1 || !table_valid(record))
+    memset(answer, 0, KZ_ANSWER_WORDS * sizeof *answer);
+    if (count < FEWEST_WORDS || count > MOST_WORDS || record[KZ_RECORD_BYTES] != count / 2 * ALIGNMENT ||
+        record[KZ_RECORD_MERGE] > 1 || !table_valid(record))
         return false;
-    if (record[DONOR] >= record[TOP])
+    if (record[KZ_RECORD_DONOR] >= record[KZ_RECORD_TOP])
         return false;
     memset(marks, 0, sizeof marks);
-    if (!walk_chain(region, record, marks, &counts) || counts.used != record[USED])
+    if (!walk_chain(region, record, marks, &counts) || counts.used != record[KZ_RECORD_USED])
         return false;
     if (!walk_lists(region, record, marks, counts.ordinary))
         return false;
-    answer[1] = counts.chunks;
-    answer[2] = counts.ordinary;
-    answer[3] = counts.used;
-    answer[4] = counts.free;
+    answer[KZ_CHECK_CHUNKS] = counts.chunks;
+    answer[KZ_CHECK_ORDINARY] = counts.ordinary;
+    answer[KZ_CHECK_USED] = counts.used;
+    answer[KZ_CHECK_FREE] = counts.free;
     return true;
 }

@@ -1,4 +1,4 @@
-//! allocate + free, reallocate and cleared allocate + free, against the allocators that embedded C has today.
+//! allocate + free, reallocate and cleared allocate + free, against allocators that embedded C programs use.
 
 use crate::clock::{interleaved, Work};
 use crate::loads::{load, Load};
@@ -6,6 +6,8 @@ use crate::peers::{Allocator, Glibc, Kruzhvela};
 #[cfg(newlib)]
 use crate::peers::{NewlibFull, NewlibNano};
 use kruzhvela::flat;
+use kruzhvela::limits::MOST_WORDS;
+use kruzhvela::ChunkQuestion;
 use std::hint::black_box;
 
 #[derive(Clone, Copy, Debug, PartialEq, Eq)]
@@ -25,12 +27,12 @@ pub const LIVE: [usize; 3] = [20, 200, 2_000];
 
 const BINS: [u32; 12] = [24, 32, 40, 48, 56, 64, 104, 168, 248, 488, 968, 1_928];
 
-/// Nanoseconds of a step of the load, and what they are made of.
+/// Nanoseconds of a step of the load, and of its parts.
 pub struct Row {
     pub kind: Kind,
     pub live: usize,
     pub ours: f64,
-    /// The walk that finds a live block, and what is neither check nor walk: measured on a steady heap.
+    /// The walk that finds a live block, and the rest, neither check nor walk: measured on a steady heap.
     pub walk: f64,
     pub rest: f64,
     pub peers: Vec<Peer>,
@@ -44,7 +46,7 @@ pub struct Peer {
 }
 
 impl Row {
-    /// What the checks take in the run, where the heap is another at each step.
+    /// The checks' part. It can't be measured alone: in the load each step changes the heap.
     pub fn check(&self) -> f64 {
         self.ours - self.walk - self.rest
     }
@@ -83,7 +85,7 @@ impl<A: Allocator> Station<A> {
         load.steps.len() as u64
     }
 
-    /// Gives all back, for the next load.
+    /// Frees all blocks, for the next load.
     fn end(&mut self) {
         for &slot in &self.slots {
             self.allocator.free(slot);
@@ -91,8 +93,8 @@ impl<A: Allocator> Station<A> {
     }
 }
 
-/// A step that brings the heap back to where it was: the youngest strip goes and comes, or grows and shrinks again.
-/// So the check, which is the greater part of a call, can be measured by itself on the very states that the step meets.
+/// A steady step brings the heap back to the same state: it frees and allocates the youngest strip, or grows and shrinks
+/// it. So the check, the greater part of a call, can be measured alone on the states that the step meets.
 impl<A: Allocator> Station<A> {
     fn leave(&mut self, kind: Kind, load: &Load) {
         let slot = self.slots.len() - 1;
@@ -131,22 +133,23 @@ fn check(heap: &mut Kruzhvela) -> u64 {
     STEADY
 }
 
-/// Which chunk a live block has: the check, and the walk that finds it.
+/// Asks for the chunk of a live block: the check, and the walk that finds the block.
 fn ask(heap: &mut Kruzhvela, block: usize) -> u64 {
+    let question = ChunkQuestion::ChunkOfBlock as u32;
     for _ in 0..STEADY {
-        black_box(flat::ask_chunk(black_box(&mut heap.region), &mut heap.record, 3, block as u32));
+        black_box(flat::ask_chunk(black_box(&mut heap.region), &mut heap.record, question, block as u32));
     }
     STEADY
 }
 
-/// A steady step of ours, taken apart, and the peers' steady steps.
+/// The parts of a steady step of ours, and the peers' steady steps.
 struct Parts {
     walk: f64,
     rest: f64,
     peers: Vec<f64>,
 }
 
-/// Of a reallocate a steady step has two: the strip grows, and it shrinks.
+/// A steady step has two calls of reallocate, one that grows the strip and one that shrinks it.
 fn parts(kind: Kind, mut station: Station<Kruzhvela>, load: &Load, peers: Vec<Work>) -> Parts {
     station.steady(kind, load);
     let settled = station.allocator.clone();
@@ -167,7 +170,7 @@ fn parts(kind: Kind, mut station: Station<Kruzhvela>, load: &Load, peers: Vec<Wo
     works.extend(peers);
     let times = interleaved(works);
     let calls = if kind == Kind::Reallocate { 2.0 } else { 1.0 };
-    // a strip that went has no block to be found
+    // allocate has no block to find
     let second = if kind == Kind::Reallocate { times[4] - times[2] } else { 0.0 };
     let walks = times[3] - times[1] + second;
     Parts {
@@ -180,7 +183,7 @@ fn parts(kind: Kind, mut station: Station<Kruzhvela>, load: &Load, peers: Vec<Wo
 #[cfg_attr(not(newlib), allow(unused_mut))]
 fn measure(kind: Kind, live: usize) -> Row {
     let load = load(live, 400_000 / (live + 200));
-    let mut ours = Station::new(Kruzhvela::new(16_384, &BINS, 0, true), &load);
+    let mut ours = Station::new(Kruzhvela::new(MOST_WORDS, &BINS, 0, true), &load);
     let mut glibc = Station::new(Glibc, &load);
     #[cfg(newlib)]
     let (mut full, mut nano) = (Station::new(NewlibFull, &load), Station::new(NewlibNano, &load));
@@ -213,12 +216,12 @@ fn measure(kind: Kind, live: usize) -> Row {
     Row { kind, live, ours: steps[0], walk: parts.walk, rest: parts.rest, peers }
 }
 
-/// Steps of allocate + free with 20 strips, and nothing measured: for a profiler that counts instructions. A name that is
-/// not there plays nothing.
+/// Plays steps of allocate + free with 20 strips and measures nothing, for a profiler that counts instructions. An
+/// unknown name plays nothing.
 pub fn play(who: &str, steps: usize) {
     let load = load(LIVE[0], steps);
     match who {
-        "kruzhvela" => Station::new(Kruzhvela::new(16_384, &BINS, 0, true), &load).run(Kind::AllocateFree, &load),
+        "kruzhvela" => Station::new(Kruzhvela::new(MOST_WORDS, &BINS, 0, true), &load).run(Kind::AllocateFree, &load),
         "glibc" => Station::new(Glibc, &load).run(Kind::AllocateFree, &load),
         #[cfg(newlib)]
         "newlib" => Station::new(NewlibFull, &load).run(Kind::AllocateFree, &load),

@@ -1,15 +1,16 @@
-//! The check against its limit: a walk by hand in C over the same heaps, and the same walk with a test before each word.
+//! The check against two peers in C on the same heaps: a walk by hand, and that walk with bounds checks.
 
 use crate::clock::{interleaved, Work};
 use crate::peers::{Allocator, Kruzhvela};
-use kruzhvela::flat::{self, ANSWER_WORDS};
+use kruzhvela::flat::{self, Answer, ANSWER_REFUSAL, ANSWER_WORDS, CHECK_CHUNKS};
+use kruzhvela::limits::MOST_WORDS;
 use std::hint::black_box;
 
 type Walk = unsafe extern "C" fn(*const u32, usize, *const u32, *mut u32) -> bool;
 
 extern "C" {
     fn limit_check(region: *const u32, words: usize, record: *const u32, answer: *mut u32) -> bool;
-    fn tested_check(region: *const u32, words: usize, record: *const u32, answer: *mut u32) -> bool;
+    fn bounded_check(region: *const u32, words: usize, record: *const u32, answer: *mut u32) -> bool;
 }
 
 #[derive(Clone, Copy, Debug, PartialEq, Eq)]
@@ -21,18 +22,18 @@ pub enum Fill {
 
 pub const FILLS: [(Fill, &str); 3] = [(Fill::AllFree, "all free"), (Fill::AllUsed, "all used"), (Fill::Mixed, "mixed")];
 
-/// A row of the table: the heap, nanoseconds of the check, of the limit, and of the limit with tests.
+/// A row of the tables: the heap, and nanoseconds of the check, of the walk by hand and of the walk with bounds checks.
 pub struct Row {
     pub fill: Fill,
     pub chunks: u32,
     pub ours: f64,
     pub limit: f64,
-    pub tested: f64,
+    pub bounded: f64,
 }
 
-/// Chunks of a few sizes, without joining, so that they stay; then all, none or every second of them are given back.
+/// Allocates blocks of a few sizes, then frees all, none or every second of them. Merging is off, so the chunks stay.
 fn heap(chunks: u32, fill: Fill) -> Kruzhvela {
-    let words = if chunks > 1_000 { 16_384 } else { chunks as usize * 12 };
+    let words = if chunks > 1_000 { MOST_WORDS } else { chunks as usize * 12 };
     let mut heap = Kruzhvela::new(words, &[24, 32, 40, 48, 56, 64], 0, false);
     let sizes: &[u32] = if chunks > 1_000 { &[16] } else { &[16, 24, 32] };
     let blocks: Vec<usize> = (0..chunks as usize - 3).map(|i| heap.allocate(sizes[i % sizes.len()])).collect();
@@ -45,14 +46,14 @@ fn heap(chunks: u32, fill: Fill) -> Kruzhvela {
     heap
 }
 
-fn by_hand(walk: Walk, heap: &Kruzhvela) -> [u32; ANSWER_WORDS] {
+fn by_hand(walk: Walk, heap: &Kruzhvela) -> Answer {
     let mut answer = [0; ANSWER_WORDS];
-    // SAFETY: the pointers are to as many words as are said.
+    // SAFETY: each pointer comes from a reference to the stated number of words.
     unsafe { walk(heap.region.as_ptr(), heap.region.len(), heap.record.as_ptr(), answer.as_mut_ptr()) };
     answer
 }
 
-fn often<'a>(times: u64, walk: Walk, heap: &'a Kruzhvela) -> Work<'a> {
+fn repeated<'a>(times: u64, walk: Walk, heap: &'a Kruzhvela) -> Work<'a> {
     Box::new(move || {
         for _ in 0..times {
             black_box(by_hand(walk, black_box(heap)));
@@ -66,8 +67,8 @@ fn measure(chunks: u32, fill: Fill) -> Row {
     let other = heap(chunks, fill);
     let answer = flat::check(&mut one.region, &mut one.record);
     assert_eq!(answer, by_hand(limit_check, &other), "both count alike");
-    assert_eq!(answer, by_hand(tested_check, &other), "both count alike");
-    assert_eq!((answer[0], answer[1]), (0, chunks));
+    assert_eq!(answer, by_hand(bounded_check, &other), "both count alike");
+    assert_eq!((answer[ANSWER_REFUSAL], answer[CHECK_CHUNKS]), (0, chunks));
     let times = 2_000_000 / u64::from(chunks + 40);
     let ours = move || {
         for _ in 0..times {
@@ -75,9 +76,9 @@ fn measure(chunks: u32, fill: Fill) -> Row {
         }
         times
     };
-    let works = vec![Box::new(ours), often(times, limit_check, &other), often(times, tested_check, &other)];
+    let works = vec![Box::new(ours), repeated(times, limit_check, &other), repeated(times, bounded_check, &other)];
     let medians = interleaved(works);
-    Row { fill, chunks, ours: medians[0], limit: medians[1], tested: medians[2] }
+    Row { fill, chunks, ours: medians[0], limit: medians[1], bounded: medians[2] }
 }
 
 pub const CHUNKS: [u32; 3] = [20, 200, 2_500];

@@ -1,11 +1,11 @@
-//! Times: medians of runs that are interleaved, so that what else the machine does meets all of them alike.
+//! Times: medians of interleaved runs, so that other load on the machine affects all works alike.
 
 use std::time::Instant;
 
-/// How often each work is run.
+/// How often each work is run and counted.
 pub const ROUNDS: usize = 41;
 
-/// A piece of work: it is run, and says how many operations it made.
+/// A piece of work, which returns the number of operations it made.
 pub type Work<'a> = Box<dyn FnMut() -> u64 + 'a>;
 
 fn median(mut times: Vec<f64>) -> f64 {
@@ -13,7 +13,7 @@ fn median(mut times: Vec<f64>) -> f64 {
     times[times.len() / 2]
 }
 
-/// Nanoseconds for an operation of each work. The first round warms the buffers and is not counted.
+/// Nanoseconds of an operation of each work. The first round warms the caches and is not counted.
 pub fn interleaved(mut works: Vec<Work<'_>>) -> Vec<f64> {
     let mut times = vec![Vec::new(); works.len()];
     for round in 0..=ROUNDS {

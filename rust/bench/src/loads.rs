@@ -1,6 +1,6 @@
-//! Loads like a station's: strips of a few sizes, most with short lives, some with long ones.
+//! Loads like a capture station's: strips of a few sizes, most short-lived, some long-lived.
 
-/// A random row of numbers, the same in every run.
+/// Random numbers, the same in every run.
 struct Random(u64);
 
 impl Random {
@@ -10,7 +10,7 @@ impl Random {
     }
 }
 
-/// A step: the strip of a slot goes, and one of so many bytes comes in its place.
+/// A step: the strip in a slot is freed and one of so many bytes allocated in its place, or it is resized.
 #[derive(Clone, Copy)]
 pub struct Step {
     pub slot: usize,
@@ -18,12 +18,12 @@ pub struct Step {
 }
 
 pub struct Load {
-    /// What stands in each slot at first.
+    /// The bytes of each slot's first strip.
     pub first: Vec<u32>,
     pub steps: Vec<Step>,
 }
 
-/// Sizes of strips that leave some room of 65,536 bytes free with so many of them, in every allocator measured.
+/// Strip sizes such that so many strips fit into 65,536 bytes, with room to spare, in every allocator measured.
 fn sizes(live: usize) -> &'static [u32] {
     match live {
         0..=20 => &[96, 240, 480, 960, 1_920],
@@ -32,7 +32,7 @@ fn sizes(live: usize) -> &'static [u32] {
     }
 }
 
-/// Four of five steps meet one of the last fifth of the slots: short lives. The others have long ones.
+/// Four of five steps take a slot of the last fifth, so its strips are short-lived. The others take any slot.
 pub fn load(live: usize, steps: usize) -> Load {
     let mut random = Random(live as u64 + 1);
     let sizes = sizes(live);

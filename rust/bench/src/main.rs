@@ -1,5 +1,5 @@
-//! The proved heap's times, as ratios to peers measured in the same run: prints the tables and writes docs/BENCHMARKS.md.
-//! `bench steps WHO N` plays N steps instead and prints nothing: docs/BENCHMARKS.md says what they are counted for.
+//! Measures the proved heap against its peers, prints the tables and writes docs/BENCHMARKS.md.
+//! `bench steps WHO N` only plays N steps, for a profiler that counts instructions.
 
 mod calls;
 mod checks;
@@ -11,7 +11,7 @@ mod report;
 use std::path::Path;
 use std::{env, fs};
 
-/// Where what is written by hand begins: it is kept.
+/// The heading of the part of docs/BENCHMARKS.md that is written by hand, and kept.
 const BY_HAND: &str = "## What the figures say";
 
 fn main() -> std::io::Result<()> {

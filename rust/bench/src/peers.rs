@@ -1,17 +1,17 @@
-//! The allocators that are measured, behind one face. A handle is what the allocator gives for a block; 0 is none.
+//! The measured allocators behind one trait. A handle is what the allocator returns for a block; 0 is none.
 
-use kruzhvela::flat::{self, Record, RECORD_WORDS};
+use kruzhvela::flat::{self, Record, ANSWER_OFFSET, ANSWER_REFUSAL, RECORD_WORDS};
 use std::ffi::c_void;
 
 pub trait Allocator {
     fn allocate(&mut self, bytes: u32) -> usize;
     fn cleared(&mut self, bytes: u32) -> usize;
     fn free(&mut self, handle: usize);
-    /// The handle afterwards: the same one where it is refused.
+    /// The new handle, or the old one if the call is refused.
     fn reallocate(&mut self, handle: usize, bytes: u32) -> usize;
 }
 
-/// The proved heap, by the calls that C makes.
+/// The proved heap, through the functions of C.
 #[derive(Clone, PartialEq, Eq)]
 pub struct Kruzhvela {
     pub region: Vec<u32>,
@@ -22,18 +22,18 @@ impl Kruzhvela {
     pub fn new(words: usize, table: &[u32], donor: u32, merge: bool) -> Kruzhvela {
         let mut heap = Kruzhvela { region: vec![0; words], record: [0; RECORD_WORDS] };
         let answer = flat::setup(&mut heap.region, table, donor, merge, &mut heap.record);
-        assert_eq!(answer[0], 0, "setup is accepted");
+        assert_eq!(answer[ANSWER_REFUSAL], 0, "setup is accepted");
         heap
     }
 }
 
 impl Allocator for Kruzhvela {
     fn allocate(&mut self, bytes: u32) -> usize {
-        flat::allocate(&mut self.region, &mut self.record, bytes)[1] as usize
+        flat::allocate(&mut self.region, &mut self.record, bytes)[ANSWER_OFFSET] as usize
     }
 
     fn cleared(&mut self, bytes: u32) -> usize {
-        flat::allocate_cleared(&mut self.region, &mut self.record, 1, bytes)[1] as usize
+        flat::allocate_cleared(&mut self.region, &mut self.record, 1, bytes)[ANSWER_OFFSET] as usize
     }
 
     fn free(&mut self, handle: usize) {
@@ -42,15 +42,15 @@ impl Allocator for Kruzhvela {
 
     fn reallocate(&mut self, handle: usize, bytes: u32) -> usize {
         let answer = flat::reallocate(&mut self.region, &mut self.record, handle as u32, bytes);
-        if answer[0] == 0 {
-            answer[1] as usize
+        if answer[ANSWER_REFUSAL] == 0 {
+            answer[ANSWER_OFFSET] as usize
         } else {
             handle
         }
     }
 }
 
-/// An allocator of C's shape, over the memory that it has.
+/// An allocator with C's four functions.
 macro_rules! c_allocator {
     ($(#[$doc:meta])* $name:ident, $malloc:ident, $calloc:ident, $free:ident, $realloc:ident) => {
         $(#[$doc])*
@@ -65,22 +65,22 @@ macro_rules! c_allocator {
 
         impl Allocator for $name {
             fn allocate(&mut self, bytes: u32) -> usize {
-                // SAFETY: any number of bytes may be asked for.
+                // SAFETY: any size is permitted.
                 unsafe { $malloc(bytes as usize) as usize }
             }
 
             fn cleared(&mut self, bytes: u32) -> usize {
-                // SAFETY: any number of bytes may be asked for.
+                // SAFETY: any size is permitted.
                 unsafe { $calloc(1, bytes as usize) as usize }
             }
 
             fn free(&mut self, handle: usize) {
-                // SAFETY: the handle came from this allocator and is given back once.
+                // SAFETY: the handle came from this allocator and is freed once.
                 unsafe { $free(handle as *mut c_void) }
             }
 
             fn reallocate(&mut self, handle: usize, bytes: u32) -> usize {
-                // SAFETY: the handle came from this allocator and was not given back.
+                // SAFETY: the handle came from this allocator and was not freed.
                 let moved = unsafe { $realloc(handle as *mut c_void, bytes as usize) } as usize;
                 if moved == 0 {
                     handle
@@ -93,7 +93,7 @@ macro_rules! c_allocator {
 }
 
 c_allocator!(
-    /// glibc's, over memory that the system gives it.
+    /// glibc's, with memory from the system.
     Glibc, malloc, calloc, free, realloc
 );
 

@@ -7,10 +7,10 @@ use std::fmt::Write;
 use std::process::Command;
 
 const METHOD: &str = "\
-Written by `cd rust && cargo run --release -p bench` (after `bash tools/archive`). Each figure is a ratio to something measured in the same run; \
-times are medians of interleaved runs, after one that warms the buffers: every work is run in turn, and the round repeated. \
-The heap, the record and the peers' arenas stay in the processor's first two caches. The proved heap is called through `kruzhvela::flat`, the nine functions of C, \
-so that each call takes the record from its 102 words and gives it back.
+`cd rust && cargo run --release -p bench` (after `bash tools/archive`) writes this page. Each ratio is to a peer measured in the same run. \
+Times are medians of interleaved runs: a round runs every work once, and a first round, which warms the caches, is not counted. \
+The heap, the record and the peers' arenas stay in the processor's first two caches. The proved heap is called through `kruzhvela::flat`, the nine functions of C: \
+each call unpacks the record from its `KZ_RECORD_WORDS` words and, the check and the questions apart, packs it again.
 ";
 
 fn line(command: &str, words: &[&str]) -> String {
@@ -29,13 +29,13 @@ fn machine() -> String {
     )
 }
 
-/// How the time grows with the chunks: 1 is linear.
+/// The exponent with which the time grows in the number of chunks: 1 is linear.
 fn exponent(rows: &[&checks::Row]) -> f64 {
     let (less, more) = (rows[1], rows[2]);
     (more.ours / less.ours).ln() / (f64::from(more.chunks) / f64::from(less.chunks)).ln()
 }
 
-/// The check's times to another walk's, which `peer` names.
+/// The check's times as ratios to those of the walk that `peer` selects.
 fn checks(rows: &[checks::Row], peer: fn(&checks::Row) -> f64) -> String {
     let mut text = String::from(
         "| Heap | 20 chunks | 200 chunks | 2,500 chunks | growth from 200 to 2,500 |\n|---|---|---|---|---|\n",
@@ -88,17 +88,19 @@ pub fn whole(checked: &[checks::Row], called: &[calls::Row]) -> String {
     };
     format!(
         "# Benchmarks\n\n{METHOD}\nMeasured on: {}. {ROUNDS} rounds.\n\n\
-         ## The check, to a walk by hand\n\n\
-         The peer (`rust/bench/c/limit.c`) reads the same words and keeps the same marks, in C. Aim: at most 1.20, and a growth of at most 1.10.\n\n{}\n\
-         To the same walk by hand, with a test before each word and each mark that it is there, as the proved check has them: it relies on no walk before.\n\n{}\n\
-         ## The calls, to other allocators\n\n\
-         newlib's two allocators have one fixed arena of 65,536 bytes each, as the heap has; glibc's has what the system gives. \
-         A step is one strip going and one coming (reallocate: one getting another size). \
-         The walk that finds a live block and the rest are measured on a heap that comes back to the same state at each step, where the check can be measured by itself \
-         on those states; what remains of a step of the load is its checks. The rest is set against the peers' steps on such a heap. Its aim: not slower than newlib's.\n\n{missing}{}",
+         ## The check, relative to a walk by hand\n\n\
+         The peer (`rust/bench/c/limit.c`) is the same walk written by hand in C: it reads the same words and keeps the same bitmap. \
+         Aim: at most 1.20, and at most 1.10 for the exponent of growth (1 is linear).\n\n{}\n\
+         Relative to the same walk by hand with a bounds check before each word and each mark. The proved check has these, since it relies on no earlier walk.\n\n{}\n\
+         ## The calls, relative to other allocators\n\n\
+         Each of newlib's two allocators has one fixed arena of 65,536 bytes, as the heap has; glibc's takes memory from the system. \
+         A step frees one strip and allocates another (reallocate: it resizes one). \
+         Its parts are the checks, the walk that finds a live block, and the rest. Walk and rest are measured on a steady heap, which each step brings back to the same state, \
+         so that the check can be measured alone on those states; the checks are what remains of a step of the load. \
+         The peers' columns give the ratio of the steps; the last columns give the ratio of the rest to the peer's step on a steady heap. Aim of the rest: not slower than newlib's.\n\n{missing}{}",
         machine(),
         checks(checked, |row| row.limit),
-        checks(checked, |row| row.tested),
+        checks(checked, |row| row.bounded),
         calls(called)
     )
 }

@@ -1,4 +1,3 @@
-//! Copies of `second` with one line each made wrong (broken/*.edit, build.rs): a comparison that is worth its name finds
-//! every one of them.
+//! Copies of `second` with one wrong line each (broken/*.edit, build.rs). The comparison must catch every one.
 
 include!(concat!(env!("OUT_DIR"), "/copies.rs"));

@@ -1,43 +1,49 @@
-//! The calls of a case: arguments that a station would give, and arguments that it should not.
+//! The calls of a case, with sensible arguments and with wrong ones.
 
 use crate::random::Random;
 use crate::settings;
 use crate::view::View;
+use kruzhvela::limits::{HEADER_BYTES, LEAST_CHUNK, MOST_BYTES};
 use second::Call;
 
-/// Sizes beside which something changes, for a heap as it stands, and any others.
+/// Sizes at which an answer changes, whatever the heap.
+const EDGES: [u32; 12] =
+    [0, 1, 8, 9, 16, 17, MOST_BYTES - 1, MOST_BYTES, MOST_BYTES + 1, 0x7FFF_FFFF, 0xFFFF_FFF8, 0xFFFF_FFFF];
+
+/// Sizes near the edges of the heap as it is, and any others.
 fn bytes(view: &View, table: &[u32], random: &mut Random) -> u32 {
-    let near = |size: u32, random: &mut Random| size.wrapping_sub(8).wrapping_add(random.below(19)).wrapping_sub(9);
+    let near =
+        |size: u32, random: &mut Random| size.wrapping_sub(HEADER_BYTES).wrapping_add(random.below(19)).wrapping_sub(9);
     match random.below(24) {
         0..=7 => random.between(1, 64),
         8..=11 if !table.is_empty() => near(random.of(table), random),
-        12 | 13 => near(view.size_at(view.top).wrapping_sub(24), random),
-        14 => near(view.size_at(view.donor).wrapping_sub(24), random),
+        12 | 13 => near(view.size_at(view.top).wrapping_sub(LEAST_CHUNK), random),
+        14 => near(view.size_at(view.donor).wrapping_sub(LEAST_CHUNK), random),
         15..=17 if !view.chunks.is_empty() => near(random.of(&view.chunks).size, random),
-        18 => random.of(&[0, 1, 8, 9, 16, 17, 65_487, 65_488, 65_489, 0x7FFF_FFFF, 0xFFFF_FFF8, 0xFFFF_FFFF]),
+        18 => random.of(&EDGES),
         19 => random.word(),
         20 => random.between(1, 65_600),
         _ => random.between(1, 400),
     }
 }
 
-/// A live block, mostly; else a place that is none: one given back, a chunk's, one beside it.
+/// Mostly a live block; else a place that is none, such as a freed block, a chunk or a neighbouring word.
 fn block(view: &View, random: &mut Random) -> u32 {
     let live = view.live();
-    let any = if view.chunks.is_empty() { 8 } else { random.of(&view.chunks).place };
+    let any = if view.chunks.is_empty() { HEADER_BYTES } else { random.of(&view.chunks).place };
     match random.below(20) {
         0 => 0,
-        1 => any + 8,
+        1 => any + HEADER_BYTES,
         2 => any,
         3 => any.wrapping_add(random.of(&[4, 12, 16, 24, 0xFFFF_FFF8, 0xFFFF_FFFC])),
         4 => random.of(&[1, 4, 8, 16, 65_528, 65_536, 0x8000_0000, 0xFFFF_FFF8, 0xFFFF_FFFF]),
         5 => random.word(),
-        _ if live.is_empty() => any + 8,
-        _ => random.of(&live).place + 8,
+        _ if live.is_empty() => any + HEADER_BYTES,
+        _ => random.of(&live).place + HEADER_BYTES,
     }
 }
 
-/// A chunk or a live block, mostly.
+/// Mostly a chunk or a live block.
 fn place(view: &View, random: &mut Random) -> u32 {
     match random.below(12) {
         0 => 0,
@@ -66,7 +72,7 @@ pub fn setup(words: usize, random: &mut Random) -> Call {
     Call::Setup { table: settings::table(random), donor: settings::donor(words, random), merge: random.bit() }
 }
 
-/// The nine calls by number, in the order of the requirements' list of them.
+/// The call with this number, in the order of the requirements' list.
 pub fn numbered(number: u32, words: usize, view: &View, table: &[u32], random: &mut Random) -> Call {
     match number {
         0 => setup(words, random),
@@ -84,7 +90,7 @@ pub fn numbered(number: u32, words: usize, view: &View, table: &[u32], random: &
     }
 }
 
-/// One of the nine, as often as a run has it.
+/// One of the nine calls, each with its weight.
 pub fn any(words: usize, view: &View, table: &[u32], random: &mut Random) -> Call {
     let number = match random.below(200) {
         0 => 0,

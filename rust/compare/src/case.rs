@@ -1,24 +1,26 @@
-//! A case: a heap of its own settings, a run of calls with foreign writes into live blocks between them, and, in five
-//! of eight cases, damage that is put to every call. What comes next is chosen by the heap as it stands.
+//! A case: a heap with its own settings, a run of calls with writes into live blocks between them, and, in five of
+//! eight cases, damage on which every call is tried. Each step is chosen by the heap as it is.
 
 use crate::calls;
 use crate::damage::Victim;
 use crate::random::Random;
 use crate::settings;
-use crate::side::{Entry, Side};
+use crate::side::{Action, Side};
 use crate::view::View;
-use kruzhvela::flat::{Answer, BINS, SIZES};
+use kruzhvela::flat::{Answer, ANSWER_REFUSAL, BINS, SIZES};
+use kruzhvela::limits::{ALIGNMENT, HEADER_BYTES, MOST_BINS, WORD_BYTES};
+use kruzhvela::Refusal;
 use second::Call;
 
-/// Where a case is played.
+/// What a case is played on.
 pub trait Stage {
-    /// Does it; the answer, if it is a call.
-    fn play(&mut self, entry: Entry) -> Option<Answer>;
+    /// Plays the action; returns the answer, if it is a call.
+    fn play(&mut self, action: Action) -> Option<Answer>;
 
-    /// The heap by which the case chooses what comes next.
+    /// The heap by which the case chooses the next step.
     fn side(&self) -> &Side;
 
-    /// True once there is no use in going on.
+    /// True once the case can stop.
     fn is_over(&self) -> bool {
         false
     }
@@ -28,29 +30,30 @@ fn view(stage: &dyn Stage) -> View {
     View::of(&stage.side().region, &stage.side().record)
 }
 
-/// The bin sizes that the record has.
+/// The bin sizes in the record.
 fn table(stage: &dyn Stage) -> Vec<u32> {
     let record = &stage.side().record;
-    record[SIZES..SIZES + record[BINS].min(32) as usize].to_vec()
+    record[SIZES..][..MOST_BINS.min(record[BINS] as usize)].to_vec()
 }
 
-/// Someone writes a word of a live block, as they may.
-fn foreign_write(stage: &mut dyn Stage, random: &mut Random) {
+/// Writes a word of a live block, as its owner may.
+fn write_block(stage: &mut dyn Stage, random: &mut Random) {
     let live = view(stage).live();
     if live.is_empty() {
         return;
     }
     let chunk = random.of(&live);
-    let index = chunk.place / 4 + 2 + random.below((chunk.size / 4).saturating_sub(2).max(1));
-    // half of them look like words of a header: a heap must not be misled by what a block holds
+    let bytes = chunk.size.saturating_sub(HEADER_BYTES);
+    let index = (chunk.place + HEADER_BYTES) / WORD_BYTES + random.below((bytes / WORD_BYTES).max(1));
+    // half of the values look like header words: a block's contents must not mislead the heap
     let value =
         if random.bit() { random.word() } else { random.of(&[0, 1, 8, 9, 24, 73, chunk.place, chunk.place | 1]) };
     if (index as usize) < stage.side().region.len() {
-        stage.play(Entry::Write { index: index as usize, value });
+        stage.play(Action::Write { index: index as usize, value });
     }
 }
 
-/// Damages the heap and puts it to every call, setup last, since it makes a new heap of it.
+/// Damages the heap and tries every call on it, setup last since it makes a new heap.
 fn damaged(stage: &mut dyn Stage, random: &mut Random) {
     let words = stage.side().region.len();
     let (v, t) = (view(stage), table(stage));
@@ -63,17 +66,14 @@ fn damaged(stage: &mut dyn Stage, random: &mut Random) {
     }
     for number in 1..9 {
         let call = calls::numbered(number, words, &v, &t, random);
-        stage.play(Entry::Call(call));
+        stage.play(Action::Call(call));
     }
     set_up(stage, random);
 }
 
-/// The number of a damaged heap, which is set up again before long.
-const HEAP_FAILS: u32 = 4;
-
 fn set_up(stage: &mut dyn Stage, random: &mut Random) {
     let call = calls::setup(stage.side().region.len(), random);
-    stage.play(Entry::Call(call));
+    stage.play(Action::Call(call));
 }
 
 fn run(stage: &mut dyn Stage, steps: u32, damage: bool, random: &mut Random) {
@@ -82,12 +82,12 @@ fn run(stage: &mut dyn Stage, steps: u32, damage: bool, random: &mut Random) {
             return;
         }
         match random.below(24) {
-            0 | 1 => foreign_write(stage, random),
+            0 | 1 => write_block(stage, random),
             2 if damage => damaged(stage, random),
             _ => {
                 let call = calls::any(stage.side().region.len(), &view(stage), &table(stage), random);
-                let answer = stage.play(Entry::Call(call));
-                if answer.is_some_and(|a| a[0] == HEAP_FAILS) && random.bit() {
+                let answer = stage.play(Action::Call(call));
+                if answer.is_some_and(|a| a[ANSWER_REFUSAL] == Refusal::HeapFails.number()) && random.bit() {
                     set_up(stage, random);
                 }
             }
@@ -95,29 +95,29 @@ fn run(stage: &mut dyn Stage, steps: u32, damage: bool, random: &mut Random) {
     }
 }
 
-/// Many small blocks, every third of them given back: a long chain and long lists.
+/// Many small blocks, every third of them freed: a long chain and long lists.
 fn crowd(stage: &mut dyn Stage, random: &mut Random) {
     for turn in 0..stage.side().region.len() as u32 / 7 {
         if stage.is_over() {
             return;
         }
-        stage.play(Entry::Call(Call::Allocate { z: random.between(1, 24) }));
+        stage.play(Action::Call(Call::Allocate { z: random.between(1, 24) }));
         if turn % 3 == 2 {
-            let place = random.below(stage.side().region.len() as u32 * 4) / 8 * 8;
+            let place = random.below(stage.side().region.len() as u32 * WORD_BYTES) / ALIGNMENT * ALIGNMENT;
             let chunks = view(stage).live();
             if let Some(chunk) = chunks.iter().find(|c| c.place >= place) {
-                stage.play(Entry::Call(Call::Free { block: chunk.place + 8 }));
+                stage.play(Action::Call(Call::Free { block: chunk.place + HEADER_BYTES }));
             }
         }
     }
-    stage.play(Entry::Call(Call::Check));
+    stage.play(Action::Call(Call::Check));
 }
 
-/// The case of a number, from a seed. Both settle all that it does.
+/// Plays the case of a number and a seed, which determine all of it.
 pub fn play(number: u64, seed: u64, stage: &mut dyn Stage) {
     let mut random = Random::new(seed ^ number.wrapping_mul(0xD134_2543_DE82_EF95));
     let words = settings::region_words(number, &mut random);
-    stage.play(Entry::Region { words, seed: random.word() });
+    stage.play(Action::Region { words, seed: random.word() });
     set_up(stage, &mut random);
     if number % 100 == 40 {
         crowd(stage, &mut random);
@@ -128,5 +128,5 @@ pub fn play(number: u64, seed: u64, stage: &mut dyn Stage) {
     if damage {
         damaged(stage, &mut random);
     }
-    stage.play(Entry::Call(Call::Check));
+    stage.play(Action::Call(Call::Check));
 }

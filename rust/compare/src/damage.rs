@@ -1,46 +1,42 @@
-//! Damage to a heap, as stores into its words and its record: each kind is one that a fault of a station could leave,
-//! or one that would mislead a check that looks too little.
+//! Damage to a heap, as stores into its words and its record. Each kind could come from a real fault, or would mislead
+//! a check that tests too little.
 
 use crate::random::Random;
-use crate::side::Entry;
-use crate::view::{Chunk, View};
+use crate::side::Action;
+use crate::view::{
+    heap_bytes, index, Chunk, View, BACKWARD, BIN_FACTOR, BIN_WORD, FORWARD, HEADER_WORDS, IN_USE, NEXT_IN_BIN,
+    PREVIOUS_IN_BIN, SIZE,
+};
 use kruzhvela::flat::{Record, BINS, BYTES, DONOR, HEADS, MERGE, RECORD_WORDS, SIZES, TAILS, TOP, USED};
+use kruzhvela::limits::{ALIGNMENT, HEADER_BYTES, LEAST_CHUNK, MOST_BINS};
 
-/// The words of a chunk's header.
-const FORWARD: usize = 0;
-const BACKWARD: usize = 1;
-const SIZE: usize = 2;
-const NEXT_IN_BIN: usize = 3;
-const PREVIOUS_IN_BIN: usize = 4;
-const BIN_WORD: usize = 5;
-
-/// Numbers that are no place of any heap, near where sums wrap.
+/// Numbers that are no place of any heap, near where 32-bit sums wrap.
 const FAR: [u32; 8] =
     [0x7FFF_FFF8, 0x8000_0000, 0xFFFF_FF00, 0xFFFF_FFE8, 0xFFFF_FFF0, 0xFFFF_FFF8, 0xFFFF_FFFC, 0xFFFF_FFFF];
 
-/// A heap that is to be damaged.
+/// The heap to damage.
 pub struct Victim<'a> {
     pub region: &'a [u32],
     pub record: &'a Record,
     pub view: View,
 }
 
-fn header(place: u32, word: usize, value: u32) -> Entry {
-    Entry::Write { index: place as usize / 4 + word, value }
+fn header(place: u32, word: usize, value: u32) -> Action {
+    Action::Write { index: index(place, word), value }
 }
 
-fn field(index: usize, value: u32) -> Entry {
-    Entry::Record { index, value }
+fn field(index: usize, value: u32) -> Action {
+    Action::Record { index, value }
 }
 
 impl Victim<'_> {
     fn word(&self, place: u32, word: usize) -> u32 {
-        self.region.get(place as usize / 4 + word).copied().unwrap_or(0)
+        self.region.get(index(place, word)).copied().unwrap_or(0)
     }
 
-    /// Any chunk between the ends; the first 24 bytes, if the chain can't be followed.
+    /// Any chunk between start and end; a least chunk above the start, if the chain can't be followed.
     fn chunk(&self, random: &mut Random) -> Chunk {
-        let first = Chunk { place: 8, size: 24, in_use: false };
+        let first = Chunk { place: HEADER_BYTES, size: LEAST_CHUNK, in_use: false };
         if self.view.chunks.is_empty() {
             first
         } else {
@@ -48,7 +44,7 @@ impl Victim<'_> {
         }
     }
 
-    /// One of these, or any chunk where there are none.
+    /// One of these, or any chunk if there are none.
     fn one_of(&self, chunks: Vec<Chunk>, random: &mut Random) -> Chunk {
         if chunks.is_empty() {
             self.chunk(random)
@@ -66,10 +62,10 @@ impl Victim<'_> {
     }
 
     fn bin(&self, random: &mut Random) -> usize {
-        random.below(self.record[BINS].clamp(1, 32)) as usize
+        random.below(self.record[BINS].clamp(1, MOST_BINS as u32)) as usize
     }
 
-    fn flipped_bit(&self, random: &mut Random) -> Vec<Entry> {
+    fn flipped_bit(&self, random: &mut Random) -> Vec<Action> {
         let bit = 1 << random.below(32);
         let place = self.chunk(random).place;
         match random.below(4) {
@@ -79,19 +75,19 @@ impl Victim<'_> {
             }
             1 => {
                 let index = random.below(self.region.len() as u32) as usize;
-                vec![Entry::Write { index, value: self.region[index] ^ bit }]
+                vec![Action::Write { index, value: self.region[index] ^ bit }]
             }
             _ => {
-                let word = random.below(6) as usize;
+                let word = random.below(HEADER_WORDS) as usize;
                 vec![header(place, word, self.word(place, word) ^ bit)]
             }
         }
     }
 
-    /// A free chunk's header inside a live block, by itself or with the chain or a list led through it.
-    fn fake_chunk(&self, random: &mut Random) -> Vec<Entry> {
+    /// A free chunk's header inside a live block, alone or linked into the chain or a list.
+    fn fake_chunk(&self, random: &mut Random) -> Vec<Action> {
         let chunk = self.live(random);
-        let (fake, end, bin) = (chunk.place + 8, chunk.place + chunk.size, self.bin(random));
+        let (fake, end, bin) = (chunk.place + HEADER_BYTES, chunk.place + chunk.size, self.bin(random));
         let head = self.record[HEADS + bin];
         let mut stores = vec![
             header(fake, FORWARD, end),
@@ -99,11 +95,11 @@ impl Victim<'_> {
             header(fake, SIZE, end.wrapping_sub(fake)),
             header(fake, NEXT_IN_BIN, head),
             header(fake, PREVIOUS_IN_BIN, 0),
-            header(fake, BIN_WORD, bin as u32 * 8),
+            header(fake, BIN_WORD, bin as u32 * BIN_FACTOR),
         ];
         match random.below(3) {
             0 => {}
-            1 => stores.extend([header(chunk.place, FORWARD, fake), header(end, BACKWARD, fake | 1)]),
+            1 => stores.extend([header(chunk.place, FORWARD, fake), header(end, BACKWARD, fake | IN_USE)]),
             _ => {
                 stores.push(field(HEADS + bin, fake));
                 stores.push(if head == 0 { field(TAILS + bin, fake) } else { header(head, PREVIOUS_IN_BIN, fake) });
@@ -112,8 +108,8 @@ impl Victim<'_> {
         stores
     }
 
-    /// A list or the chain comes back to where it was.
-    fn cycle(&self, random: &mut Random) -> Vec<Entry> {
+    /// A list or the chain has a cycle.
+    fn cycle(&self, random: &mut Random) -> Vec<Action> {
         let chunk = self.ordinary(random);
         let lower = self.chunk(random).place.min(chunk.place);
         match random.below(4) {
@@ -129,7 +125,7 @@ impl Victim<'_> {
     }
 
     /// A chunk is in a second list, or twice in its own.
-    fn in_two_lists(&self, random: &mut Random) -> Vec<Entry> {
+    fn in_two_lists(&self, random: &mut Random) -> Vec<Action> {
         let place = self.ordinary(random).place;
         let bin = self.bin(random);
         let tail = self.record[TAILS + bin];
@@ -143,8 +139,8 @@ impl Victim<'_> {
         stores
     }
 
-    /// A chunk is in no list: its bin has lost its first.
-    fn lost(&self, random: &mut Random) -> Vec<Entry> {
+    /// A chunk is in no list: its bin has lost its head.
+    fn lost(&self, random: &mut Random) -> Vec<Action> {
         let bin = self.bin(random);
         let head = self.record[HEADS + bin];
         let next = self.word(head, NEXT_IN_BIN);
@@ -156,7 +152,7 @@ impl Victim<'_> {
     }
 
     /// Two bins have each other's lists.
-    fn swapped(&self, random: &mut Random) -> Vec<Entry> {
+    fn swapped(&self, random: &mut Random) -> Vec<Action> {
         let (one, other) = (self.bin(random), self.bin(random));
         [HEADS, TAILS]
             .iter()
@@ -167,7 +163,7 @@ impl Victim<'_> {
     }
 
     /// A head, a tail, donor or top names another place, or the bin word another bin.
-    fn wrong_place(&self, random: &mut Random) -> Vec<Entry> {
+    fn wrong_place(&self, random: &mut Random) -> Vec<Action> {
         let place = if random.once_in(4) { 0 } else { self.chunk(random).place };
         let bin = self.bin(random);
         match random.below(6) {
@@ -183,8 +179,8 @@ impl Victim<'_> {
         }
     }
 
-    /// A place is off by 4 or 8, or far out.
-    fn off(&self, random: &mut Random) -> Vec<Entry> {
+    /// A place is off by 4 or 8, or far outside.
+    fn off(&self, random: &mut Random) -> Vec<Action> {
         let by = random.of(&[4, 8, 0xFFFF_FFF8, 0xFFFF_FFFC]);
         let far = random.once_in(3).then(|| random.of(&FAR));
         let moved = |value: u32| far.unwrap_or(value.wrapping_add(by));
@@ -194,15 +190,15 @@ impl Victim<'_> {
             vec![field(index, moved(self.record[index]))]
         } else {
             let place = if random.bit() { self.ordinary(random).place } else { self.chunk(random).place };
-            let word = random.below(6) as usize;
+            let word = random.below(HEADER_WORDS) as usize;
             vec![header(place, word, moved(self.word(place, word)))]
         }
     }
 
-    /// A figure of the record, the table or a place that is not used.
-    fn figure(&self, random: &mut Random) -> Vec<Entry> {
+    /// A figure of the record, a bin size or an unused place of an array is wrong.
+    fn figure(&self, random: &mut Random) -> Vec<Action> {
         let by = random.of(&[1, 4, 8, 0xFFFF_FFF8, 0xFFFF_FFFF]);
-        let unused = (self.record[BINS].min(31)) as usize;
+        let unused = (self.record[BINS] as usize).min(MOST_BINS - 1);
         match random.below(8) {
             0 => vec![field(BYTES, self.record[BYTES].wrapping_add(by))],
             1 => vec![field(BINS, self.record[BINS].wrapping_add(by))],
@@ -217,23 +213,23 @@ impl Victim<'_> {
         }
     }
 
-    /// The flags or the size of a chunk, or which chunk it says is before it.
-    fn wrong_header(&self, random: &mut Random) -> Vec<Entry> {
+    /// The flags, the size or a link of a chunk is wrong.
+    fn wrong_header(&self, random: &mut Random) -> Vec<Action> {
         let chunk = self.chunk(random);
-        let ends = [0, chunk.place, (self.region.len() as u32 / 2 * 8).saturating_sub(8)];
+        let ends = [0, chunk.place, heap_bytes(self.region.len()).saturating_sub(HEADER_BYTES)];
         let place = random.of(&ends);
         let backward = self.word(place, BACKWARD);
         match random.below(5) {
             0 => vec![header(place, BACKWARD, backward ^ random.of(&[1, 2, 4, 6]))],
-            1 => vec![header(place, BACKWARD, backward & 7 | self.chunk(random).place)],
+            1 => vec![header(place, BACKWARD, (backward % ALIGNMENT) | self.chunk(random).place)],
             2 => vec![header(chunk.place, SIZE, self.word(chunk.place, SIZE).wrapping_add(8))],
             3 => vec![header(place, FORWARD, self.chunk(random).place)],
-            _ => vec![header(chunk.place, FORWARD, chunk.place + chunk.size + 24)],
+            _ => vec![header(chunk.place, FORWARD, chunk.place + chunk.size + LEAST_CHUNK)],
         }
     }
 
-    /// One kind of damage; stores that would fall outside the region are left out.
-    pub fn damage(&self, random: &mut Random) -> Vec<Entry> {
+    /// One kind of damage, without stores outside the region.
+    pub fn damage(&self, random: &mut Random) -> Vec<Action> {
         let stores = match random.below(12) {
             0 | 1 => self.flipped_bit(random),
             2 | 3 => self.fake_chunk(random),
@@ -246,7 +242,7 @@ impl Victim<'_> {
             10 => self.figure(random),
             _ => self.wrong_header(random),
         };
-        let inside = |store: &Entry| !matches!(store, Entry::Write { index, .. } if *index >= self.region.len());
+        let inside = |store: &Action| !matches!(store, Action::Write { index, .. } if *index >= self.region.len());
         stores.into_iter().filter(inside).collect()
     }
 }

@@ -1,7 +1,7 @@
-//! Two heaps to which the same is done, compared after every call: the answer, the record and the region.
+//! Two heaps that play the same actions. After every call their answers, records and regions are compared.
 
 use crate::case::Stage;
-use crate::side::{Answers, Entry, Side};
+use crate::side::{Action, Answers, Side};
 use kruzhvela::flat::Answer;
 
 pub struct Duel {
@@ -9,38 +9,38 @@ pub struct Duel {
     other: Side,
     pub calls: u64,
     pub differences: u64,
-    /// Whether each entry is printed as it is played.
-    pub told: bool,
+    /// Print each action as it is played.
+    pub verbose: bool,
     over: bool,
 }
 
 impl Duel {
     pub fn new(first: Answers, other: Answers) -> Duel {
-        Duel { first: Side::new(first), other: Side::new(other), calls: 0, differences: 0, told: false, over: false }
+        Duel { first: Side::new(first), other: Side::new(other), calls: 0, differences: 0, verbose: false, over: false }
     }
 
     fn agree(&self, answers: (Option<Answer>, Option<Answer>)) -> bool {
         answers.0 == answers.1 && self.first.record == self.other.record && self.first.region == self.other.region
     }
 
-    /// The next case begins; the heaps of the last one are gone.
+    /// Begins the next case.
     pub fn begin(&mut self) {
         self.over = false;
     }
 
-    fn tell(&self, entry: &Entry, answers: (Option<Answer>, Option<Answer>), agree: bool) {
-        println!("{entry:?}");
+    fn print(&self, action: &Action, answers: (Option<Answer>, Option<Answer>), agree: bool) {
+        println!("{action:?}");
         if let (Some(first), Some(other)) = answers {
             println!("    {first:?}");
             if !agree {
                 println!("    {other:?} by the other");
-                self.tell_words("record", &self.first.record, &self.other.record);
-                self.tell_words("region", &self.first.region, &self.other.region);
+                self.print_words("record", &self.first.record, &self.other.record);
+                self.print_words("region", &self.first.region, &self.other.region);
             }
         }
     }
 
-    fn tell_words(&self, name: &str, first: &[u32], other: &[u32]) {
+    fn print_words(&self, name: &str, first: &[u32], other: &[u32]) {
         for (index, (a, b)) in first.iter().zip(other).enumerate().filter(|(_, (a, b))| a != b) {
             println!("    {name} word {index}: {a}, by the other {b}");
         }
@@ -48,15 +48,15 @@ impl Duel {
 }
 
 impl Stage for Duel {
-    fn play(&mut self, entry: Entry) -> Option<Answer> {
+    fn play(&mut self, action: Action) -> Option<Answer> {
         if self.over {
             return None;
         }
-        let answers = (self.first.play(&entry), self.other.play(&entry));
+        let answers = (self.first.play(&action), self.other.play(&action));
         let is_call = answers.0.is_some();
         let agree = !is_call || self.agree(answers);
-        if self.told {
-            self.tell(&entry, answers, agree);
+        if self.verbose {
+            self.print(&action, answers, agree);
         }
         self.calls += u64::from(is_call);
         if !agree {

@@ -1,6 +1,6 @@
-//! The proved heap against `second`, a heap that was written from the requirements alone and shares nothing with it:
-//! the same cases are played to both, and after every call the answer, the record and the region must be the same.
-//! From here too come the script and the transcript of the program `vectors`.
+//! Compares the proved heap with `second`, a heap that was written from the requirements alone and shares nothing with
+//! it. Both play the same cases, and after every call answer, record and region must be equal.
+//! This crate also writes the script and the transcript of the program `vectors`.
 
 pub mod broken;
 pub mod calls;

@@ -1,4 +1,4 @@
-//! Random numbers from a seed (SplitMix64), so that a case can be played again.
+//! Random numbers from a seed (SplitMix64), so that a case can be repeated.
 
 pub struct Random(u64);
 

@@ -1,18 +1,18 @@
-//! The script and the transcript of the program `vectors`: what is done to a heap, line by line, and a digest of what
-//! `second` has after each call. A line is an operation, how many arguments follow, and they: so a later operation may
-//! take more of them, and old scripts can still be read. From '#' to the end of a line is a comment.
+//! The script and the transcript of the program `vectors`: the operations on a heap, one in a line, and a digest of
+//! `second`'s answer, record and region after each call. A line is the operation, the number of its arguments and the
+//! arguments, so that an operation may get more arguments later and old scripts stay readable. `#` begins a comment.
 
 use crate::case::{self, Stage};
-use crate::side::{Entry, Side};
-use kruzhvela::flat::{Answer, BINS, BYTES, DONOR, MERGE, SIZES, TOP, USED};
+use crate::side::{Action, Side};
+use crate::view::{index, BACKWARD, BIN_WORD, FORWARD, IN_USE, NEXT_IN_BIN, PREVIOUS_IN_BIN, SIZE};
+use kruzhvela::flat::{Answer, ANSWER_REFUSAL, BINS, BYTES, DONOR, MERGE, SIZES, TOP, USED};
+use kruzhvela::limits::{FEWEST_WORDS, HEADER_BYTES, LEAST_CHUNK, MOST_BYTES, MOST_WORDS, WORD_BYTES};
+use kruzhvela::Refusal;
 use second::Call;
 
-/// The seed of the stored script, and how many cases it has beside the named ones.
+/// The seed of the stored script, and the number of its random cases.
 const SEED: u64 = 2_718_281_828;
 const CASES: u64 = 220;
-
-const LARGEST: usize = 16_384;
-const MOST_BYTES: u32 = 65_488;
 
 pub struct Script {
     side: Side,
@@ -22,12 +22,12 @@ pub struct Script {
     pub transcript: String,
     pub calls: u64,
     pub heaps: u64,
-    /// Heaps that were set up and failed the check later.
+    /// Heaps that failed the check after they were set up.
     pub damaged: u64,
     state: State,
 }
 
-/// What has become of the present heap.
+/// The state of the present heap.
 #[derive(PartialEq, Eq)]
 enum State {
     Fresh,
@@ -42,22 +42,22 @@ fn digest(from: u32, words: &[u32]) -> u32 {
 const DIGEST_OF_NOTHING: u32 = 2_166_136_261;
 
 /// The operation and its arguments.
-fn line(entry: &Entry) -> (u32, Vec<u32>) {
-    match *entry {
-        Entry::Region { words, seed } => (0, vec![words as u32, seed]),
-        Entry::Call(Call::Setup { ref table, donor, merge }) => {
+fn line(action: &Action) -> (u32, Vec<u32>) {
+    match *action {
+        Action::Region { words, seed } => (0, vec![words as u32, seed]),
+        Action::Call(Call::Setup { ref table, donor, merge }) => {
             (1, [&[donor, u32::from(merge), table.len() as u32], &table[..]].concat())
         }
-        Entry::Call(Call::Allocate { z }) => (2, vec![z]),
-        Entry::Call(Call::AllocateCleared { count, size }) => (3, vec![count, size]),
-        Entry::Call(Call::Free { block }) => (4, vec![block]),
-        Entry::Call(Call::Reallocate { block, z }) => (5, vec![block, z]),
-        Entry::Call(Call::SetMerge { on }) => (6, vec![u32::from(on)]),
-        Entry::Call(Call::Check) => (7, vec![]),
-        Entry::Call(Call::AskChunk { question, place }) => (8, vec![question, place]),
-        Entry::Call(Call::AskBin { question, bin }) => (9, vec![question, bin]),
-        Entry::Write { index, value } => (10, vec![index as u32, value]),
-        Entry::Record { index, value } => (11, vec![index as u32, value]),
+        Action::Call(Call::Allocate { z }) => (2, vec![z]),
+        Action::Call(Call::AllocateCleared { count, size }) => (3, vec![count, size]),
+        Action::Call(Call::Free { block }) => (4, vec![block]),
+        Action::Call(Call::Reallocate { block, z }) => (5, vec![block, z]),
+        Action::Call(Call::SetMerge { on }) => (6, vec![u32::from(on)]),
+        Action::Call(Call::Check) => (7, vec![]),
+        Action::Call(Call::AskChunk { question, place }) => (8, vec![question, place]),
+        Action::Call(Call::AskBin { question, bin }) => (9, vec![question, bin]),
+        Action::Write { index, value } => (10, vec![index as u32, value]),
+        Action::Record { index, value } => (11, vec![index as u32, value]),
     }
 }
 
@@ -89,15 +89,15 @@ impl Script {
         digest(digest(digest(from, &answer), &self.side.record), &self.side.region)
     }
 
-    /// Counts the heap, and whether it was damaged at some point.
-    fn count(&mut self, operation: u32, refusal: u32) {
-        match (operation, refusal) {
-            (0, _) => {
+    /// Counts heaps, and those that were damaged at some point.
+    fn count(&mut self, action: &Action, refusal: Option<Refusal>) {
+        match (action, refusal) {
+            (Action::Region { .. }, _) => {
                 self.heaps += 1;
                 self.state = State::Fresh;
             }
-            (1, 0) if self.state == State::Fresh => self.state = State::SetUp,
-            (_, 4) if self.state == State::SetUp => {
+            (Action::Call(Call::Setup { .. }), None) if self.state == State::Fresh => self.state = State::SetUp,
+            (_, Some(Refusal::HeapFails)) if self.state == State::SetUp => {
                 self.damaged += 1;
                 self.state = State::Damaged;
             }
@@ -105,18 +105,14 @@ impl Script {
         }
     }
 
-    fn tell(&mut self, digest: u32) {
-        self.transcript += &format!("{digest}\n");
-    }
-
     fn call(&mut self, call: Call) {
-        self.play(Entry::Call(call));
+        self.play(Action::Call(call));
     }
 
-    /// A heap by name, set up with merging on, and checked.
+    /// A named heap, set up with merging on and checked.
     fn heap(&mut self, name: &str, words: usize, table: &[u32], donor: u32) {
         self.name(name);
-        self.play(Entry::Region { words, seed: words as u32 });
+        self.play(Action::Region { words, seed: words as u32 });
         self.call(Call::Setup { table: table.to_vec(), donor, merge: true });
         self.call(Call::Check);
     }
@@ -124,7 +120,7 @@ impl Script {
     /// The requirements' demonstration, all eleven calls.
     fn demonstration(&mut self) {
         self.heap("the demonstration", 64, &[24, 32, 40, 128], 64);
-        self.call(Call::Allocate { z: 65_489 });
+        self.call(Call::Allocate { z: MOST_BYTES + 1 });
         for z in [16, 17, 40, 64, 16] {
             self.call(Call::Allocate { z });
         }
@@ -139,34 +135,45 @@ impl Script {
 
     /// The record of the largest heap over a region that is one word longer.
     fn one_word_too_long(&mut self) {
-        self.heap("16,385 words under the record of the largest heap", LARGEST + 1, &[24], 0);
-        let (bytes, top) = (65_536, 8);
-        let end = bytes - 8;
-        let words = [(0, top), (1, 1), (2, end), (3, 0), (4, end - top), (5, 0), (6, 0), (7, 0)];
-        let ends = [(end as usize / 4, 0), (end as usize / 4 + 1, top | 1)];
-        for (index, value) in words.into_iter().chain(ends) {
-            self.play(Entry::Write { index, value });
+        self.heap("16,385 words under the record of the largest heap", MOST_WORDS + 1, &[24], 0);
+        let bytes = MOST_WORDS as u32 * WORD_BYTES;
+        let (start, top, end) = (0, HEADER_BYTES, bytes - HEADER_BYTES);
+        let headers = [
+            (start, FORWARD, top),
+            (start, BACKWARD, IN_USE),
+            (top, FORWARD, end),
+            (top, BACKWARD, start),
+            (top, SIZE, end - top),
+            (top, NEXT_IN_BIN, 0),
+            (top, PREVIOUS_IN_BIN, 0),
+            (top, BIN_WORD, 0),
+            (end, FORWARD, 0),
+            (end, BACKWARD, top | IN_USE),
+        ];
+        for (place, word, value) in headers {
+            self.play(Action::Write { index: index(place, word), value });
         }
-        for (index, value) in [(BYTES, bytes), (BINS, 1), (DONOR, 0), (TOP, top), (MERGE, 1), (USED, 0), (SIZES, 24)] {
-            self.play(Entry::Record { index, value });
+        let fields = [(BYTES, bytes), (BINS, 1), (DONOR, 0), (TOP, top), (MERGE, 1), (USED, 0), (SIZES, LEAST_CHUNK)];
+        for (index, value) in fields {
+            self.play(Action::Record { index, value });
         }
         self.call(Call::Check);
         self.call(Call::Allocate { z: 1 });
     }
 
-    /// The sides that the requirements name.
+    /// Both sides of the limits that the requirements name.
     fn both_sides(&mut self) {
-        for words in [9, 10, 11, LARGEST, LARGEST + 1] {
+        for words in [FEWEST_WORDS - 1, FEWEST_WORDS, FEWEST_WORDS + 1, MOST_WORDS, MOST_WORDS + 1] {
             self.heap(&format!("{words} words"), words, &[24, 32, 64], 0);
             self.call(Call::Allocate { z: 1 });
             self.call(Call::AskChunk { question: 8, place: 8 });
         }
         for z in [MOST_BYTES, MOST_BYTES + 1] {
-            self.heap(&format!("{z} bytes of the largest heap"), LARGEST, &[24, 32, 64], 0);
+            self.heap(&format!("{z} bytes of the largest heap"), MOST_WORDS, &[24, 32, 64], 0);
             self.call(Call::Allocate { z });
             self.call(Call::Check);
         }
-        self.heap("every size of a heap of 10 words", 10, &[24], 0);
+        self.heap("every size of a heap of 10 words", FEWEST_WORDS, &[24], 0);
         for z in 0..=MOST_BYTES + 1 {
             self.call(Call::Allocate { z });
         }
@@ -178,14 +185,14 @@ impl Script {
 }
 
 impl Stage for Script {
-    fn play(&mut self, entry: Entry) -> Option<Answer> {
-        let (operation, arguments) = line(&entry);
+    fn play(&mut self, action: Action) -> Option<Answer> {
+        let (operation, arguments) = line(&action);
         self.write_line(operation, &arguments);
-        let answer = self.side.play(&entry);
-        self.count(operation, answer.unwrap_or_default()[0]);
+        let answer = self.side.play(&action);
+        self.count(&action, Refusal::of(answer.unwrap_or_default()[ANSWER_REFUSAL]));
         let answer = answer?;
         let digest = self.digest_after(DIGEST_OF_NOTHING, answer);
-        self.tell(digest);
+        self.transcript += &format!("{digest}\n");
         self.calls += 1;
         Some(answer)
     }
@@ -195,7 +202,7 @@ impl Stage for Script {
     }
 }
 
-/// The stored script, with its transcript.
+/// The stored script with its transcript.
 pub fn stored() -> Script {
     let mut script = Script::new();
     script.demonstration();

@@ -1,31 +1,31 @@
-//! One heap of a comparison: its words, its record and the way in which it answers. What is done to it are entries,
-//! which are also the lines of a script.
+//! One heap of a comparison: its region, its record and the function that answers its calls. It plays actions, which
+//! are also the lines of a script.
 
 use kruzhvela::flat::{self, Answer, Record, RECORD_WORDS};
 use second::Call;
 
-/// Something that is done to a heap.
+/// A call on a heap, or a write to it.
 #[derive(Clone, Debug, PartialEq, Eq)]
-pub enum Entry {
-    /// A region of so many words, filled from the seed, and a record of zeros.
+pub enum Action {
+    /// A new region of so many words, filled from the seed, and a record of zeros.
     Region {
         words: usize,
         seed: u32,
     },
     Call(Call),
-    /// A word of the region becomes `value`.
+    /// Writes a word of the region.
     Write {
         index: usize,
         value: u32,
     },
-    /// A word of the record becomes `value`.
+    /// Writes a word of the record.
     Record {
         index: usize,
         value: u32,
     },
 }
 
-/// A way of answering calls.
+/// A function that answers calls.
 pub type Answers = fn(&Call, &mut [u32], &mut Record) -> Answer;
 
 pub struct Side {
@@ -39,22 +39,22 @@ impl Side {
         Side { answers, region: Vec::new(), record: [0; RECORD_WORDS] }
     }
 
-    /// Does it; the answer, if it is a call.
-    pub fn play(&mut self, entry: &Entry) -> Option<Answer> {
-        match *entry {
-            Entry::Region { words, seed } => {
+    /// Plays the action; returns the answer, if it is a call.
+    pub fn play(&mut self, action: &Action) -> Option<Answer> {
+        match *action {
+            Action::Region { words, seed } => {
                 self.region = filled(words, seed);
                 self.record = [0; RECORD_WORDS];
             }
-            Entry::Call(ref call) => return Some((self.answers)(call, &mut self.region, &mut self.record)),
-            Entry::Write { index, value } => self.region[index] = value,
-            Entry::Record { index, value } => self.record[index] = value,
+            Action::Call(ref call) => return Some((self.answers)(call, &mut self.region, &mut self.record)),
+            Action::Write { index, value } => self.region[index] = value,
+            Action::Record { index, value } => self.record[index] = value,
         }
         None
     }
 }
 
-/// The words of a fresh region. A heap is set up on whatever stands there.
+/// The words of a new region: not zeros, since setup must accept any contents.
 fn filled(words: usize, seed: u32) -> Vec<u32> {
     let mut word = seed;
     let next = || {
@@ -64,7 +64,7 @@ fn filled(words: usize, seed: u32) -> Vec<u32> {
     std::iter::repeat_with(next).take(words).collect()
 }
 
-/// The proved heap.
+/// The proved heap's answer.
 pub fn proved(call: &Call, region: &mut [u32], record: &mut Record) -> Answer {
     match *call {
         Call::Setup { ref table, donor, merge } => flat::setup(region, table, donor, merge, record),

@@ -1,7 +1,33 @@
-//! What a case sees of a heap, in order to choose its next call or damage: the chain as far as it can be followed.
-//! It judges nothing, and reads words alone.
+//! What a case reads of a heap to choose its next call or damage: the chain, as far as it can be followed.
+//! It does not check the heap.
 
 use kruzhvela::flat::{Record, DONOR, TOP};
+use kruzhvela::limits::{ALIGNMENT, WORD_BYTES};
+
+/// The words of a free chunk's header. A chunk in use has the first two.
+pub const FORWARD: usize = 0;
+pub const BACKWARD: usize = 1;
+pub const SIZE: usize = 2;
+pub const NEXT_IN_BIN: usize = 3;
+pub const PREVIOUS_IN_BIN: usize = 4;
+pub const BIN_WORD: usize = 5;
+pub const HEADER_WORDS: u32 = 6;
+
+/// The flag of the backward word that says in use.
+pub const IN_USE: u32 = 1;
+
+/// The bin word is the bin's number times this.
+pub const BIN_FACTOR: u32 = 8;
+
+/// The heap bytes of a region of so many words.
+pub fn heap_bytes(words: usize) -> u32 {
+    words as u32 * WORD_BYTES / ALIGNMENT * ALIGNMENT
+}
+
+/// The index in the region of a header word of the chunk at a place.
+pub fn index(place: u32, word: usize) -> usize {
+    (place / WORD_BYTES) as usize + word
+}
 
 #[derive(Clone, Copy, Debug)]
 pub struct Chunk {
@@ -30,22 +56,22 @@ impl View {
         self.chunks.iter().copied().filter(|c| !c.in_use && c.place != self.donor && c.place != self.top).collect()
     }
 
-    /// The size of the chunk at a place, 0 if there is none.
+    /// The size of the chunk at a place, 0 for none.
     pub fn size_at(&self, place: u32) -> u32 {
         self.chunks.iter().find(|c| c.place == place).map_or(0, |c| c.size)
     }
 }
 
 fn chunks(region: &[u32]) -> Vec<Chunk> {
-    let word = |place: u32| region.get(place as usize / 4).copied().unwrap_or(0);
+    let word = |place: u32, word: usize| region.get(index(place, word)).copied().unwrap_or(0);
     let mut found = Vec::new();
-    let mut place = word(0);
+    let mut place = word(0, FORWARD);
     loop {
-        let next = word(place);
-        if place == 0 || next <= place || next as usize / 4 >= region.len() {
+        let next = word(place, FORWARD);
+        if place == 0 || next <= place || index(next, FORWARD) >= region.len() {
             return found;
         }
-        found.push(Chunk { place, size: next - place, in_use: word(place + 4) & 1 == 1 });
+        found.push(Chunk { place, size: next - place, in_use: word(place, BACKWARD) & IN_USE != 0 });
         place = next;
     }
 }

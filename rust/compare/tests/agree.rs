@@ -1,4 +1,4 @@
-//! The proved heap and `second` agree, each broken copy of `second` is caught, and the stored script is `second`'s.
+//! The proved heap and `second` agree, each broken copy of `second` is caught, and the stored script is up to date.
 
 use compare::broken::COPIES;
 use compare::case;
@@ -7,7 +7,7 @@ use compare::script;
 use compare::side::{proved, Answers};
 use std::path::Path;
 
-/// How many cases it takes until the two differ, if they do within so many.
+/// The first case, of so many, in which the two differ.
 fn caught(first: Answers, other: Answers, cases: u64) -> Option<u64> {
     (0..cases).find(|&number| {
         let mut duel = Duel::new(first, other);
@@ -38,7 +38,10 @@ fn the_stored_script_is_unchanged() {
     assert!(script.damaged * 2 >= script.heaps, "{} of {} heaps are damaged", script.damaged, script.heaps);
     let vectors = Path::new(env!("CARGO_MANIFEST_DIR")).join("../../crates/vectors");
     let stored = |name: &str| std::fs::read_to_string(vectors.join(name)).expect(name);
-    // not assert_eq: what differs is too long to print
-    assert!(stored("stdin") == script.text, "the script is another: cargo run --bin script writes it");
-    assert!(stored("stdout") == script.transcript, "the transcript is another: cargo run --bin script writes it");
+    // not assert_eq: the texts are too long to print
+    assert!(stored("stdin") == script.text, "the stored script is out of date: cargo run --bin script writes it");
+    assert!(
+        stored("stdout") == script.transcript,
+        "the stored transcript is out of date: cargo run --bin script writes it"
+    );
 }

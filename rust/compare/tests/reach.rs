@@ -1,19 +1,20 @@
-//! The cases reach what they are for: every call accepted and refused with every number it can have, every m, long
+//! The cases reach what they must: every call accepted and refused with every number that it can give, every m, long
 //! chains, and damage that the check refuses.
 
 use compare::case::{self, Stage};
-use compare::side::{Entry, Side};
-use kruzhvela::flat::{Answer, Record, BINS, SIZES};
+use compare::side::{Action, Side};
+use kruzhvela::flat::{Answer, Record, ANSWER_REFUSAL, BINS, CHECK_CHUNKS, SIZES};
+use kruzhvela::limits::{ALIGNMENT, LEAST_CHUNK, MOST_BINS};
 use second::Call;
 use std::collections::BTreeMap;
 
-/// Counts what the calls of `second` come to.
+/// Counts the answers of `second`.
 struct Tally {
     side: Side,
-    /// By the call's name and the refusal's number.
+    /// Counts by the call's name and the refusal's number.
     answers: BTreeMap<(&'static str, u32), u64>,
-    /// By m, of heaps that were set up.
-    runs: BTreeMap<usize, u64>,
+    /// Counts of accepted setups by m.
+    setups: BTreeMap<usize, u64>,
     most_chunks: u32,
 }
 
@@ -31,22 +32,22 @@ fn name(call: &Call) -> &'static str {
     }
 }
 
-/// The greatest number below the bin count for which the bins up to it have no gap.
-fn run_of(record: &Record) -> usize {
+/// m: the greatest number below the bin count up to which the bins have no gap.
+fn small_bins(record: &Record) -> usize {
     let bins = record[BINS] as usize;
-    (0..bins).take_while(|&i| record[SIZES + i] == 24 + 8 * i as u32).last().unwrap_or(0)
+    (0..bins).take_while(|&i| record[SIZES + i] == LEAST_CHUNK + ALIGNMENT * i as u32).last().unwrap_or(0)
 }
 
 impl Stage for Tally {
-    fn play(&mut self, entry: Entry) -> Option<Answer> {
-        let answer = self.side.play(&entry);
-        if let (Entry::Call(call), Some(answer)) = (entry, answer) {
-            *self.answers.entry((name(&call), answer[0])).or_default() += 1;
-            if matches!(call, Call::Setup { .. }) && answer[0] == 0 {
-                *self.runs.entry(run_of(&self.side.record)).or_default() += 1;
+    fn play(&mut self, action: Action) -> Option<Answer> {
+        let answer = self.side.play(&action);
+        if let (Action::Call(call), Some(answer)) = (action, answer) {
+            *self.answers.entry((name(&call), answer[ANSWER_REFUSAL])).or_default() += 1;
+            if matches!(call, Call::Setup { .. }) && answer[ANSWER_REFUSAL] == 0 {
+                *self.setups.entry(small_bins(&self.side.record)).or_default() += 1;
             }
             if call == Call::Check {
-                self.most_chunks = self.most_chunks.max(answer[1]);
+                self.most_chunks = self.most_chunks.max(answer[CHECK_CHUNKS]);
             }
         }
         answer
@@ -57,7 +58,7 @@ impl Stage for Tally {
     }
 }
 
-/// The numbers that each call can have; 9 is never given.
+/// The numbers that each call can give; none gives 9.
 const NUMBERS: [(&str, &[u32]); 9] = [
     ("setup", &[0, 1, 2, 3]),
     ("allocate", &[0, 4, 5, 7]),
@@ -73,7 +74,7 @@ const NUMBERS: [(&str, &[u32]); 9] = [
 #[test]
 fn the_cases_reach_every_answer() {
     let mut tally =
-        Tally { side: Side::new(second::apply), answers: BTreeMap::new(), runs: BTreeMap::new(), most_chunks: 0 };
+        Tally { side: Side::new(second::apply), answers: BTreeMap::new(), setups: BTreeMap::new(), most_chunks: 0 };
     for number in 0..2_000 {
         case::play(number, 1, &mut tally);
     }
@@ -83,7 +84,7 @@ fn the_cases_reach_every_answer() {
             assert!(times > 50, "{name} answered {number} only {times} times");
         }
     }
-    assert!(tally.answers.is_empty(), "no call should answer so: {:?}", tally.answers);
-    assert_eq!(tally.runs.len(), 32, "m from 0 to 31: {:?}", tally.runs);
+    assert!(tally.answers.is_empty(), "no call may give these: {:?}", tally.answers);
+    assert_eq!(tally.setups.len(), MOST_BINS, "m from 0 to 31: {:?}", tally.setups);
     assert!(tally.most_chunks > 1_500, "the longest chain has {} chunks", tally.most_chunks);
 }

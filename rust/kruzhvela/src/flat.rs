@@ -1,36 +1,56 @@
-//! The nine calls over flat words, as `include/kruzhvela.h` declares them: a record of 102 words and an answer of 5.
-//! Rust's references keep the border that the header names, so these functions are safe on all arguments.
+//! The nine calls over flat words, as `include/kruzhvela.h` declares them. Rust's references meet the preconditions
+//! that the header states, so these functions are safe for all arguments.
 
-/// The words of a record.
-pub const RECORD_WORDS: usize = 102;
-
-/// The words of an answer.
-pub const ANSWER_WORDS: usize = 5;
-
-/// A record: heap bytes, bin count, donor, top, merge, used, then 32 bin sizes, 32 heads and 32 tails.
-pub type Record = [u32; RECORD_WORDS];
-
-/// An answer: refusal, offset, value, change and 0; of the check refusal, chunks, ordinary free chunks, used and free.
-pub type Answer = [u32; ANSWER_WORDS];
+use crate::limits::MOST_BINS;
 
 /// The record's word that holds the heap bytes.
 pub const BYTES: usize = 0;
 /// The record's word that holds the bin count.
 pub const BINS: usize = 1;
-/// The record's word that holds the donor's place.
+/// The record's word that holds the donor's place, 0 for none.
 pub const DONOR: usize = 2;
 /// The record's word that holds the top's place.
 pub const TOP: usize = 3;
-/// The record's word that holds the merge setting.
+/// The record's word that holds the merge setting, 0 or 1.
 pub const MERGE: usize = 4;
 /// The record's word that holds the used bytes.
 pub const USED: usize = 5;
-/// The first of the record's 32 bin sizes.
+/// The first of the record's [`MOST_BINS`] bin sizes.
 pub const SIZES: usize = 6;
-/// The first of the record's 32 heads.
-pub const HEADS: usize = 38;
-/// The first of the record's 32 tails.
-pub const TAILS: usize = 70;
+/// The first of the record's [`MOST_BINS`] heads.
+pub const HEADS: usize = SIZES + MOST_BINS;
+/// The first of the record's [`MOST_BINS`] tails.
+pub const TAILS: usize = HEADS + MOST_BINS;
+
+/// The number of words of a record.
+pub const RECORD_WORDS: usize = TAILS + MOST_BINS;
+
+/// A heap's record. The constants above say which word holds what.
+pub type Record = [u32; RECORD_WORDS];
+
+/// The number of words of an answer.
+pub const ANSWER_WORDS: usize = 5;
+
+/// A call's answer. A word that the call does not name is 0.
+pub type Answer = [u32; ANSWER_WORDS];
+
+/// The answer's word that holds the refusal's number, 0 if the call was accepted.
+pub const ANSWER_REFUSAL: usize = 0;
+/// The answer's word that holds the block's offset.
+pub const ANSWER_OFFSET: usize = 1;
+/// The answer's word that holds what a question asked for.
+pub const ANSWER_VALUE: usize = 2;
+/// The answer's word that holds the change in used bytes, in two's complement.
+pub const ANSWER_CHANGE: usize = 3;
+
+/// The word of the check's answer that holds the number of chunks.
+pub const CHECK_CHUNKS: usize = 1;
+/// The word of the check's answer that holds the number of ordinary free chunks.
+pub const CHECK_ORDINARY: usize = 2;
+/// The word of the check's answer that holds the used bytes.
+pub const CHECK_USED: usize = 3;
+/// The word of the check's answer that holds the free bytes.
+pub const CHECK_FREE: usize = 4;
 
 mod c {
     extern "C" {
@@ -83,10 +103,10 @@ mod c {
     }
 }
 
-/// Sets up a heap in the region. The record is written and not read.
+/// Sets up a heap in the region. Writes the record without reading it.
 pub fn setup(region: &mut [u32], table: &[u32], donor: u32, merge: bool, record: &mut Record) -> Answer {
     let mut answer = [0; ANSWER_WORDS];
-    // SAFETY: each pointer comes from a reference to as many words as are said, and no two of them overlap.
+    // SAFETY: each pointer comes from a reference to the stated number of words, and these references do not overlap.
     unsafe {
         c::kz_setup(
             region.as_mut_ptr(),
@@ -102,13 +122,13 @@ pub fn setup(region: &mut [u32], table: &[u32], donor: u32, merge: bool, record:
     answer
 }
 
-/// A call on a heap that was set up: region, record, the call's own arguments, answer.
+/// A call other than setup: region, record, the call's own arguments, answer.
 macro_rules! call {
     ($(#[$doc:meta])* $name:ident, $function:ident $(, $argument:ident: $sort:ty)*) => {
         $(#[$doc])*
         pub fn $name(region: &mut [u32], record: &mut Record $(, $argument: $sort)*) -> Answer {
             let mut answer = [0; ANSWER_WORDS];
-            // SAFETY: each pointer comes from a reference to as many words as are said, and no two of them overlap.
+            // SAFETY: each pointer comes from a reference to the stated number of words, and these references do not overlap.
             unsafe {
                 c::$function(region.as_mut_ptr(), region.len(), record.as_mut_ptr() $(, $argument)*, answer.as_mut_ptr());
             }
@@ -118,27 +138,27 @@ macro_rules! call {
 }
 
 call!(
-    /// A block of `z` bytes.
+    /// Allocates a block of `z` bytes.
     allocate, kz_allocate, z: u32
 );
 call!(
-    /// A block of `count` times `size` bytes, every word of it 0.
+    /// Allocates a block of `count` times `size` bytes and sets every word of it to 0.
     allocate_cleared, kz_allocate_cleared, count: u32, size: u32
 );
 call!(
-    /// Gives a block back.
+    /// Frees a block.
     free, kz_free, block: u32
 );
 call!(
-    /// Gives a block another size.
+    /// Resizes a block to `z` bytes.
     reallocate, kz_reallocate, block: u32, z: u32
 );
 call!(
-    /// Says whether chunks that are given back join their neighbours.
+    /// Turns coalescing on or off.
     set_merge, kz_set_merge, on: bool
 );
 call!(
-    /// Checks the whole heap.
+    /// Checks the whole heap and counts.
     check, kz_check
 );
 call!(

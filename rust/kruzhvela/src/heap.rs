@@ -1,10 +1,11 @@
-//! A heap with its words and its record, and the nine calls as methods.
+//! A heap with its region and record, and the nine calls as methods.
 
 use std::error::Error;
 use std::fmt;
 use std::ops::Range;
 
-use crate::flat::{self, Answer, Record, RECORD_WORDS};
+use crate::flat::{self, Answer, Record};
+use crate::limits::WORD_BYTES;
 use crate::Refusal;
 
 /// A block of a heap, by its offset in bytes. Block 0 is no block.
@@ -12,10 +13,10 @@ use crate::Refusal;
 pub struct Block(u32);
 
 impl Block {
-    /// No block: free accepts it and does nothing, and reallocate makes a new one.
+    /// No block: free accepts it and does nothing; reallocate of it allocates.
     pub const NONE: Block = Block(0);
 
-    /// The block at an offset, such as one that was stored. Whether it is live the heap finds out.
+    /// The block at an offset, such as one that the caller stored. A call that takes it checks that it is live.
     pub fn at(offset: u32) -> Block {
         Block(offset)
     }
@@ -33,20 +34,20 @@ pub struct Granted {
     pub change: i32,
 }
 
-/// What the check counts on a heap that passes.
+/// The check's counts of a heap that passes.
 #[derive(Clone, Copy, Debug, PartialEq, Eq)]
 pub struct Counts {
-    /// All chunks, the start and the end among them.
+    /// All chunks, start and end included.
     pub chunks: u32,
-    /// Free chunks in bins.
+    /// Ordinary free chunks: those in bins.
     pub ordinary: u32,
     /// Bytes of the chunks of live blocks.
     pub used: u32,
-    /// Bytes of free chunks, donor and top among them.
+    /// Bytes of free chunks, donor and top included.
     pub free: u32,
 }
 
-/// What may be asked of a chunk, by its offset in bytes. Where there is none the answer is 0.
+/// A question about the chunk at an offset in bytes. The answer is 0 where there is none.
 #[derive(Clone, Copy, Debug, PartialEq, Eq)]
 #[repr(u32)]
 pub enum ChunkQuestion {
@@ -70,7 +71,7 @@ pub enum ChunkQuestion {
     Type = 9,
 }
 
-/// What may be asked of a bin. Of an empty bin the answer is 0.
+/// A question about a bin. For an empty bin the answer is 0.
 #[derive(Clone, Copy, Debug, PartialEq, Eq)]
 #[repr(u32)]
 pub enum BinQuestion {
@@ -82,7 +83,7 @@ pub enum BinQuestion {
     Last = 3,
 }
 
-/// A setup that was refused: why, and the words, unchanged.
+/// A refused setup: the refusal, and the words, unchanged.
 #[derive(Debug)]
 pub struct NotSetUp<W> {
     pub refusal: Refusal,
@@ -97,7 +98,7 @@ impl<W> fmt::Display for NotSetUp<W> {
 
 impl<W: fmt::Debug> Error for NotSetUp<W> {}
 
-/// Lets `?` turn it into the refusal alone, where the words are not wanted back.
+/// Lets `?` return the refusal alone, if the caller does not want the words back.
 impl<W> From<NotSetUp<W>> for Refusal {
     fn from(refused: NotSetUp<W>) -> Refusal {
         refused.refusal
@@ -113,19 +114,25 @@ pub struct Heap<W> {
 
 /// The answer, if the call was accepted.
 fn accepted(answer: Answer) -> Result<Answer, Refusal> {
-    match Refusal::of(answer[0]) {
+    match Refusal::of(answer[flat::ANSWER_REFUSAL]) {
         Some(refusal) => Err(refusal),
         None => Ok(answer),
     }
 }
 
+fn change(answer: Answer) -> i32 {
+    answer[flat::ANSWER_CHANGE] as i32
+}
+
 fn granted(answer: Answer) -> Granted {
-    Granted { block: Block(answer[1]), change: answer[3] as i32 }
+    Granted { block: Block(answer[flat::ANSWER_OFFSET]), change: change(answer) }
 }
 
 impl<W: AsRef<[u32]> + AsMut<[u32]>> Heap<W> {
-    /// Sets up a heap in 10 to 16,384 words: the sizes of its bins, the first of them 24, the bytes of its donor, from
-    /// which small blocks come (0 for none), and whether chunks that are given back join their neighbours.
+    /// Sets up a heap in [`FEWEST_WORDS`](crate::limits::FEWEST_WORDS) to
+    /// [`MOST_WORDS`](crate::limits::MOST_WORDS) words. `table`: ascending bin sizes, multiples of 8, the first 24.
+    /// `donor`: bytes of the donor chunk, which serves small requests; 0 for none. `merge`: whether free coalesces a
+    /// chunk with its free neighbours.
     ///
     /// ```
     /// use kruzhvela::{Heap, Refusal};
@@ -134,14 +141,14 @@ impl<W: AsRef<[u32]> + AsMut<[u32]>> Heap<W> {
     /// assert_eq!(refused.words.len(), 9);
     /// ```
     pub fn setup(mut words: W, table: &[u32], donor: u32, merge: bool) -> Result<Heap<W>, NotSetUp<W>> {
-        let mut record = [0; RECORD_WORDS];
+        let mut record = [0; flat::RECORD_WORDS];
         match accepted(flat::setup(words.as_mut(), table, donor, merge, &mut record)) {
             Ok(_) => Ok(Heap { words, record }),
             Err(refusal) => Err(NotSetUp { refusal, words }),
         }
     }
 
-    /// A heap that was taken apart by [`into_parts`](Heap::into_parts), or moved here from C. Every call checks it first.
+    /// Makes a heap of the parts that [`into_parts`](Heap::into_parts) or a C caller had. Every call checks it first.
     pub fn from_parts(words: W, record: Record) -> Heap<W> {
         Heap { words, record }
     }
@@ -151,7 +158,7 @@ impl<W: AsRef<[u32]> + AsMut<[u32]>> Heap<W> {
         (self.words, self.record)
     }
 
-    /// A block of `bytes` bytes, 1 to 65,488. Its words are as they were found.
+    /// Allocates a block of `bytes` bytes, 1 to [`MOST_BYTES`](crate::limits::MOST_BYTES). Its words stay as found.
     ///
     /// ```
     /// use kruzhvela::{Heap, Refusal};
@@ -165,7 +172,8 @@ impl<W: AsRef<[u32]> + AsMut<[u32]>> Heap<W> {
         accepted(flat::allocate(self.words.as_mut(), &mut self.record, bytes)).map(granted)
     }
 
-    /// A block for `count` elements of `size` bytes, every word of it 0. The product may not be 0 or above 65,488.
+    /// Allocates a block for `count` elements of `size` bytes and sets every word of it to 0. The product must be 1 to
+    /// [`MOST_BYTES`](crate::limits::MOST_BYTES).
     ///
     /// ```
     /// use kruzhvela::Heap;
@@ -178,22 +186,23 @@ impl<W: AsRef<[u32]> + AsMut<[u32]>> Heap<W> {
         accepted(flat::allocate_cleared(self.words.as_mut(), &mut self.record, count, size)).map(granted)
     }
 
-    /// Gives a block back, and answers the change in used bytes. [`Block::NONE`] is accepted.
+    /// Frees a block and returns the change in used bytes. [`Block::NONE`] is accepted and changes nothing.
     pub fn free(&mut self, block: Block) -> Result<i32, Refusal> {
-        accepted(flat::free(self.words.as_mut(), &mut self.record, block.0)).map(|answer| answer[3] as i32)
+        accepted(flat::free(self.words.as_mut(), &mut self.record, block.0)).map(change)
     }
 
-    /// Gives a block `bytes` bytes. It may move; what both sizes have of it stays. A refused call leaves it as it is.
+    /// Resizes a block to `bytes` bytes. It may move; its contents stay, up to the smaller of both sizes. If the call
+    /// is refused, the block stays as it is.
     pub fn reallocate(&mut self, block: Block, bytes: u32) -> Result<Granted, Refusal> {
         accepted(flat::reallocate(self.words.as_mut(), &mut self.record, block.0, bytes)).map(granted)
     }
 
-    /// Says whether chunks that are given back join their neighbours from now on.
+    /// Turns coalescing on or off for the calls that follow.
     pub fn set_merge(&mut self, on: bool) -> Result<(), Refusal> {
         accepted(flat::set_merge(self.words.as_mut(), &mut self.record, on)).map(|_| ())
     }
 
-    /// Checks the whole heap, and counts.
+    /// Checks the whole heap and counts its chunks and bytes.
     ///
     /// ```
     /// use kruzhvela::{Heap, Refusal};
@@ -208,17 +217,17 @@ impl<W: AsRef<[u32]> + AsMut<[u32]>> Heap<W> {
     /// ```
     pub fn check(&mut self) -> Result<Counts, Refusal> {
         accepted(flat::check(self.words.as_mut(), &mut self.record)).map(|answer| Counts {
-            chunks: answer[1],
-            ordinary: answer[2],
-            used: answer[3],
-            free: answer[4],
+            chunks: answer[flat::CHECK_CHUNKS],
+            ordinary: answer[flat::CHECK_ORDINARY],
+            used: answer[flat::CHECK_USED],
+            free: answer[flat::CHECK_FREE],
         })
     }
 
-    /// Answers a question about the chunk at an offset (of [`ChunkQuestion::ChunkOfBlock`]: about the block there).
+    /// Answers a question about the chunk at an offset; for [`ChunkQuestion::ChunkOfBlock`] the offset is a block's.
     pub fn ask_chunk(&mut self, question: ChunkQuestion, offset: u32) -> Result<u32, Refusal> {
         accepted(flat::ask_chunk(self.words.as_mut(), &mut self.record, question as u32, offset))
-            .map(|answer| answer[2])
+            .map(|answer| answer[flat::ANSWER_VALUE])
     }
 
     /// Answers a question about a bin.
@@ -232,10 +241,11 @@ impl<W: AsRef<[u32]> + AsMut<[u32]>> Heap<W> {
     /// # Ok::<(), kruzhvela::Refusal>(())
     /// ```
     pub fn ask_bin(&mut self, question: BinQuestion, bin: u32) -> Result<u32, Refusal> {
-        accepted(flat::ask_bin(self.words.as_mut(), &mut self.record, question as u32, bin)).map(|answer| answer[2])
+        accepted(flat::ask_bin(self.words.as_mut(), &mut self.record, question as u32, bin))
+            .map(|answer| answer[flat::ANSWER_VALUE])
     }
 
-    /// The words of a live block, to its chunk's end: at least as many bytes as were asked for.
+    /// The words of a live block, up to its chunk's end: at least the bytes that were asked for.
     pub fn words_of(&mut self, block: Block) -> Result<&mut [u32], Refusal> {
         let place = self.range_of(block)?;
         Ok(&mut self.words.as_mut()[place])
@@ -244,7 +254,7 @@ impl<W: AsRef<[u32]> + AsMut<[u32]>> Heap<W> {
     fn range_of(&mut self, block: Block) -> Result<Range<usize>, Refusal> {
         let chunk = self.ask_chunk(ChunkQuestion::ChunkOfBlock, block.0)?;
         let size = self.ask_chunk(ChunkQuestion::Size, chunk)?;
-        Ok(block.0 as usize / 4..(chunk + size) as usize / 4)
+        Ok((block.0 / WORD_BYTES) as usize..((chunk + size) / WORD_BYTES) as usize)
     }
 
     /// The record's words, as a C caller holds them.
@@ -252,7 +262,7 @@ impl<W: AsRef<[u32]> + AsMut<[u32]>> Heap<W> {
         &self.record
     }
 
-    /// All words of the region, headers among them.
+    /// All words of the region, headers included.
     pub fn region(&self) -> &[u32] {
         self.words.as_ref()
     }

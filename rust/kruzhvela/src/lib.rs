@@ -1,17 +1,17 @@
-//! A binned heap inside a fixed run of 32-bit words, every answer of which is proved.
+//! A binned heap in a fixed region of 32-bit words, with every answer proved.
 //!
-//! The heap owns its words or borrows them. A block is an offset in bytes from the first word; its words are reached
-//! through the heap.
+//! The heap owns its words or borrows them. A block is an offset in bytes from the first word; the heap gives access
+//! to its words.
 //!
 //! ```
 //! use kruzhvela::{Heap, Refusal};
 //!
-//! // 1,024 words, three bins, no donor, neighbours that are given back join
+//! // 1,024 words, three bins, no donor, coalescing on
 //! let mut heap = Heap::setup(vec![0; 1024], &[24, 64, 256], 0, true)?;
 //! let strip = heap.allocate(40)?.block;
 //! heap.words_of(strip)?[0] = 7;
 //!
-//! // the strip grows: wherever it goes, it begins with what it held
+//! // the strip grows and may move: its contents stay
 //! let strip = heap.reallocate(strip, 400)?.block;
 //! assert_eq!(heap.words_of(strip)?[0], 7);
 //!
@@ -20,7 +20,7 @@
 //! # Ok::<(), kruzhvela::Refusal>(())
 //! ```
 //!
-//! Words that the caller lends come back when the heap is dropped:
+//! A heap over borrowed words gives them back when it is dropped:
 //!
 //! ```
 //! use kruzhvela::Heap;
@@ -36,6 +36,7 @@ mod heap;
 mod refusal;
 
 pub mod flat;
+pub mod limits;
 
 pub use heap::{BinQuestion, Block, ChunkQuestion, Counts, Granted, Heap, NotSetUp};
 pub use refusal::Refusal;

@@ -1,29 +1,29 @@
-//! The refusals: why a call was not accepted.
+//! The refusals.
 
 use std::error::Error;
 use std::fmt;
 
-/// Why a call was refused. A refused call has changed nothing.
+/// Why a call was refused. A refused call changes nothing.
 #[derive(Clone, Copy, Debug, PartialEq, Eq, Hash)]
 #[repr(u32)]
 pub enum Refusal {
     /// Setup: the region has under 10 or over 16,384 words.
     RegionLength = 1,
-    /// Setup: the bin sizes are not 1 to 32 growing multiples of 8 that begin with 24.
+    /// Setup: the table is not 1 to 32 ascending multiples of 8 that begin with 24.
     BadTable = 2,
-    /// Setup: the donor is to have under 24 bytes, no multiple of 8, or more than there is room for.
+    /// Setup: the donor's size is not 0 and is under 24, no multiple of 8, or over the heap bytes less 40.
     DonorSize = 3,
-    /// The heap does not pass the check: something else has written its words or its record.
+    /// The heap fails the check: something else has written its headers or its record.
     HeapFails = 4,
-    /// No block may have so many bytes: 0, or over 65,488.
+    /// The size, or the product of a cleared allocate, is 0 or over 65,488.
     BlockSize = 5,
-    /// The block is not live: it was given back already, or never granted.
+    /// The block is not live: a double free, or a place that was never granted.
     NotLive = 6,
     /// No chunk of the whole heap can serve the request.
     NoRoom = 7,
     /// There is no such chunk, live block, bin or question.
     NotThere = 8,
-    /// No bin takes the size of a chunk. It is proved that this is never given.
+    /// No bin takes the size of a chunk. A theorem (`never-nine`) says that no call gives this.
     NoBinTakes = 9,
 }
 
@@ -41,11 +41,11 @@ impl Refusal {
     ];
 
     /// The refusal's number, from 1 to 9.
-    pub fn number(self) -> u32 {
+    pub const fn number(self) -> u32 {
         self as u32
     }
 
-    /// The refusal of a number; `None` for 0, which says that a call was accepted, and for what is no refusal.
+    /// The refusal with this number; `None` for 0 (accepted) and for any other number.
     ///
     /// ```
     /// use kruzhvela::Refusal;
@@ -61,10 +61,10 @@ impl fmt::Display for Refusal {
     fn fmt(&self, f: &mut fmt::Formatter<'_>) -> fmt::Result {
         f.write_str(match self {
             Refusal::RegionLength => "the region has too few or too many words",
-            Refusal::BadTable => "the bin sizes are not in order",
-            Refusal::DonorSize => "the donor's size does not fit",
-            Refusal::HeapFails => "the heap does not pass the check",
-            Refusal::BlockSize => "no block may have so many bytes",
+            Refusal::BadTable => "the bin table is not valid",
+            Refusal::DonorSize => "the donor's size is not permitted",
+            Refusal::HeapFails => "the heap fails the check",
+            Refusal::BlockSize => "the block's size is not permitted",
             Refusal::NotLive => "the block is not live",
             Refusal::NoRoom => "no chunk can serve the request",
             Refusal::NotThere => "there is no such chunk, block, bin or question",

@@ -1,13 +1,13 @@
-// Leaving a bin, being put into one, and the search of the bins.
+// The bin lists: a chunk leaves one, is put into one, and is searched for.
 
 use super::heap::{Heap, Kind};
+use super::layout::slot;
 use super::render;
 use super::table;
 
-/// Takes the chunk out of its list and closes the gap. The links are written at
-/// once, as the list stands now: when two neighbours of one list are joined, the
-/// link that the lower one's leaving writes into the upper one has to remain.
-/// The chunk's own header stays as found.
+/// Unlinks the chunk from its list. The neighbours' links are written at once:
+/// where two chunks of one list join, the link that the lower one's leaving
+/// writes into the upper one must remain. The chunk's own header stays as found.
 pub fn leave_bin(heap: &mut Heap, region: &mut [u32], at: usize) {
     let chunk = heap.chain[at];
     let list = &mut heap.bins[table::bin_of(&heap.table, chunk.size)];
@@ -17,7 +17,8 @@ pub fn leave_bin(heap: &mut Heap, region: &mut [u32], at: usize) {
     }
 }
 
-/// First in a bin of the small array, last in any other.
+/// Small bins are last in, first out: the chunk goes to the head. In any other
+/// bin it goes to the tail.
 fn put_in_bin(heap: &mut Heap, region: &mut [u32], at: usize) {
     let chunk = heap.chain[at];
     let bin = table::bin_of(&heap.table, chunk.size);
@@ -29,8 +30,8 @@ fn put_in_bin(heap: &mut Heap, region: &mut [u32], at: usize) {
     render::seam(list, region, position + 1);
 }
 
-/// A free chunk that came out of a split or a joining: its six header words, the
-/// backward link of the chunk above it, and its bin unless it is donor or top.
+/// Writes a free chunk that a split or a joining made: its six header words, the
+/// backward link of the chunk above it, and, unless it is donor or top, its bin.
 pub fn settle(heap: &mut Heap, region: &mut [u32], at: usize) {
     render::free_header(heap, region, at);
     render::backward_link(heap, region, at + 1);
@@ -39,24 +40,24 @@ pub fn settle(heap: &mut Heap, region: &mut [u32], at: usize) {
     }
 }
 
-/// The first chunk, in list order, of the bin of `need` that has `need` bytes.
-/// Sizes are noted by place in one pass of the chain: to look each up there would
-/// be slow in a long list.
+/// First fit: the first chunk of at least `need` bytes in the list of the bin of
+/// `need`. One pass of the chain notes which places fit, since to look each
+/// member up in the chain would be slow in a long list.
 pub fn first_fit(heap: &Heap, need: u32) -> Option<usize> {
     let list = &heap.bins[table::bin_of(&heap.table, need)];
     if list.is_empty() {
         return None;
     }
-    let mut fits = vec![false; heap.heap_bytes as usize / 8];
+    let mut fits = vec![false; slot(heap.heap_bytes)];
     for chunk in heap.ordinary() {
-        fits[chunk.place as usize / 8] = chunk.size >= need;
+        fits[slot(chunk.place)] = chunk.size >= need;
     }
-    let first = list.iter().find(|&&place| fits[place as usize / 8])?;
+    let first = list.iter().find(|&&place| fits[slot(place)])?;
     heap.find(*first)
 }
 
-/// The first chunk of the next larger occupied bin: no size to compare, for every
-/// chunk there exceeds every size of the bin of `need`.
+/// The first chunk of the next larger occupied bin. No size is compared: every
+/// chunk there is larger than every size of the bin of `need`.
 pub fn first_larger(heap: &Heap, need: u32) -> Option<usize> {
     let larger = &heap.bins[table::bin_of(&heap.table, need) + 1..];
     let first = larger.iter().find_map(|list| list.first())?;

@@ -1,4 +1,4 @@
-// The calls of the heap, with their arguments.
+// The nine calls with their arguments.
 
 #[derive(Clone, Debug, PartialEq, Eq)]
 pub enum Call {

@@ -1,12 +1,12 @@
-// From words to lists. Decoding is the check: a heap that fails has no lists.
+// Decodes words into lists. Decoding is the check: it gives no lists for a heap that fails.
 
 use super::heap::{Chunk, Heap, Kind};
 use super::layout::{
-    heap_bytes, index, BACKWARD, BACKWARD_BIN, BIN, BIN_COUNT, DONOR, END_BYTES, FORWARD, FORWARD_BIN, HEADS,
-    HEAP_BYTES, IN_USE, LEAST_CHUNK, MAX_BINS, MERGE, SIZE, TABLE, TAILS, TOP, USED,
+    heap_bytes, index, slot, ALIGNMENT, BACKWARD, BACKWARD_BIN, BIN, BIN_COUNT, BIN_FACTOR, DONOR, FORWARD,
+    FORWARD_BIN, HEADER_BYTES, HEADS, HEAP_BYTES, IN_USE, LEAST_CHUNK, MAX_BINS, MERGE, RECORD_WORDS, SIZE, TABLE,
+    TAILS, TOP, USED,
 };
 use super::table;
-use super::RECORD_WORDS;
 
 pub fn decode(region: &[u32], record: &[u32; RECORD_WORDS]) -> Option<Heap> {
     let heap_bytes = heap_bytes(region)?;
@@ -29,7 +29,7 @@ pub fn decode(region: &[u32], record: &[u32; RECORD_WORDS]) -> Option<Heap> {
     Some(heap)
 }
 
-/// The table, if it is valid and nothing stands in the unused places of the three arrays.
+/// The table, if it is valid and the unused places of the three arrays are 0.
 fn decode_table(record: &[u32; RECORD_WORDS]) -> Option<Vec<u32>> {
     let count = record[BIN_COUNT] as usize;
     let sizes = record[TABLE..].get(..count)?;
@@ -44,9 +44,9 @@ fn decode_table(record: &[u32; RECORD_WORDS]) -> Option<Vec<u32>> {
     clean.then(|| sizes.to_vec())
 }
 
-/// The physical chain. Each step goes up and none beyond the end chunk, so it ends.
+/// The chain of chunks. It ends: each step goes up, and none past the end chunk.
 fn decode_chain(region: &[u32], heap_bytes: u32) -> Option<Vec<Chunk>> {
-    let end = heap_bytes - END_BYTES;
+    let end = heap_bytes - HEADER_BYTES;
     let mut chain = Vec::new();
     let (mut below, mut place) = (0, 0);
     loop {
@@ -59,27 +59,27 @@ fn decode_chain(region: &[u32], heap_bytes: u32) -> Option<Vec<Chunk>> {
     }
 }
 
-/// One chunk, with all that concerns it and the chunk below it alone.
+/// One chunk, tested against all rules that read no chunk but this and the one below.
 fn decode_chunk(region: &[u32], place: u32, below: u32, end: u32) -> Option<Chunk> {
     let forward = region[index(place, FORWARD)];
     let backward = region[index(place, BACKWARD)];
     let in_use = backward & IN_USE != 0;
     let size = if place == end {
-        (forward == 0).then_some(END_BYTES)?
+        (forward == 0).then_some(HEADER_BYTES)?
     } else {
-        let up = forward.is_multiple_of(8) && forward > place && forward <= end;
+        let up = forward.is_multiple_of(ALIGNMENT) && forward > place && forward <= end;
         up.then(|| forward - place)?
     };
     let sound = if place == 0 || place == end {
-        size == END_BYTES && in_use
+        size == HEADER_BYTES && in_use
     } else {
         size >= LEAST_CHUNK && (in_use || region[index(place, SIZE)] == size)
     };
-    // With bit 0 taken off, the link must be left bare: the other two flags are 0.
+    // Only bit 0 is masked off, so a backward word with another flag set is refused.
     (sound && backward & !IN_USE == below).then_some(Chunk { place, size, in_use })
 }
 
-/// The last chunk below the end is the top; a donor is then lower by being another one.
+/// The top is the chunk below the end. A donor is another chunk, and so lies below the top.
 fn donor_and_top_hold(heap: &Heap, region: &[u32]) -> bool {
     heap.previous(heap.chain.len() - 1) == heap.top
         && stays_out_of_bins(heap, region, heap.top, Kind::Top)
@@ -91,12 +91,12 @@ fn stays_out_of_bins(heap: &Heap, region: &[u32], place: u32, kind: Kind) -> boo
     named && [FORWARD_BIN, BACKWARD_BIN, BIN].into_iter().all(|word| region[index(place, word)] == 0)
 }
 
-/// All bin lists. A chunk stops waiting when a list names it, so that none is
-/// named twice; none may be left waiting.
+/// All bin lists. A chunk waits until a list names it: a chunk named twice is
+/// refused, and so is a heap in which one still waits at the end.
 fn decode_bins(heap: &Heap, region: &[u32], record: &[u32; RECORD_WORDS]) -> Option<Vec<Vec<u32>>> {
-    let mut waiting = vec![false; heap.heap_bytes as usize / 8];
+    let mut waiting = vec![false; slot(heap.heap_bytes)];
     for chunk in heap.ordinary() {
-        waiting[chunk.place as usize / 8] = true;
+        waiting[slot(chunk.place)] = true;
     }
     let mut bins = Vec::with_capacity(heap.table.len());
     for bin in 0..heap.table.len() {
@@ -104,8 +104,8 @@ fn decode_bins(heap: &Heap, region: &[u32], record: &[u32; RECORD_WORDS]) -> Opt
         let list = decode_list(region, head, tail, &mut waiting)?;
         let fits = |&place: &u32| {
             let size = region[index(place, SIZE)];
-            let word = region[index(place, BIN)] as usize;
-            table::bin_of(&heap.table, size) == bin && word == bin * 8
+            let word = region[index(place, BIN)];
+            table::bin_of(&heap.table, size) == bin && word == bin as u32 * BIN_FACTOR
         };
         if !list.iter().all(fits) {
             return None;
@@ -115,13 +115,13 @@ fn decode_bins(heap: &Heap, region: &[u32], record: &[u32; RECORD_WORDS]) -> Opt
     (!waiting.contains(&true)).then_some(bins)
 }
 
-/// One list from head to tail, linked both ways; empty when both are 0.
+/// One doubly linked list from head to tail; it is empty if both are 0.
 fn decode_list(region: &[u32], head: u32, tail: u32, waiting: &mut [bool]) -> Option<Vec<u32>> {
     let mut list = Vec::new();
     let (mut before, mut place) = (0, head);
     while place != 0 {
-        let waited = std::mem::take(waiting.get_mut(place as usize / 8)?);
-        if !waited || !place.is_multiple_of(8) || region[index(place, BACKWARD_BIN)] != before {
+        let waited = std::mem::take(waiting.get_mut(slot(place))?);
+        if !waited || !place.is_multiple_of(ALIGNMENT) || region[index(place, BACKWARD_BIN)] != before {
             return None;
         }
         list.push(place);

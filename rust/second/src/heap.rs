@@ -1,8 +1,8 @@
-// The heap as lists: the chunks in the order of their places, and each bin's places.
+// The heap as lists: the chunks in the order of their places, and the places in each bin.
 
 use std::ops::Range;
 
-use super::layout::END_BYTES;
+use super::layout::{HEADER_BYTES, WORD_BYTES};
 
 #[derive(Clone, Copy)]
 pub struct Chunk {
@@ -34,12 +34,12 @@ pub struct Heap {
 
 impl Chunk {
     pub fn block(&self) -> u32 {
-        self.place + END_BYTES
+        self.place + HEADER_BYTES
     }
 
     /// The words of the chunk's block, to the chunk's end.
     pub fn block_words(&self) -> Range<usize> {
-        self.block() as usize / 4..(self.place + self.size) as usize / 4
+        self.block() as usize / WORD_BYTES..(self.place + self.size) as usize / WORD_BYTES
     }
 }
 
@@ -67,10 +67,10 @@ impl Heap {
         self.chain.binary_search_by_key(&place, |chunk| chunk.place).ok()
     }
 
-    /// The position in the chain of the chunk of a live block. The chain is asked,
-    /// not the word before the block: that one may be stale.
+    /// The position in the chain of the chunk of a live block. The chain decides,
+    /// not the word before the block, which may be stale.
     pub fn find_live(&self, block: u32) -> Option<usize> {
-        let at = self.find(block.checked_sub(END_BYTES)?)?;
+        let at = self.find(block.checked_sub(HEADER_BYTES)?)?;
         (self.kind(at) == Kind::InUse).then_some(at)
     }
 
@@ -90,7 +90,7 @@ impl Heap {
         free.filter(|chunk| chunk.place != self.donor && chunk.place != self.top)
     }
 
-    /// Used bytes by their definition, each time anew; there is no running figure.
+    /// Used bytes, summed up by their definition each time.
     pub fn used(&self) -> u32 {
         let inner = &self.chain[1..self.chain.len() - 1];
         let live = inner.iter().filter(|chunk| chunk.in_use);

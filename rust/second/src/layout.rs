@@ -1,6 +1,6 @@
-// Where things stand: words of a header, words of the record, refusal numbers.
+// The figures of the requirements: layout of chunks and record, limits, numbers of refusals and questions.
 
-/// Words of a header, counted from the chunk's place. In-use chunks have the first two.
+/// Words of a free chunk's header, counted from the chunk's place. A chunk in use has the first two.
 pub const FORWARD: usize = 0;
 pub const BACKWARD: usize = 1;
 pub const SIZE: usize = 2;
@@ -11,14 +11,32 @@ pub const BIN: usize = 5;
 /// Bit 0 of the backward word. The two bits above it stay 0.
 pub const IN_USE: u32 = 1;
 
-/// The first two header words, in bytes: the size of either end, and the way
-/// from a chunk to its block.
-pub const END_BYTES: u32 = 8;
+/// The bin word is the bin's number times this.
+pub const BIN_FACTOR: u32 = 8;
 
-/// The six header words, in bytes: the least chunk that can be free.
+/// Bytes of a word.
+pub const WORD_BYTES: usize = 4;
+
+/// Places and sizes of chunks are multiples of this.
+pub const ALIGNMENT: u32 = 8;
+
+/// The two header words of a chunk in use, in bytes: the size of start and end,
+/// and the distance from a chunk to its block.
+pub const HEADER_BYTES: u32 = 8;
+
+/// The six header words of a free chunk, in bytes: the least size of a chunk
+/// between start and end.
 pub const LEAST_CHUNK: u32 = 24;
 
-/// Words of the flat record.
+/// The lengths that a region may have, in words.
+pub const FEWEST_WORDS: usize = 10;
+pub const MOST_WORDS: usize = 16_384;
+
+/// The greatest z: in the largest heap it leaves the ends, the block's header
+/// and a least top.
+pub const MOST_BYTES: u64 = 65_488;
+
+/// Words of the record: six figures, then three arrays of MAX_BINS.
 pub const MAX_BINS: usize = 32;
 pub const HEAP_BYTES: usize = 0;
 pub const BIN_COUNT: usize = 1;
@@ -29,30 +47,58 @@ pub const USED: usize = 5;
 pub const TABLE: usize = 6;
 pub const HEADS: usize = TABLE + MAX_BINS;
 pub const TAILS: usize = HEADS + MAX_BINS;
+pub const RECORD_WORDS: usize = TAILS + MAX_BINS;
 
-/// The refusals. Number 9 has no name here: a valid table begins with 24 and no
-/// chunk that could be put is smaller, so there is always a bin that takes it.
+/// Words of an answer: the refusal number (0: accepted) and four figures.
+pub const ANSWER_WORDS: usize = 5;
+
+/// The refusals. Number 9 has no name here: a valid table begins with the least
+/// chunk size, so every free chunk has a bin.
 pub const REGION_LENGTH: u32 = 1;
 pub const TABLE_INVALID: u32 = 2;
 pub const DONOR_SIZE: u32 = 3;
 pub const HEAP_FAILS: u32 = 4;
-pub const BYTES_ASKED: u32 = 5;
+pub const BLOCK_SIZE: u32 = 5;
 pub const NOT_LIVE: u32 = 6;
 pub const NONE_CAN_SERVE: u32 = 7;
 pub const NO_SUCH: u32 = 8;
 
+/// Questions about a chunk.
+pub const ASK_BIN: u32 = 1;
+pub const ASK_BLOCK: u32 = 2;
+pub const ASK_CHUNK: u32 = 3;
+pub const ASK_NEXT: u32 = 4;
+pub const ASK_NEXT_IN_BIN: u32 = 5;
+pub const ASK_PREVIOUS: u32 = 6;
+pub const ASK_PREVIOUS_IN_BIN: u32 = 7;
+pub const ASK_SIZE: u32 = 8;
+pub const ASK_TYPE: u32 = 9;
+
+/// Questions about a bin.
+pub const ASK_COUNT: u32 = 1;
+pub const ASK_FIRST: u32 = 2;
+pub const ASK_LAST: u32 = 3;
+
 /// The four figures of an accepted call (offset, value, change and 0, or the
 /// four counts of the check), or the number of the refusal.
-pub type Outcome = Result<[u32; 4], u32>;
+pub type Outcome = Result<[u32; ANSWER_WORDS - 1], u32>;
 
-/// The heap bytes of a region, if it has a length that a heap may have.
+/// The outcome of an accepted call that names no figure.
+pub const DONE: Outcome = Ok([0; ANSWER_WORDS - 1]);
+
+/// The heap bytes of a region, if a heap may have its length.
 pub fn heap_bytes(region: &[u32]) -> Option<u32> {
     let words = region.len();
-    let pairs = u32::try_from(words / 2).ok()?;
-    (10..=16_384).contains(&words).then(|| pairs * 8)
+    let bytes = u32::try_from(words * WORD_BYTES).ok()?;
+    (FEWEST_WORDS..=MOST_WORDS).contains(&words).then(|| bytes / ALIGNMENT * ALIGNMENT)
 }
 
-/// The index of a header word of the chunk at `place`.
+/// The index in the region of a header word of the chunk at `place`.
 pub fn index(place: u32, word: usize) -> usize {
-    place as usize / 4 + word
+    place as usize / WORD_BYTES + word
+}
+
+/// The index of `place` in a list with an entry for each aligned place.
+pub fn slot(place: u32) -> usize {
+    (place / ALIGNMENT) as usize
 }

@@ -1,6 +1,8 @@
-// A second binned heap, written from the scope document alone, to check a first one.
+// A second binned heap, written from the requirements alone, to compare the proved one with.
 // Each call decodes all words of region and record into plain lists, applies its
-// rule to the lists, and renders the words which that rule writes.
+// rule to the lists, and renders the words that the rule writes.
+// It shares no code and no constant with the proved heap or its wrapper: the
+// comparison would not see a mistake in what both share.
 
 mod bins;
 mod call;
@@ -15,15 +17,10 @@ mod table;
 pub use self::call::Call;
 use self::heap::Heap;
 use self::layout::{Outcome, HEAP_FAILS};
+pub use self::layout::{ANSWER_WORDS, RECORD_WORDS};
 
-/// Words of the flat record: six figures, then bin sizes, heads and tails, 32 of each.
-pub const RECORD_WORDS: usize = 102;
-
-/// Words of an answer: the refusal number (0: accepted) and four figures.
-pub const ANSWER_WORDS: usize = 5;
-
-/// Makes one call. Total: any region, any record, any figures in the call.
-/// A refused call changes nothing, but for setup, which leaves a record of zeros.
+/// Makes one call, on any region and record and with any arguments.
+/// A refused call changes nothing, except that setup leaves a record of zeros.
 pub fn apply(call: &Call, region: &mut [u32], record: &mut [u32; RECORD_WORDS]) -> [u32; ANSWER_WORDS] {
     let outcome = match *call {
         Call::Setup { ref table, donor, merge } => rules::setup(region, record, table, donor, merge),
@@ -48,8 +45,8 @@ pub fn apply(call: &Call, region: &mut [u32], record: &mut [u32; RECORD_WORDS]) 
     }
 }
 
-/// Every call but setup: decode first, so that a heap that fails is refused
-/// before anything else is looked at, and render the record only if accepted.
+/// Every call but setup decodes first, since refusal 4 comes before all others,
+/// and renders the record only if it is accepted.
 fn on_heap(
     region: &mut [u32],
     record: &mut [u32; RECORD_WORDS],

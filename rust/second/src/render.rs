@@ -1,19 +1,18 @@
-// From lists back to words. Only what is called for is written: all other words,
-// stale headers among them, stay as they were.
+// Renders lists as words. Each function writes the words it names; all others,
+// stale headers among them, stay as found.
 
 use super::heap::{Heap, Kind};
 use super::layout::{
-    index, BACKWARD, BACKWARD_BIN, BIN, BIN_COUNT, DONOR, FORWARD, FORWARD_BIN, HEADS, HEAP_BYTES, IN_USE, MERGE, SIZE,
-    TABLE, TAILS, TOP, USED,
+    index, BACKWARD, BACKWARD_BIN, BIN, BIN_COUNT, BIN_FACTOR, DONOR, FORWARD, FORWARD_BIN, HEADS, HEAP_BYTES, IN_USE,
+    MERGE, RECORD_WORDS, SIZE, TABLE, TAILS, TOP, USED,
 };
 use super::table;
-use super::RECORD_WORDS;
 
 pub fn forward_link(heap: &Heap, region: &mut [u32], at: usize) {
     region[index(heap.chain[at].place, FORWARD)] = heap.next(at);
 }
 
-/// The backward link with the in-use bit of that chunk.
+/// The backward link with the chunk's in-use bit.
 pub fn backward_link(heap: &Heap, region: &mut [u32], at: usize) {
     let chunk = heap.chain[at];
     let flag = if chunk.in_use { IN_USE } else { 0 };
@@ -26,7 +25,8 @@ pub fn header(heap: &Heap, region: &mut [u32], at: usize) {
     backward_link(heap, region, at);
 }
 
-/// The six words of a free chunk that is in no list, or not yet.
+/// The six words of a free chunk. Both bin links are 0: if it belongs in a list,
+/// it is put there afterwards.
 pub fn free_header(heap: &Heap, region: &mut [u32], at: usize) {
     header(heap, region, at);
     let chunk = heap.chain[at];
@@ -37,11 +37,11 @@ pub fn free_header(heap: &Heap, region: &mut [u32], at: usize) {
     region[index(chunk.place, SIZE)] = chunk.size;
     region[index(chunk.place, FORWARD_BIN)] = 0;
     region[index(chunk.place, BACKWARD_BIN)] = 0;
-    region[index(chunk.place, BIN)] = bin as u32 * 8;
+    region[index(chunk.place, BIN)] = bin as u32 * BIN_FACTOR;
 }
 
-/// The two bin links that meet just before position `at` of a list: the one
-/// before it gets its forward link, the one there its backward link.
+/// Links the members before and at position `at` of a list to each other; at an
+/// end of the list, links the one member there is to none.
 pub fn seam(list: &[u32], region: &mut [u32], at: usize) {
     let before = at.checked_sub(1).map_or(0, |before| list[before]);
     let after = list.get(at).copied().unwrap_or(0);

@@ -1,17 +1,13 @@
-// The calls that change a heap, applied to its lists.
+// The calls that change a heap.
 
 use super::bins::{first_fit, first_larger, leave_bin, settle};
 use super::heap::{Chunk, Heap, Kind};
 use super::layout::{
-    heap_bytes, Outcome, BYTES_ASKED, DONOR_SIZE, END_BYTES, LEAST_CHUNK, NONE_CAN_SERVE, NOT_LIVE, REGION_LENGTH,
-    TABLE_INVALID,
+    heap_bytes, Outcome, ALIGNMENT, BLOCK_SIZE, DONE, DONOR_SIZE, HEADER_BYTES, LEAST_CHUNK, MOST_BYTES,
+    NONE_CAN_SERVE, NOT_LIVE, RECORD_WORDS, REGION_LENGTH, TABLE_INVALID,
 };
 use super::render;
 use super::table;
-use super::RECORD_WORDS;
-
-/// The greatest z: with its header and 24 bytes of top left, the largest heap's all.
-const MOST_ASKED: u64 = 65_488;
 
 pub fn setup(region: &mut [u32], record: &mut [u32; RECORD_WORDS], sizes: &[u32], donor: u32, merge: bool) -> Outcome {
     *record = [0; RECORD_WORDS];
@@ -19,8 +15,8 @@ pub fn setup(region: &mut [u32], record: &mut [u32; RECORD_WORDS], sizes: &[u32]
     if !table::valid(sizes) {
         return Err(TABLE_INVALID);
     }
-    let most = heap_bytes - 2 * END_BYTES - LEAST_CHUNK;
-    if donor != 0 && (donor < LEAST_CHUNK || !donor.is_multiple_of(8) || donor > most) {
+    let most = heap_bytes - 2 * HEADER_BYTES - LEAST_CHUNK;
+    if donor != 0 && (donor < LEAST_CHUNK || !donor.is_multiple_of(ALIGNMENT) || donor > most) {
         return Err(DONOR_SIZE);
     }
     let heap = Heap {
@@ -28,8 +24,8 @@ pub fn setup(region: &mut [u32], record: &mut [u32; RECORD_WORDS], sizes: &[u32]
         table: sizes.to_vec(),
         chain: fresh_chain(heap_bytes, donor),
         bins: vec![Vec::new(); sizes.len()],
-        donor: if donor == 0 { 0 } else { END_BYTES },
-        top: END_BYTES + donor,
+        donor: if donor == 0 { 0 } else { HEADER_BYTES },
+        top: HEADER_BYTES + donor,
         merge,
     };
     for (at, chunk) in heap.chain.iter().enumerate() {
@@ -40,14 +36,15 @@ pub fn setup(region: &mut [u32], record: &mut [u32; RECORD_WORDS], sizes: &[u32]
         }
     }
     render::record(&heap, record);
-    Ok([0; 4])
+    DONE
 }
 
-/// Start, donor if wanted, top and end.
+/// Start, the donor if its size is not 0, top and end.
 fn fresh_chain(heap_bytes: u32, donor: u32) -> Vec<Chunk> {
-    let top = END_BYTES + donor;
-    let end = heap_bytes - END_BYTES;
-    let chunks = [(0, END_BYTES, true), (END_BYTES, donor, false), (top, end - top, false), (end, END_BYTES, true)];
+    let top = HEADER_BYTES + donor;
+    let end = heap_bytes - HEADER_BYTES;
+    let chunks =
+        [(0, HEADER_BYTES, true), (HEADER_BYTES, donor, false), (top, end - top, false), (end, HEADER_BYTES, true)];
     let wanted = chunks.into_iter().filter(|&(_, size, _)| size != 0);
     let chain = wanted.map(|(place, size, in_use)| Chunk { place, size, in_use });
     chain.collect()
@@ -71,7 +68,7 @@ pub fn allocate_cleared(heap: &mut Heap, region: &mut [u32], count: u32, size: u
 
 pub fn free(heap: &mut Heap, region: &mut [u32], block: u32) -> Outcome {
     if block == 0 {
-        return Ok([0; 4]);
+        return DONE;
     }
     let at = heap.find_live(block).ok_or(NOT_LIVE)?;
     let used = heap.used();
@@ -97,14 +94,16 @@ pub fn reallocate(heap: &mut Heap, region: &mut [u32], block: u32, z: u32) -> Ou
 
 pub fn set_merge(heap: &mut Heap, on: bool) -> Outcome {
     heap.merge = on;
-    Ok([0; 4])
+    DONE
 }
 
 /// The chunk size that z bytes need, or the refusal of z.
 fn need(z: u64) -> Result<u32, u32> {
     match u32::try_from(z) {
-        Ok(bytes) if (1..=MOST_ASKED).contains(&z) => Ok((bytes + END_BYTES).next_multiple_of(8).max(LEAST_CHUNK)),
-        _ => Err(BYTES_ASKED),
+        Ok(bytes) if (1..=MOST_BYTES).contains(&z) => {
+            Ok((bytes + HEADER_BYTES).next_multiple_of(ALIGNMENT).max(LEAST_CHUNK))
+        }
+        _ => Err(BLOCK_SIZE),
     }
 }
 
@@ -113,13 +112,13 @@ fn change(heap: &Heap, before: u32) -> u32 {
     heap.used().wrapping_sub(before)
 }
 
-/// Donor and top serve only if at least a whole free chunk of them remains.
+/// Donor and top serve only if a least chunk remains of them.
 fn can_serve_from_rest(heap: &Heap, place: u32, need: u32) -> Option<usize> {
     let at = heap.find(place)?;
     (heap.chain[at].size >= need + LEAST_CHUNK).then_some(at)
 }
 
-/// The chunk that serves `need`, by the four tries in their order.
+/// The chunk that serves `need`: the four tries in their order.
 fn serving(heap: &Heap, need: u32) -> Option<usize> {
     let from_donor = || {
         let open = heap.donor != 0 && table::is_small(&heap.table, need);
@@ -131,8 +130,8 @@ fn serving(heap: &Heap, need: u32) -> Option<usize> {
         .or_else(|| can_serve_from_rest(heap, heap.top, need))
 }
 
-/// Grants a chunk for `need` and answers its position. Its block words, former
-/// size and bin words among them, stay as found.
+/// Grants a chunk for `need` and returns its position. The block's words, which
+/// include the former size and bin words, stay as found.
 fn grant(heap: &mut Heap, region: &mut [u32], need: u32) -> Result<usize, u32> {
     let at = serving(heap, need).ok_or(NONE_CAN_SERVE)?;
     let kind = heap.kind(at);
@@ -156,7 +155,7 @@ fn grant(heap: &mut Heap, region: &mut [u32], need: u32) -> Result<usize, u32> {
     Ok(at)
 }
 
-/// Cuts a chunk in two on the chain; both parts are in use, or free, as it was.
+/// Splits a chunk of the chain in two. Both parts are in use if the whole was.
 fn split(heap: &mut Heap, at: usize, lowest: u32) {
     let whole = heap.chain[at];
     heap.chain[at].size = lowest;
@@ -164,18 +163,18 @@ fn split(heap: &mut Heap, at: usize, lowest: u32) {
     heap.chain.insert(at + 1, rest);
 }
 
-/// The chunk swallows the one above it, whose words are left alone.
+/// Joins (coalesces) the chunk with the one above, whose words stay as found.
 fn join_above(heap: &mut Heap, at: usize) {
     let swallowed = heap.chain.remove(at + 1);
     heap.chain[at].size += swallowed.size;
 }
 
-/// The rule of free, for a chunk of a live block or a tail split off one.
+/// The rule of free, for the chunk of a live block or a tail split off one.
 fn free_chunk(heap: &mut Heap, region: &mut [u32], freed: usize) {
     heap.chain[freed].in_use = false;
     let mut at = freed;
     if heap.merge {
-        // A donor below is no ordinary chunk: it takes nothing in from above.
+        // Ordinary only: nothing joins a donor below it.
         if heap.kind(freed - 1) == Kind::Ordinary {
             at = freed - 1;
             leave_bin(heap, region, at);
@@ -186,7 +185,8 @@ fn free_chunk(heap: &mut Heap, region: &mut [u32], freed: usize) {
     settle(heap, region, at);
 }
 
-/// An ordinary chunk above is joined, or the donor or top moves down to `at`.
+/// Joins an ordinary chunk, the donor or the top above; with the latter two the
+/// joined chunk is the new donor or top.
 fn join_free_above(heap: &mut Heap, region: &mut [u32], at: usize) {
     match heap.kind(at + 1) {
         Kind::Ordinary => leave_bin(heap, region, at + 1),
@@ -197,7 +197,7 @@ fn join_free_above(heap: &mut Heap, region: &mut [u32], at: usize) {
     join_above(heap, at);
 }
 
-/// Splits off and frees what is above `need`, if it can be a chunk.
+/// Splits off and frees what exceeds `need`, if that is at least a least chunk.
 fn cut_tail(heap: &mut Heap, region: &mut [u32], at: usize, need: u32) {
     if heap.chain[at].size - need >= LEAST_CHUNK {
         split(heap, at, need);
@@ -206,14 +206,14 @@ fn cut_tail(heap: &mut Heap, region: &mut [u32], at: usize, need: u32) {
     }
 }
 
-/// Moves a block to a larger chunk. The old block is copied before its chunk is
-/// freed, since free writes header words into it; as long as it was, no longer.
+/// Moves a block to a larger chunk. The whole old block is copied, and no more,
+/// before its chunk is freed: free writes header words into it.
 fn move_block(heap: &mut Heap, region: &mut [u32], at: usize, need: u32) -> Result<u32, u32> {
     let old = heap.chain[at];
     let granted = grant(heap, region, need)?;
     let new = heap.chain[granted];
     region.copy_within(old.block_words(), new.block_words().start);
-    // Looked up again: a split below it has moved it up in the chain.
+    // A split below may have moved its position in the chain.
     let at = heap.find_live(old.block()).ok_or(NOT_LIVE)?;
     free_chunk(heap, region, at);
     Ok(new.block())

@@ -1,9 +1,9 @@
-// The requirements' own cases and refusals, word by word where words count.
+// The requirements' cases and refusals, with the words where a rule speaks of words.
 
 mod world;
 
 use second::{Call, RECORD_WORDS};
-use world::{every_call, freed, granted, World, DEMO_TABLE};
+use world::{every_call, freed, granted, World, ACCEPTED, DEMO_TABLE};
 
 /// The demonstration's heap after its first nine calls.
 fn after_nine() -> World {
@@ -138,7 +138,7 @@ fn refusals_in_order() {
     world.refuses(7, Call::AllocateCleared { count: 7, size: 9 });
     world.refuses(7, Call::Reallocate { block: 0, z: 49 });
     world.refuses(7, Call::Reallocate { block: 16, z: 49 });
-    assert_eq!(world.free(0), [0; 5]);
+    assert_eq!(world.free(0), ACCEPTED);
 }
 
 #[test]
@@ -210,13 +210,13 @@ fn put_at_head_in_the_small_array_and_at_tail_elsewhere() {
 
 #[test]
 fn lower_leaves_first_and_its_link_stays_in_the_upper() {
-    // One tail-put bin: list 8, 56; freeing 32 joins all three.
+    // One bin that is put at the tail, list 8, 56; freeing 32 joins all three.
     let mut world = six(&[24], true);
     world.free(16);
     world.free(64);
     assert_eq!(world.words(56, 6), [80, 32, 24, 0, 8, 0]);
     world.free(40);
-    // Leaving of 8 has cleared 56's backward bin link; the rest of it is stale.
+    // 8's leaving cleared 56's backward bin link; the rest of 56's header is stale.
     assert_eq!(world.words(56, 6), [80, 32, 24, 0, 0, 0]);
     assert_eq!(world.words(32, 2), [56, 9]);
     assert_eq!(world.words(8, 6), [80, 0, 72, 0, 0, 0]);
@@ -225,7 +225,7 @@ fn lower_leaves_first_and_its_link_stays_in_the_upper() {
 
 #[test]
 fn a_link_to_the_list_beyond_stays_too() {
-    // Head-put bin, list 8, 56, 104 once freed in the order 104, 56, 8.
+    // A bin that is put at the head: freed in the order 104, 56, 8, its list is 8, 56, 104.
     let mut world = six(&[24, 32], true);
     for block in [112, 64, 16] {
         world.free(block);
@@ -285,7 +285,7 @@ fn a_large_bin_is_searched_in_list_order() {
     }
     // Chunks 48, 72 and 112 in one bin: the first is too small for 72, the second fits.
     assert_eq!(world.allocate(64), granted(blocks[2], 72));
-    // 112 for 64 leaves 48, put behind the 48 that is there.
+    // 112 for 64 leaves 48, which is put behind the 48 already there.
     assert_eq!(world.allocate(56), granted(blocks[4], 64));
     assert_eq!(world.bin_value(1, 0), 2);
     assert_eq!(world.bin_value(3, 0), blocks[4] - 8 + 64);
@@ -300,11 +300,11 @@ fn the_four_tries_in_their_order() {
     assert_eq!(world.allocate(64), granted(88, 72));
     assert_eq!(world.allocate(16), granted(16, 24));
     world.free(88);
-    // The donor, with just 24 + 24, comes before the 72 in bin 2, and then after.
+    // The donor of 24 + 24 bytes comes before the 72 in bin 2; once it has 24, it can't serve.
     assert_eq!(world.allocate(16), granted(40, 24));
     assert_eq!(world.donor(), 56);
     assert_eq!(world.allocate(16), granted(88, 24));
-    // A chunk in the bin of 24 comes before all; the rest in bin 2 before the top.
+    // A chunk in the bin of 24 comes first of all; the rest in bin 2 comes before the top.
     world.free(40);
     assert_eq!(world.allocate(16), granted(40, 24));
     assert_eq!(world.allocate(32), granted(112, 48));
@@ -323,7 +323,7 @@ fn a_donor_that_is_the_top_fails() {
 #[test]
 fn top_is_never_granted_to_nothing() {
     let mut world = World::fresh(24, &[24], 0, true);
-    // A top of 80: 56 leave 24, 64 would leave 16.
+    // The top has 80: a need of 56 leaves 24, one of 64 would leave 16.
     world.refuses(7, Call::Allocate { z: 49 });
     assert_eq!(world.allocate(48), granted(16, 56));
     assert_eq!(world.top(), 64);
@@ -352,7 +352,7 @@ fn reallocate_within_the_chunk() {
         assert_eq!(world.reallocate(16, z), granted(16, 0));
     }
     assert!(world == before);
-    // With merging off the tail goes to its bin though the top is just above.
+    // With merging off the tail goes to its bin, though the top is just above.
     assert_eq!(world.reallocate(16, 40), granted(16, -24));
     assert_eq!(world.words(56, 6), [80, 8, 24, 0, 0, 0]);
     assert_eq!(world.word(84), 56);
@@ -385,9 +385,9 @@ fn reallocate_moves_into_the_chunk_below_and_joins_the_rest() {
 fn merge_setting_changes_one_field() {
     let mut world = after_nine();
     let before = world.clone();
-    assert_eq!(world.set_merge(false), [0; 5]);
+    assert_eq!(world.set_merge(false), ACCEPTED);
     assert_eq!((&world.region, world.record[4]), (&before.region, 0));
-    assert_eq!(world.set_merge(true), [0; 5]);
+    assert_eq!(world.set_merge(true), ACCEPTED);
     assert!(world == before);
 }
 

@@ -1,12 +1,12 @@
-// Random runs judged by the requirements' promises, and damage and garbage, which no call may stumble over.
+// Random runs held to the requirements, and damaged and random words, on which no call may panic.
 
 mod world;
 
 use second::{Call, RECORD_WORDS};
 use std::collections::BTreeMap;
-use world::{every_call, freed, World, DEMO_TABLE};
+use world::{every_call, freed, Answer, World, ACCEPTED, DEMO_TABLE};
 
-/// splitmix64: enough for a test, and the same run every time.
+/// SplitMix64: the same run every time.
 struct Dice(u64);
 
 impl Dice {
@@ -63,7 +63,7 @@ impl Dice {
     }
 }
 
-/// A heap in a random run with what its live blocks must hold.
+/// A heap in a random run, with the words that its live blocks must hold.
 struct Run {
     dice: Dice,
     world: World,
@@ -82,7 +82,7 @@ impl Run {
             size => size,
         };
         let (table, merge) = (dice.table(), dice.one_in(2));
-        assert_eq!(world.setup(&table, donor, merge), [0; 5]);
+        assert_eq!(world.setup(&table, donor, merge), ACCEPTED);
         Run { dice, world, contents: BTreeMap::new(), most }
     }
 
@@ -131,7 +131,7 @@ impl Run {
         }
     }
 
-    fn allocate(&mut self) -> [u32; 5] {
+    fn allocate(&mut self) -> Answer {
         let z = self.some_bytes();
         let before = self.world.clone();
         let answer = self.world.allocate(z);
@@ -147,7 +147,7 @@ impl Run {
         answer
     }
 
-    fn cleared(&mut self) -> [u32; 5] {
+    fn cleared(&mut self) -> Answer {
         let size = self.some_bytes();
         let answer = self.world.cleared(1, size);
         if answer[0] == 0 {
@@ -157,7 +157,7 @@ impl Run {
         answer
     }
 
-    fn free(&mut self) -> [u32; 5] {
+    fn free(&mut self) -> Answer {
         let block = self.some_block();
         let before = self.world.clone();
         let answer = self.world.free(block);
@@ -193,7 +193,7 @@ impl Run {
         }
     }
 
-    fn reallocate(&mut self) -> [u32; 5] {
+    fn reallocate(&mut self) -> Answer {
         let (block, z) = (self.some_block(), self.some_bytes());
         let before = self.world.clone();
         let answer = self.world.reallocate(block, z);
@@ -210,7 +210,7 @@ impl Run {
         answer
     }
 
-    /// The check and the live blocks, after every step.
+    /// Holds after every step: the heap passes, and its counts and live blocks are right.
     fn holds(&mut self) {
         let [refusal, chunks, ordinary, used, free] = self.world.check();
         assert_eq!(refusal, 0);
@@ -225,7 +225,7 @@ impl Run {
         }
     }
 
-    /// The bins as the questions tell them, walked both ways.
+    /// Walks each bin list by the questions, in both directions.
     fn bins_hold(&mut self) {
         let mut counted = 0;
         for bin in 0..self.world.record[1] {
@@ -282,7 +282,7 @@ fn an_odd_last_word_is_neither_read_nor_written() {
     let mut even = World::demo();
     let mut odd = World::new(65);
     odd.region[64] = 0x1234_5678;
-    assert_eq!(odd.setup(&DEMO_TABLE, 64, true), [0; 5]);
+    assert_eq!(odd.setup(&DEMO_TABLE, 64, true), ACCEPTED);
     let mut dice = Dice(5);
     for _ in 0..20_000 {
         let call = dice.call(256);
@@ -296,7 +296,7 @@ fn an_odd_last_word_is_neither_read_nor_written() {
         assert_eq!(odd.region[64], last);
     }
     let before = odd.region[64];
-    assert_eq!(odd.setup(&DEMO_TABLE, 216, true), [0; 5]);
+    assert_eq!(odd.setup(&DEMO_TABLE, 216, true), ACCEPTED);
     assert_eq!(odd.cleared(1, 100)[0], 7);
     assert_eq!(odd.region[64], before);
 }

@@ -1,4 +1,4 @@
-//! Writes the script of the program `vectors` and the transcript to which it is held.
+//! Writes the script of the program `vectors` and the transcript that its output must equal.
 
 use std::io;
 use std::path::Path;

@@ -1,7 +1,12 @@
-// A heap for tests: its words and its record, and the calls as methods.
+// A heap for tests: its region and record, and the calls as methods.
 #![allow(dead_code)]
 
 use second::{apply, Call, ANSWER_WORDS, RECORD_WORDS};
+
+pub type Answer = [u32; ANSWER_WORDS];
+
+/// Accepted, with no figure.
+pub const ACCEPTED: Answer = [0; ANSWER_WORDS];
 
 pub const DEMO_TABLE: [u32; 4] = [24, 32, 40, 128];
 
@@ -18,7 +23,7 @@ impl World {
 
     pub fn fresh(words: usize, table: &[u32], donor: u32, merge: bool) -> World {
         let mut world = World::new(words);
-        assert_eq!(world.setup(table, donor, merge), [0; 5]);
+        assert_eq!(world.setup(table, donor, merge), ACCEPTED);
         world
     }
 
@@ -26,48 +31,48 @@ impl World {
         World::fresh(64, &DEMO_TABLE, 64, true)
     }
 
-    pub fn call(&mut self, call: &Call) -> [u32; ANSWER_WORDS] {
+    pub fn call(&mut self, call: &Call) -> Answer {
         apply(call, &mut self.region, &mut self.record)
     }
 
-    pub fn setup(&mut self, table: &[u32], donor: u32, merge: bool) -> [u32; 5] {
+    pub fn setup(&mut self, table: &[u32], donor: u32, merge: bool) -> Answer {
         let table = table.to_vec();
         self.call(&Call::Setup { table, donor, merge })
     }
 
-    pub fn allocate(&mut self, z: u32) -> [u32; 5] {
+    pub fn allocate(&mut self, z: u32) -> Answer {
         self.call(&Call::Allocate { z })
     }
 
-    pub fn cleared(&mut self, count: u32, size: u32) -> [u32; 5] {
+    pub fn cleared(&mut self, count: u32, size: u32) -> Answer {
         self.call(&Call::AllocateCleared { count, size })
     }
 
-    pub fn free(&mut self, block: u32) -> [u32; 5] {
+    pub fn free(&mut self, block: u32) -> Answer {
         self.call(&Call::Free { block })
     }
 
-    pub fn reallocate(&mut self, block: u32, z: u32) -> [u32; 5] {
+    pub fn reallocate(&mut self, block: u32, z: u32) -> Answer {
         self.call(&Call::Reallocate { block, z })
     }
 
-    pub fn set_merge(&mut self, on: bool) -> [u32; 5] {
+    pub fn set_merge(&mut self, on: bool) -> Answer {
         self.call(&Call::SetMerge { on })
     }
 
-    pub fn check(&mut self) -> [u32; 5] {
+    pub fn check(&mut self) -> Answer {
         self.call(&Call::Check)
     }
 
-    pub fn ask(&mut self, question: u32, place: u32) -> [u32; 5] {
+    pub fn ask(&mut self, question: u32, place: u32) -> Answer {
         self.call(&Call::AskChunk { question, place })
     }
 
-    pub fn ask_bin(&mut self, question: u32, bin: u32) -> [u32; 5] {
+    pub fn ask_bin(&mut self, question: u32, bin: u32) -> Answer {
         self.call(&Call::AskBin { question, bin })
     }
 
-    /// The value of a question that must be accepted.
+    /// The value of a question, which must be accepted.
     pub fn value(&mut self, question: u32, place: u32) -> u32 {
         let answer = self.ask(question, place);
         assert_eq!([answer[0], answer[1], answer[3], answer[4]], [0; 4]);
@@ -100,7 +105,7 @@ impl World {
         self.record[5]
     }
 
-    /// The chain as the demonstration prints it, found by the questions.
+    /// The chain as the demonstration prints it, read by questions.
     pub fn print(&mut self) -> String {
         let mut text = format!("{} {} {}\n", self.record[0], self.record[1], self.used());
         let mut place = 0;
@@ -132,7 +137,7 @@ impl World {
         name.to_string()
     }
 
-    /// A call that must be refused with this number and change nothing.
+    /// Makes a call that must be refused with this number and change nothing.
     pub fn refuses(&mut self, number: u32, call: Call) {
         let before = self.clone();
         assert_eq!(self.call(&call), [number, 0, 0, 0, 0], "{call:?}");
@@ -140,15 +145,15 @@ impl World {
     }
 }
 
-pub fn granted(block: u32, bytes: i32) -> [u32; 5] {
+pub fn granted(block: u32, bytes: i32) -> Answer {
     [0, block, 0, bytes as u32, 0]
 }
 
-pub fn freed(bytes: i32) -> [u32; 5] {
+pub fn freed(bytes: i32) -> Answer {
     [0, 0, 0, bytes as u32, 0]
 }
 
-/// One call of each sort, with figures that are wrong for everything but the heap.
+/// Every call but setup, most with arguments that are refused on a sound heap: on a damaged one 4 must come first.
 pub fn every_call() -> Vec<Call> {
     let (question, place, bin) = (77, 1, 99);
     vec![
