@@ -75,7 +75,7 @@ module _ (ws : List ℕ) (h : Heap) where
   reserved-iff e =
       both (sized-iff e) (meaning
       (both (both (number-is (word ws (e .place) nextInBin) 0) (number-is (word ws (e .place) previousInBin) 0)) (number-is (word ws (e .place) bin) 0))
-      (λ t. record { next = t .0 .0; previous = t .0 .1; bin = t .1 })
+      (λ ((next, previous), bin). record { next = next; previous = previous; bin = bin })
       (λ u. ((u .next, u .previous), u .bin)))
 
   as-iff : (e : Entry) (k : Kind) → Decides (isSoundM ws (summaryOf h) e k) (As e k)
@@ -100,8 +100,8 @@ module _ (ws : List ℕ) (h : Heap) where
       meaning
       (both (both (both (number-is (e .place % 8) 0) (at-most (flagsAt ws (e .place)) 1)) (number-is (word ws (e .place) backward - flagsAt ws (e .place)) p))
       (as-iff e (kindOf h e)))
-      (λ t. let b = t .0 .1 in (omega arith, record { eight = t .0 .0 .0; flags = rw f (t .0 .0 .1); kind = t .1 }))
-      (λ t. let s = t .1 in (((s .eight, omega arith), omega (arith, t .0)), s .kind))
+      (λ (((eight, flags), back), kind). (omega arith, record { eight = eight; flags = rw f flags; kind = kind }))
+      (λ (back, s). (((s .eight, omega (arith, s .flags)), omega arith), s .kind))
 
   -- the walk finds a chain with backward links all of whose chunks are so
   all-iff : (p : ℕ) (es : List Entry) → ((e : Entry) → Mem e es → e .flags ≡ flagsAt ws (e .place))
@@ -109,8 +109,8 @@ module _ (ws : List ℕ) (h : Heap) where
   all-iff p [] f = (λ t. (tt, λ e m. absurd (List·Memᴰ·not-nil m)), λ t. refl)
   all-iff p (e ∷ es) f =
       meaning (both (seen-iff p e (f e (List·Memᴰ·head refl))) (all-iff (e .place) es (λ d m. f d (List·Memᴰ·tail m))))
-      (λ t. ((t .0 .0, t .1 .0), each-cons (t .0 .1) (t .1 .1)))
-      (λ t. ((t .0 .0, t .1 e (List·Memᴰ·head refl)), (t .0 .1, λ d m. t .1 d (List·Memᴰ·tail m))))
+      (λ ((back, seen), (backs, all)). ((back, backs), each-cons seen all))
+      (λ ((back, backs), all). ((back, all e (List·Memᴰ·head refl)), (backs, λ d m. all d (List·Memᴰ·tail m))))
 
   -- what a kind says of a chunk of this heap
   abbrev Is : Entry → Kind → Type 0
@@ -125,14 +125,14 @@ module _ (ws : List ℕ) (h : Heap) where
         → (0 < e .place → e .place + 8 < h .bytes → 24 ≤ e .size) × (e .flags ≡ 0 → word ws (e .place) size ≡ e .size)
     by-kind Start b a = (λ p l. omega arith, λ f. omega arith)
     by-kind InUse b a = (λ p l. a, λ f. omega arith)
-    by-kind Ordinary b a = (λ p l. a .0, λ f. a .1)
-    by-kind Donor b a = (λ p l. a .0 .0 .0, λ f. a .0 .0 .1)
-    by-kind Top b a = (λ p l. a .0 .0 .0, λ f. a .0 .0 .1)
+    by-kind Ordinary b (least, said) = (λ p l. least, λ f. said)
+    by-kind Donor b (((least, said), out), below) = (λ p l. least, λ f. said)
+    by-kind Top b (((least, said), out), last) = (λ p l. least, λ f. said)
     by-kind End b a = (λ p l. omega arith, λ f. omega arith)
 
     seen-sound : Sound ws h e
     seen-sound =
-        let r = by-kind (kindOf h e) (is e) (s .kind) in record { flags = s .flags; room = r .0; sized = r .1 }
+        let (room, sized) = by-kind (kindOf h e) (is e) (s .kind) in record { flags = s .flags; room = room; sized = sized }
 
     of-kind : {k : Kind} → k ≡ kindOf h e → Is e k × As e k
     of-kind q = rw q (is e, s .kind)
@@ -142,10 +142,14 @@ module _ (ws : List ℕ) (h : Heap) where
     reserved c p f u = let l = s .flags in record { here = p; free = omega arith; out = rw (← p) u }
 
     top-is : Top ≡ kindOf h e → TopIs ws h e
-    top-is q = let k = of-kind q in (reserved (h .top .0) (k .0 .3) (k .0 .2) (k .1 .0 .1), k .1 .1)
+    top-is q =
+        let ((some, below, free, here), ((sized, out), last)) = of-kind q in
+        (reserved (h .top .0) here free out, last)
 
     donor-is : Donor ≡ kindOf h e → DonorIs ws h e
-    donor-is q = let k = of-kind q in (reserved (h .donor .0) (k .0 .3) (k .0 .2) (k .1 .0 .1), k .1 .1)
+    donor-is q =
+        let ((some, below, free, here), ((sized, out), belowTop)) = of-kind q in
+        (reserved (h .donor .0) here free out, belowTop)
 
   -- the chain that is walked
   abbrev es : List Entry
@@ -157,24 +161,23 @@ module _ (ws : List ℕ) (h : Heap) where
   -- what the walk finds are the check's facts
   pub found-facts : 40 ≤ h .bytes → Found ws h → ChainFacts ws h (shape ws (h .bytes))
   found-facts big f =
-      let all = all-iff 0 es (known .flags) .0 (f .sound) in
-      let seen = all .1 in
+      let (backs, seen) = all-iff 0 es (known .flags) .0 (f .sound) in
       let d = headOr outside es in
       let l = lastOr outside es in
       let end = f .end in
-      let started = of-kind d (seen d (known .has-first)) (kind-start _ _ _ d (known .first)) .1 in
-      let ended = of-kind l (seen l (known .has-last outside)) (kind-end _ _ _ l (λ z. omega arith) end) .1 in
+      let (startSize, startUsed) = of-kind d (seen d (known .has-first)) (kind-start _ _ _ d (known .first)) .1 in
+      let (endUsed, endsThere) = of-kind l (seen l (known .has-last outside)) (kind-end _ _ _ l (λ z. omega arith) end) .1 in
       record {
-        chain = record { reachesEnd = end; endsThere = ended .1; eights = λ e m. seen e m .eight };
-        ends = record { startSize = started .0; startUsed = started .1; endUsed = ended .0 };
-        backward = all .0;
+        chain = record { reachesEnd = end; endsThere = endsThere; eights = λ e m. seen e m .eight };
+        ends = record { startSize = startSize; startUsed = startUsed; endUsed = endUsed };
+        backward = backs;
         chunks = λ e m. seen-sound e (seen e m);
         top =
-            let t = some-of-total _ es (f .top) in
-            (t .0, t .1, top-is (t .0) (seen (t .0) (t .1)) (counted-as _ _ .0 (t .2)));
+            let (e, m, counted) = some-of-total _ es (f .top) in
+            (e, m, top-is e (seen e m) (counted-as _ _ .0 counted));
         donor = λ some.
-            let t = some-of-total _ es (f .donor some) in
-            (t .0, t .1, donor-is (t .0) (seen (t .0) (t .1)) (counted-as _ _ .1 (t .2)));
+            let (e, m, counted) = some-of-total _ es (f .donor some) in
+            (e, m, donor-is e (seen e m) (counted-as _ _ .1 counted));
       }
 
   -- the other way round: each chunk is as its kind asks
@@ -208,15 +211,15 @@ module _ (ws : List ℕ) (h : Heap) where
 
       as-kind : (k : Kind) → Is e k → As e k
       as-kind Start b = starts b
-      as-kind InUse b = roomy (b .0) (b .1)
-      as-kind Ordinary b = sized (b .0) (b .1) (b .2)
-      as-kind Donor b =
-          let d = facts .donor (rw (← b .3) (b .0)) in
-          ((sized (b .0) (b .1) (b .2), rw (b .3) (d .2 .0 .out)), d .2 .1)
-      as-kind Top b =
-          let t = facts .top in
-          ((sized (b .0) (b .1) (b .2), rw (b .3) (t .2 .0 .out)), rw (same (t .1) (b .3 ∙ sym (t .2 .0 .here))) (t .2 .1))
-      as-kind End b = ends (b .1)
+      as-kind InUse (some, below, used) = roomy some below
+      as-kind Ordinary (some, below, free) = sized some below free
+      as-kind Donor (some, below, free, here) =
+          let (d, known, (donor, belowTop)) = facts .donor (rw (← here) some) in
+          ((sized some below free, rw here (donor .out)), belowTop)
+      as-kind Top (some, below, free, here) =
+          let (t, known, (top, last)) = facts .top in
+          ((sized some below free, rw here (top .out)), rw (same known (here ∙ sym (top .here))) last)
+      as-kind End (some, last) = ends last
 
       all-seen : SeenFacts e
       all-seen =
@@ -228,24 +231,23 @@ module _ (ws : List ℕ) (h : Heap) where
 
       -- the top and the donor are counted
       counts-top : TopIs ws h e → 0 < tallyFor h es .tops
-      counts-top t =
-          let b = between (t .0 .free) in
-          total-of-some _ m (rw (← kind-top (h .bytes) (h .donor .0) (h .top .0) e (b .0) (b .1) (b .2) (t .0 .here)) (omega arith))
+      counts-top (top, last) =
+          let (some, below, free) = between (top .free) in
+          total-of-some _ m (rw (← kind-top (h .bytes) (h .donor .0) (h .top .0) e some below free (top .here)) (omega arith))
 
       counts-donor : DonorIs ws h e → 0 < tallyFor h es .donors
-      counts-donor t =
-          let b = between (t .0 .free) in
-          let p = t .0 .here in
-          let l = t .1 in
-          total-of-some _ m (rw (← kind-donor (h .bytes) (h .donor .0) (h .top .0) e (b .0) (b .1) (b .2) (λ q. omega arith) p) (omega arith))
+      counts-donor (donor, belowTop) =
+          let (some, below, free) = between (donor .free) in
+          let here = donor .here in
+          total-of-some _ m (rw (← kind-donor (h .bytes) (h .donor .0) (h .top .0) e some below free (λ q. omega arith) here) (omega arith))
 
     pub facts-found : Found ws h
     facts-found =
         record {
           sound = all-iff 0 es (known .flags) .1 (facts .backward, all-seen);
           end = facts .chain .reachesEnd;
-          top = let t = facts .top in counts-top (t .0) (t .1) (t .2);
-          donor = λ some. let t = facts .donor some in counts-donor (t .0) (t .1) (t .2);
+          top = let (e, m, top) = facts .top in counts-top e m top;
+          donor = λ some. let (e, m, donor) = facts .donor some in counts-donor e m donor;
         }
 
 -- what a chunk of each kind counts for

@@ -87,11 +87,11 @@ module _ (ws table : List ℕ) (valid : ValidTable table) (all : List ℕ) where
         go : Dec (d ≡ c) → Decides (marked (flipped ms c) d) (Mem d all × (Mem d (c ∷ met) → ⊥))
         go (yes q) =
             let f : marked (flipped ms c) d ≡ false = ap (marked (flipped ms c)) q ∙ flip-same ms c inside ∙ ap not set in
-            (λ h. absurd (false≢true (sym f ∙ h)), λ t. absurd (t .1 (List·Memᴰ·head q)))
+            (λ h. absurd (false≢true (sym f ∙ h)), λ (known, unmet). absurd (unmet (List·Memᴰ·head q)))
         go (no n) =
             let h = m .eight in
             rw (flip-other ms c d (λ q. n (omega arith)))
-            (meaning (k d e) (λ t. (t .0, out n (t .1))) (λ t. (t .0, λ q. t .1 (List·Memᴰ·tail q))))
+            (meaning (k d e) (λ (known, unmet). (known, out n unmet)) (λ (known, unmet). (known, λ q. unmet (List·Memᴰ·tail q))))
 
     -- so the walk of a list comes through exactly if all its members are right
     combed-iff : (i : ℕ) (cs ms met : List ℕ) (p : ℕ) → length ms ≡ 256 → Marks ms met → Decides (combed ws table i ms p cs) (CombedIs i met p cs)
@@ -104,21 +104,21 @@ module _ (ws table : List ℕ) (valid : ValidTable table) (all : List ℕ) where
     marks-all : (i : ℕ) (cs ms met : List ℕ) (p : ℕ) → length ms ≡ 256 → Marks ms met → CombedIs i met p cs
         → Marks (flipAll ms cs) (pushed cs met) × (length (flipAll ms cs) ≡ 256)
     marks-all i [] ms met p l k h = (k, l)
-    marks-all i (c ∷ cs) ms met p l k h =
-        marks-all i cs (flipped ms c) (c ∷ met) c (length-flipped ms c ∙ l) (marks-step i ms met p c l k (h .0)) (h .1)
+    marks-all i (c ∷ cs) ms met p l k (first, others) =
+        marks-all i cs (flipped ms c) (c ∷ met) c (length-flipped ms c ∙ l) (marks-step i ms met p c l k first) others
 
   -- what is met is new, so that no member stands twice
   combed-new : (i : ℕ) (cs met : List ℕ) (p : ℕ) → CombedIs i met p cs → (c : ℕ) → Mem c cs → (Mem c met → ⊥) × MemberFacts i c
-  combed-new i (c ∷ cs) met p h d (List·Memᴰ·head e) =
-      rw e (h .0 .new, record { known = h .0 .known; bins = h .0 .bins; takes = h .0 .takes })
-  combed-new i (c ∷ cs) met p h d (List·Memᴰ·tail m) =
-      let r = combed-new i cs (c ∷ met) c (h .1) d m in
-      (λ k. r .0 (List·Memᴰ·tail k), r .1)
+  combed-new i (c ∷ cs) met p (first, others) d (List·Memᴰ·head e) =
+      rw e (first .new, record { known = first .known; bins = first .bins; takes = first .takes })
+  combed-new i (c ∷ cs) met p (first, others) d (List·Memᴰ·tail m) =
+      let (new, facts) = combed-new i cs (c ∷ met) c others d m in
+      (λ k. new (List·Memᴰ·tail k), facts)
 
   combed-once : (i : ℕ) (cs met : List ℕ) (p : ℕ) → CombedIs i met p cs → Distinct cs
   combed-once i [] met p h = tt
-  combed-once i (c ∷ cs) met p h =
-      (λ m. combed-new i cs (c ∷ met) c (h .1) c m .0 (List·Memᴰ·head refl), combed-once i cs (c ∷ met) c (h .1))
+  combed-once i (c ∷ cs) met p (first, others) =
+      (λ m. combed-new i cs (c ∷ met) c others c m .0 (List·Memᴰ·head refl), combed-once i cs (c ∷ met) c others)
 
   -- a reading that ends at 0 begins with its first member
   next-head : (k c : ℕ) → beyond ws c (membersFrom k ws c) ≡ 0 → c ≡ headOr 0 (membersFrom k ws c)
@@ -139,33 +139,33 @@ module _ (ws table : List ℕ) (valid : ValidTable table) (all : List ℕ) where
       go (no n) f =
           let q : membersFrom (suc k) ws c ≡ c ∷ membersFrom k ws (word ws c nextInBin) = rw (ne-eqb c 0 n, membersFrom) in
           let b′ : beyond ws (word ws c nextInBin) (membersFrom k ws (word ws c nextInBin)) ≡ 0 = rw q at b in
-          let h′ : CombedIs i met p (c ∷ membersFrom k ws (word ws c nextInBin)) = rw q at h in
-          rw q (h′ .0 .back, next-head k (word ws c nextInBin) b′, f b′ (h′ .1))
+          let (first, others) : CombedIs i met p (c ∷ membersFrom k ws (word ws c nextInBin)) = rw q at h in
+          rw q (first .back, next-head k (word ws c nextInBin) b′, f b′ others)
 
   -- and back: a linked list of new members is combed, and the reading of it ends
   linked-combed : (i : ℕ) (cs met : List ℕ) (p : ℕ) → Linked ws p cs → Distinct cs → ((c : ℕ) → Mem c cs → MemberFacts i c)
       → ((c : ℕ) → Mem c cs → Mem c met → ⊥) → ((c : ℕ) → Mem c all → c % 8 ≡ 0) → CombedIs i met p cs
   linked-combed i [] met p l u f o e = tt
-  linked-combed i (c ∷ cs) met p l u f o e =
+  linked-combed i (c ∷ cs) met p (back, next, links) (once, others) f o e =
       let m = f c (List·Memᴰ·head refl) in (
         record {
           eight = e c (m .known);
           known = m .known;
           new = o c (List·Memᴰ·head refl);
           bins = m .bins;
-          back = l .0;
+          back = back;
           takes = m .takes;
         },
-        linked-combed i cs (c ∷ met) c (l .2) (u .1) (λ d k. f d (List·Memᴰ·tail k)) (λ d k. apart d k) e,
+        linked-combed i cs (c ∷ met) c links others (λ d k. f d (List·Memᴰ·tail k)) (λ d k. apart d k) e,
       )
     where
       apart : (d : ℕ) → Mem d cs → Mem d (c ∷ met) → ⊥
-      apart d k (List·Memᴰ·head q) = u .0 (rw q at k)
+      apart d k (List·Memᴰ·head q) = once (rw q at k)
       apart d k (List·Memᴰ·tail q) = o d (List·Memᴰ·tail k) q
 
   linked-ends : (cs : List ℕ) (c p : ℕ) → Linked ws p cs → c ≡ headOr 0 cs → beyond ws c cs ≡ 0
   linked-ends [] c p l e = e
-  linked-ends (d ∷ ds) c p l e = linked-ends ds (word ws d nextInBin) d (l .2) (l .1)
+  linked-ends (d ∷ ds) c p (back, next, links) e = linked-ends ds (word ws d nextInBin) d links next
 
 -- the lists of the bins 0 to n − 1, read from the heads with at most `steps` steps each
 module _ (ws table : List ℕ) (valid : ValidTable table) (all heads tails : List ℕ) (steps : ℕ)
@@ -199,11 +199,11 @@ module _ (ws table : List ℕ) (valid : ValidTable table) (all heads tails : Lis
       (meaning
       (both (both (combed-iff ws table valid all bounded b (list b) ms met 0 l k) (number-is (beyond ws (getD heads b 0) (list b)) 0))
       (number-is (getD tails b 0) (lastOr 0 (list b))))
-      (λ t. record { combed = t .0 .0; ends = t .0 .1; tail = t .1 })
+      (λ ((combed, ends), tail). record { combed = combed; ends = ends; tail = tail })
       (λ q. ((q .combed, q .ends), q .tail)))
       (λ q.
-      let r = marks-all ws table valid all bounded b (list b) ms met 0 l k (q .combed) in
-      all-iff n (suc b) (flipAll ms (list b)) (pushed ws table valid all (list b) met) (r .1) (r .0))
+      let (marks, long) = marks-all ws table valid all bounded b (list b) ms met 0 l k (q .combed) in
+      all-iff n (suc b) (flipAll ms (list b)) (pushed ws table valid all (list b) met) long marks)
 
   -- a list as it is walked is the bin's, and the other way if none of its members was met
   list-bin : (met : List ℕ) (i : ℕ) → ListIs met i → BinIs i
@@ -226,10 +226,10 @@ module _ (ws table : List ℕ) (valid : ValidTable table) (all heads tails : Lis
   -- and so for all bins
   all-bins : (n b : ℕ) (met : List ℕ) → AllCombed met b n → (i : ℕ) → b ≤ i → i < b + n → BinIs i
   all-bins zero b met h i lo hi = absurd (omega arith)
-  all-bins (suc n) b met h i lo hi = go (ℕ-discrete i b) (λ l r. all-bins n (suc b) _ (h .1) i l r)
+  all-bins (suc n) b met (first, others) i lo hi = go (ℕ-discrete i b) (λ l r. all-bins n (suc b) _ others i l r)
     where
       go : Dec (i ≡ b) → (suc b ≤ i → i < suc b + n → BinIs i) → BinIs i
-      go (yes e) f = rw e (list-bin met b (h .0))
+      go (yes e) f = rw e (list-bin met b first)
       go (no k) f = f (omega arith) (omega arith)
 
   -- a chunk is in the lists of two bins only if they are one
@@ -245,9 +245,9 @@ module _ (ws table : List ℕ) (valid : ValidTable table) (all heads tails : Lis
   bins-all zero b met f o = tt
   bins-all (suc n) b met f o =
       let here = f b (omega arith) (omega arith) in (
-        bin-list met b here (λ c m k. let r = o c k in let e = bins-apart b (r .0) here (r .2) c m (r .3) in absurd (omega (arith, r .1))),
+        bin-list met b here (λ c m k. let (j, below, bin, listed) = o c k in let e = bins-apart b j here bin c m listed in absurd (omega arith)),
         bins-all n (suc b) (pushed ws table valid all (list b) met) (λ i lo hi. f i (omega arith) (omega arith))
-            (earlier here (list b) met (λ c m. (b, omega arith, here, m)) (λ c m. let r = o c m in (r .0, omega (arith, r .1), r .2, r .3))),
+            (earlier here (list b) met (λ c m. (b, omega arith, here, m)) (λ c m. let (j, below, bin, listed) = o c m in (j, omega arith, bin, listed))),
       )
     where
       earlier : BinIs b → (cs met : List ℕ)
@@ -284,8 +284,8 @@ module _ (ws table : List ℕ) (valid : ValidTable table) (all heads tails : Lis
 
       everyone-known : (c : ℕ) → Mem c everyone → Mem c all
       everyone-known c m =
-          let r = gathered-from list n 0 m in
-          f (r .0) (omega (arith, r .1 .1)) .members c (r .2) .known
+          let (i, (low, high), listed) = gathered-from list n 0 m in
+          f i (omega arith) .members c listed .known
 
       counted : length everyone ≡ total (λ i. length (list i)) (numbersFrom 0 n)
       counted = gathered-length list (numbersFrom 0 n)
@@ -298,14 +298,14 @@ module _ (ws table : List ℕ) (valid : ValidTable table) (all heads tails : Lis
           let a = not-more in
           let b = counted in
           let k = distinct-covers everyone all everyone-once everyone-known (omega arith) c m in
-          let r = gathered-from list n 0 k in
-          (r .0, omega (arith, r .1 .1), r .2)
+          let (i, (low, high), listed) = gathered-from list n 0 k in
+          (i, omega (arith, high), listed)
 
       count-all : Covered n → total (λ i. length (list i)) (numbersFrom 0 n) % 2 ^ 32 ≡ length all
       count-all g =
           let a = not-more in
           let b = counted in
-          let d = distinct-fits all everyone once (λ c m. let r = g c m in gathered-has list n 0 (r .0) (omega arith) (omega (arith, r .1)) (r .2)) in
+          let d = distinct-fits all everyone once (λ c m. let (i, below, listed) = g c m in gathered-has list n 0 i (omega arith) (omega arith) listed) in
           omega arith
 
     -- the walk comes through exactly if each bin's list is right and every chunk of `all` is in one

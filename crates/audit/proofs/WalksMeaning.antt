@@ -86,9 +86,9 @@ module _ (ws : List ℕ) (h : Heap) (big : 40 ≤ h .bytes) (small : h .bytes �
 
   of-known : (c : ℕ) → Mem c all → (e : Entry) × Mem e es × ((e .place ≡ c) × (ordinary h e ≡ true))
   of-known c m =
-      let r = Memᴰ·of-map (λ (d : Entry). d .place) (keep (ordinary h) es) m in
-      let k = kept-from (ordinary h) es (r .1) in
-      (r .0, k .0, (r .2, k .1))
+      let (e, kept, here) = Memᴰ·of-map (λ (d : Entry). d .place) (keep (ordinary h) es) m in
+      let (member, isOrdinary) = kept-from (ordinary h) es kept in
+      (e, member, (here, isOrdinary))
 
   -- there are few of them, and the bitmap has a mark for each
   few : length all < 2 ^ 32
@@ -100,13 +100,13 @@ module _ (ws : List ℕ) (h : Heap) (big : 40 ≤ h .bytes) (small : h .bytes �
 
   bounded : (c : ℕ) → Mem c all → c < 65536
   bounded c m =
-      let r = of-known c m in
-      let i = shape-chain ws (h .bytes) .inside (omega arith) (r .0) (r .1) in
-      omega (arith, r .2 .0)
+      let (e, member, (here, isOrdinary)) = of-known c m in
+      let i = shape-chain ws (h .bytes) .inside (omega arith) e member in
+      omega arith
 
   module _ (facts : ChainFacts ws h es) where
     eights : (c : ℕ) → Mem c all → c % 8 ≡ 0
-    eights c m = let r = of-known c m in rw (r .2 .0) at (facts .chain .eights (r .0) (r .1))
+    eights c m = let (e, member, (here, isOrdinary)) = of-known c m in rw here at (facts .chain .eights e member)
 
     -- the size word of an ordinary chunk
     sized : (e : Entry) → Mem e es → ordinary h e ≡ true → word ws (e .place) size ≡ e .size
@@ -135,9 +135,9 @@ module _ (ws : List ℕ) (h : Heap) (big : 40 ≤ h .bytes) (small : h .bytes �
         chunk : (c : ℕ) → Mem c (membersFrom (h .bytes) ws (getD (h .heads) i 0)) → (e : Entry) × Mem e es × ((e .place ≡ c) × BelongsTo h i e)
         chunk c m =
             let f = b .members c m in
-            let r = of-known c (f .known) in
-            let s : word ws c size ≡ r .0 .size = rw (r .2 .0) at (sized (r .0) (r .1) (r .2 .1)) in
-            (r .0, r .1, (r .2 .0, (r .2 .1, (rw s at (f .takes)))))
+            let (e, member, (here, isOrdinary)) = of-known c (f .known) in
+            let s : word ws c size ≡ e .size = rw here at (sized e member isOrdinary) in
+            (e, member, (here, (isOrdinary, (rw s at (f .takes)))))
 
     of-listed : (i : ℕ) → i < h .bins → Listed ws h es i (binList ws h i) → HasBin i
     unfolding members
@@ -151,14 +151,14 @@ module _ (ws : List ℕ) (h : Heap) (big : 40 ≤ h .bytes) (small : h .bytes �
       where
         member : (c : ℕ) → Mem c (membersFrom (h .bytes) ws (getD (h .heads) i 0)) → MemberFacts ws (tableOf h) (table .valid) all i c
         member c m =
-            let r = b .chunks c m in
-            let s : word ws c size ≡ r .0 .size = rw (r .2 .0) at (sized (r .0) (r .1) (r .2 .1 .0)) in
+            let (e, known, (here, (isOrdinary, takes))) = b .chunks c m in
+            let s : word ws c size ≡ e .size = rw here at (sized e known isOrdinary) in
             let w = b .words c m in
             let n = table .bins in
             record {
-              known = rw (r .2 .0) at (known-of (r .0) (r .1) (r .2 .1 .0));
+              known = rw here at (known-of e known isOrdinary);
               bins = omega arith;
-              takes = rw s (r .2 .1 .1);
+              takes = rw s takes;
             }
 
     -- every ordinary chunk is in a list, as the walk sees it, and as the check states it
@@ -169,16 +169,16 @@ module _ (ws : List ℕ) (h : Heap) (big : 40 ≤ h .bytes) (small : h .bytes �
         → (e : Entry) → Mem e es → ordinary h e ≡ true → InItsBin ws h e
     unfolding members
     covered-binned f g e m o =
-        let r = g (e .place) (known-of e m o) in
-        let t = f (r .0) (r .1) .members (e .place) (r .2) .takes in
-        (r .0, (rw (sized e m o) at t), (r .1, r .2))
+        let (i, below, listed) = g (e .place) (known-of e m o) in
+        let t = f i below .members (e .place) listed .takes in
+        (i, (rw (sized e m o) at t), (below, listed))
 
     binned-covered : ((e : Entry) → Mem e es → ordinary h e ≡ true → InItsBin ws h e) → AllListed
     unfolding members
     binned-covered f c m =
-        let r = of-known c m in
-        let b = f (r .0) (r .1) (r .2 .1) in
-        (b .0, b .2 .0, (rw (r .2 .0) at (b .2 .1)))
+        let (e, member, (here, isOrdinary)) = of-known c m in
+        let (i, takes, (below, listed)) = f e member isOrdinary in
+        (i, below, (rw here at listed))
 
   marks-long : length markedAll ≡ 256
   marks-long = all-long noMarks es (length-replicate {A = ℕ} 256 0)
@@ -193,7 +193,7 @@ module _ (ws : List ℕ) (h : Heap) (big : 40 ≤ h .bytes) (small : h .bytes �
       → metAll ws (tableOf h) (h .heads) (h .tails) (summaryOf h) ≡ length (keep (ordinary h) es)
       → tallyFor h es .used ≡ h .used → Rest ws h
   rest facts d e u =
-      let r =
+      let (listed, covered) =
       combs-bins ws (tableOf h) (table .valid) all (h .heads) (h .tails) (h .bytes) (omega arith) (eights facts) bounded (h .bins) markedAll few
       marks-long (marks facts) (ordinaries-once ws h)
       (record {
@@ -202,8 +202,8 @@ module _ (ws : List ℕ) (h : Heap) (big : 40 ≤ h .bytes) (small : h .bytes �
       }) in
       record {
         chain = facts;
-        bins = λ i l. to-listed facts i l (r .0 i l);
-        binned = covered-binned facts (r .0) (r .1);
+        bins = λ i l. to-listed facts i l (listed i l);
+        binned = covered-binned facts listed covered;
         used = sym u ∙ tally-used h es;
       }
 
