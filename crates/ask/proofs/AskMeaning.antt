@@ -22,9 +22,9 @@ use Rattle.region.specs.Words.{word, nextInBin, previousInBin}
 use Rattle.rules.specs.Ask.{shown, onlyIf, firstIn, lastIn, numberOfBin, listOf, placesOf, chunkAnswers, binAnswers, askedSpot, isThere, isAsked, answerTo, askChunk, askBin}
 use Rattle.rules.specs.Check.{Linked, Passes, passes}
 use Rattle.rules.specs.Draft.{asRead, Spot, spot}
-use Rattle.rules.specs.Kinds.{ordinary, live, blockOf, blockEnd, isAt, holdsBlock}
+use Rattle.rules.specs.Kinds.{ordinary, live, blockOf, isAt, holdsBlock}
 use Rattle.rules.specs.Outcome.{judged, unchanged}
-use Rattle.rules.specs.Shape.{Entry, entry, members, binList, shape}
+use Rattle.rules.specs.Shape.{Entry, chunkEnd, entry, members, binList, shape}
 use Rattle.rules.proofs.ChainLaws.{shape-chain}
 use Rattle.rules.proofs.CheckLaws.{passes-iff}
 use Rattle.rules.proofs.ShapeLaws.{read-head}
@@ -63,13 +63,13 @@ module _ (ws : List ℕ) (c : ℕ) where
 
 -- a chunk ends where the next one is, and the last with the heap
 abbrev nextBy : ℕ → Entry → ℕ
-nextBy bytes e = cond (eqb (blockEnd e) bytes) 0 (blockEnd e)
+nextBy bytes e = cond (eqb (chunkEnd e) bytes) 0 (chunkEnd e)
 
-next-behind : (bytes : ℕ) (e : Entry) (high : List Entry) → Tiled (blockEnd e) high bytes → nextBy bytes e ≡ headOr 0 (placesOf high)
-next-behind bytes e [] t = rw (eq-eqb (blockEnd e) bytes t)
+next-behind : (bytes : ℕ) (e : Entry) (high : List Entry) → Tiled (chunkEnd e) high bytes → nextBy bytes e ≡ headOr 0 (placesOf high)
+next-behind bytes e [] t = rw (eq-eqb (chunkEnd e) bytes t)
 next-behind bytes e (d ∷ ds) t =
-    let u = tiled-up (blockEnd d) bytes ds (t .2) in
-    rw (ne-eqb (blockEnd e) bytes (omega (arith, t .0, t .1))) (sym (t .0))
+    let u = tiled-up (chunkEnd d) bytes ds (t .2) in
+    rw (ne-eqb (chunkEnd e) bytes (omega (arith, t .0, t .1))) (sym (t .0))
 
 -- of a heap that passes only the question itself is refused
 judged-answer : (h : Heap) (p b : Bool) (v : ℕ) → p ≡ true

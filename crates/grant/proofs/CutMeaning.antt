@@ -19,8 +19,8 @@ use Rattle.record.specs.declared.kinds.Kind.the-variants.{Start, InUse, Ordinar
 use Rattle.record.specs.Heap.{at, tableOf, summaryOf, usedNow, withSummary, withEnds, withUsed}
 use Rattle.region.proofs.WordsLaws.{written-append}
 use Rattle.headers.specs.Headers.{aboveWords, freeWords, usedWords}
-use Rattle.rules.specs.Shape.{Entry, entry, shape, binList, flagsAt}
-use Rattle.rules.specs.Kinds.{kindOf, ordinaryKind, freeKind, ordinary, unused, used, blockEnd, outside}
+use Rattle.rules.specs.Shape.{Entry, chunkEnd, entry, shape, binList, flagsAt}
+use Rattle.rules.specs.Kinds.{kindOf, ordinaryKind, freeKind, ordinary, unused, used, outside}
 use Rattle.rules.specs.Check.{Passes}
 use Rattle.rules.specs.Draft.{Draft, asRead, relink, settle}
 use Rattle.rules.specs.Cut.{Grant, grantAt, leaveAs}
@@ -126,10 +126,10 @@ module _ {ws : List ℕ} {h : Heap} (p : Passes ws h) where
       pub place : e .place % 8 ≡ 0
       pub size : e .size % 8 ≡ 0
       pub down : below .place < 65536
-      pub next : above .place ≡ blockEnd e
-      pub up : blockEnd e + 8 ≤ 65536
+      pub next : above .place ≡ chunkEnd e
+      pub up : chunkEnd e + 8 ≤ 65536
       pub flags : above .flags ≤ 1
-      pub fits : blockEnd e ≤ 4 * length ws
+      pub fits : chunkEnd e ≤ 4 * length ws
 
     bounded : CutBounds
     bounded =
@@ -149,13 +149,13 @@ module _ {ws : List ℕ} {h : Heap} (p : Passes ws h) where
 
     -- what is read of it, if m bytes are granted
     cut-reads : (m : ℕ) → grantedM n (e .size) ≡ m → m ≤ e .size
-        → cutM ws (e .place) n ≡ record { below = at (below .place); chunk = at (e .place); rest = at (e .place + m); end = at (blockEnd e); flags = above .flags }
+        → cutM ws (e .place) n ≡ record { below = at (below .place); chunk = at (e .place); rest = at (e .place + m); end = at (chunkEnd e); flags = above .flags }
     unfolding cutM
     cut-reads m g u =
         let l = bounded in
         let r : (e .place + m) % 2 ^ 32 ≡ e .place + m = omega arith in
         let b : below .place + e .flags ≡ below .place = omega (arith, s .free .flags) in
-        let f : flagsAt ws (blockEnd e) ≡ above .flags = ap (flagsAt ws) (sym (sides .abovePlace)) ∙ sym (inside ws h p above (sides .above) .stands) in
+        let f : flagsAt ws (chunkEnd e) ≡ above .flags = ap (flagsAt ws) (sym (sides .abovePlace)) ∙ sym (inside ws h p above (sides .above) .stands) in
         rw (sides .ownBackward, b, s .free .sized, g, r, sides .ownForward, sides .abovePlace, f)
 
     -- headers that are written are clear of those of all that are in bins
@@ -172,27 +172,27 @@ module _ {ws : List ℕ} {h : Heap} (p : Passes ws h) where
           (omega arith, λ u. member-below ws h p j x lj listed above (sides .above) u)
 
       -- it lies below the chunk or above it
-      outside-it : (x + 24 ≤ e .place) ⊎ (blockEnd e ≤ x)
+      outside-it : (x + 24 ≤ e .place) ⊎ (chunkEnd e ≤ x)
       outside-it =
           let r = member-entry ws h p j x lj listed in
           let b = r .1 .is .free .between in
           go (r .0) (r .1 .place) (b .some) (chunks-apart ws h p (r .0) e (r .1 .member) here (λ q. gone .others j x lj m (sym (r .1 .place) ∙ q)))
         where
-          go : (d : Entry) → d .place ≡ x → 24 ≤ d .size → (blockEnd d ≤ e .place) ⊎ (blockEnd e ≤ d .place) → (x + 24 ≤ e .place) ⊎ (blockEnd e ≤ x)
+          go : (d : Entry) → d .place ≡ x → 24 ≤ d .size → (chunkEnd d ≤ e .place) ⊎ (chunkEnd e ≤ d .place) → (x + 24 ≤ e .place) ⊎ (chunkEnd e ≤ x)
           go d q z (inl l) = inl (omega arith)
           go d q z (inr l) = inr (omega arith)
 
       clears-rest : n + 24 ≤ e .size → Clears x (e .place + n)
       clears-rest u = (let l = bounded in omega arith, λ l. go outside-it l)
         where
-          go : (x + 24 ≤ e .place) ⊎ (blockEnd e ≤ x) → x < e .place + n → x + 24 ≤ e .place + n
+          go : (x + 24 ≤ e .place) ⊎ (chunkEnd e ≤ x) → x < e .place + n → x + 24 ≤ e .place + n
           go (inl a) l = omega arith
           go (inr a) l = absurd (omega arith)
 
       rest-far : n + 24 ≤ e .size → Far (e .place + n) x
       rest-far u = go outside-it
         where
-          go : (x + 24 ≤ e .place) ⊎ (blockEnd e ≤ x) → Far (e .place + n) x
+          go : (x + 24 ≤ e .place) ⊎ (chunkEnd e ≤ x) → Far (e .place + n) x
           go (inl a) = omega arith
           go (inr a) = omega arith
 
@@ -220,15 +220,15 @@ module _ {ws : List ℕ} {h : Heap} (p : Passes ws h) where
           let a = clears-above j x lj m in
           (omega arith, c, (omega arith, c, (omega arith, r, (omega arith, r, (omega arith, r, (omega arith, a, tt)))))))
 
-      part-words : alsoWritten (alsoWritten (alsoWritten (booksOf ws out) (usedWords (below .place) (e .place) (e .place + n))) (freeWords (e .place) (e .place + n) (blockEnd e))) (aboveWords (e .place + n) (blockEnd e) (above .flags))
+      part-words : alsoWritten (alsoWritten (alsoWritten (booksOf ws out) (usedWords (below .place) (e .place) (e .place + n))) (freeWords (e .place) (e .place + n) (chunkEnd e))) (aboveWords (e .place + n) (chunkEnd e) (above .flags))
           ≡ booksOf ws cutUp
       unfolding relink usedWords freeWords aboveWords
       part-words =
           let i = bounded in
           let b : (below .place + 1) % 2 ^ 32 ≡ below .place + 1 = omega arith in
           let a : (e .place + n + above .flags) % 2 ^ 32 ≡ e .place + n + above .flags = omega arith in
-          let z : e .place + n + (e .size - n) ≡ blockEnd e = omega arith in
-          let y : blockEnd e - (e .place + n) ≡ e .size - n = omega arith in
+          let z : e .place + n + (e .size - n) ≡ chunkEnd e = omega arith in
+          let y : chunkEnd e - (e .place + n) ≡ e .size - n = omega arith in
           rw (b, a, y, z, add-zero, i .next, append-assoc, written-append)
 
       part-settles : (k₁ : Kind) → freeKind k₁ ≡ true → Settled ws h (booksOf ws cutUp) k₁ (e .place + n) (e .size - n) (settle k₁ rest cutUp)
@@ -243,8 +243,8 @@ module _ {ws : List ℕ} {h : Heap} (p : Passes ws h) where
       part-taken : takeM (books ws (h .heads) (h .tails)) (tableOf h) k (cutM ws (e .place) n) ≡ booksOf ws (settle k rest cutUp)
       unfolding takeM
       part-taken =
-          let y : blockEnd e - (e .place + n) ≡ e .size - n = omega arith in
-          rw (cut-reads n (granted-part n (e .size) l) (omega arith), left-is, ne-eqb (e .place + n) (blockEnd e) (λ q. omega arith), part-words, y)
+          let y : chunkEnd e - (e .place + n) ≡ e .size - n = omega arith in
+          rw (cut-reads n (granted-part n (e .size) l) (omega arith), left-is, ne-eqb (e .place + n) (chunkEnd e) (λ q. omega arith), part-words, y)
           (part-settles k (s .isFree) .is)
 
       takes-part : Taken ws h n k e n grantRuled
@@ -263,7 +263,7 @@ module _ {ws : List ℕ} {h : Heap} (p : Passes ws h) where
       abbrev all : Entry
       all = entry (e .place) (e .size) used
 
-      all-words : alsoWritten (alsoWritten (booksOf ws out) (usedWords (below .place) (e .place) (blockEnd e))) (aboveWords (e .place) (blockEnd e) (above .flags))
+      all-words : alsoWritten (alsoWritten (booksOf ws out) (usedWords (below .place) (e .place) (chunkEnd e))) (aboveWords (e .place) (chunkEnd e) (above .flags))
           ≡ booksOf ws (relink low (all ∷ []) high out)
       unfolding relink usedWords aboveWords
       all-words =
@@ -275,7 +275,7 @@ module _ {ws : List ℕ} {h : Heap} (p : Passes ws h) where
       all-taken : takeM (books ws (h .heads) (h .tails)) (tableOf h) k (cutM ws (e .place) n) ≡ booksOf ws (relink low (all ∷ []) high out)
       unfolding takeM
       all-taken =
-          rw (cut-reads (e .size) (granted-all n (e .size) l) (omega arith), left-is, eq-eqb (blockEnd e) (blockEnd e) refl, all-words)
+          rw (cut-reads (e .size) (granted-all n (e .size) l) (omega arith), left-is, eq-eqb (chunkEnd e) (chunkEnd e) refl, all-words)
 
       is-ordinary : ordinaryKind k ≡ true
       is-ordinary = go (ordinaryKind k) (s .spare)
@@ -293,7 +293,7 @@ module _ {ws : List ℕ} {h : Heap} (p : Passes ws h) where
             rest = ap (λ (x : Cut). x .rest .0) (cut-reads (e .size) (granted-all n (e .size) l) (omega arith));
             granted = refl;
             heap =
-                rw (settled-ordinary (summaryOf h) k (blockEnd e) is-ordinary) (more-used h (e .size) refl (gone .follows .heap));
+                rw (settled-ordinary (summaryOf h) k (chunkEnd e) is-ordinary) (more-used h (e .size) refl (gone .follows .heap));
           })
 
     -- either way

@@ -13,8 +13,8 @@ use Rattle.rules.specs.Calls.{State}
 use Rattle.rules.specs.Check.{Passes, passes}
 use Rattle.rules.specs.Draft.{asRead}
 use Rattle.rules.specs.Free.{isLive, blockSpot, free}
-use Rattle.rules.specs.Kinds.{blockEnd, holdsBlock}
-use Rattle.rules.specs.Shape.{Entry, shape}
+use Rattle.rules.specs.Kinds.{holdsBlock}
+use Rattle.rules.specs.Shape.{Entry, chunkEnd, shape}
 use Rattle.rules.specs.Statements.{leftBy}
 use Rattle.rules.proofs.CheckLaws.{passes-iff}
 use Rattle.rules.proofs.SpotLaws.{bounds, inside, spot-member}
@@ -43,6 +43,6 @@ module _ (ws : List ℕ) (h : Heap) (q : passes ws h ≡ true) (b : ℕ) (some :
   pub reclaim-is : recorded h (reclaimM (books ws (h .heads) (h .tails)) (tableOf h) (summaryOf h) (placeOf ws h well b l)) ≡ leftBy ws (free ws h b)
   unfolding reclaimM free givenUpM
   reclaim-is =
-      let size-is : blockEnd here - here .place ≡ here .size = omega arith in
-      ap (λ (s : State). left (Returned (changeM (blockEnd here - here .place) 0)) (s .heap) (s .words)) (give-up-is ws h well b l)
+      let size-is : chunkEnd here - here .place ≡ here .size = omega arith in
+      ap (λ (s : State). left (Returned (changeM (chunkEnd here - here .place) 0)) (s .heap) (s .words)) (give-up-is ws h well b l)
       ∙ rw (size-is, change-ruled (here .size) 0 small (omega arith), q, ne-eqb b 0 some, l, free-kept ws h well b l .allPut)

@@ -13,9 +13,8 @@ use Rattle.rules.specs.Calls.{State}
 use Rattle.rules.specs.Check.{Passes}
 use Rattle.rules.specs.Draft.{Draft, asRead}
 use Rattle.rules.specs.Free.{isLive, blockSpot, freeBlock}
-use Rattle.rules.specs.Kinds.{blockEnd}
 use Rattle.rules.specs.Reallocate.{shrunk}
-use Rattle.rules.specs.Shape.{Entry}
+use Rattle.rules.specs.Shape.{Entry, chunkEnd}
 use Rattle.settling.specs.Settling.{settledM}
 use Rattle.settling.proofs.SettledLaws.{settled-keeps}
 use Rattle.release.specs.declared.Union.{Union}
@@ -47,7 +46,7 @@ module _ (ws : List ℕ) (h : Heap) (p : Passes ws h) (b : ℕ) (l : isLive (asR
   give-up-is =
       let e : Entry = blockSpot (asRead ws h) b .here in
       let back = released ws h p b l in
-      let size-is : blockEnd e - e .place ≡ e .size = omega arith in
+      let size-is : chunkEnd e - e .place ≡ e .size = omega arith in
       rw (size-is, back .is)
       (ap (state (written ws (freeAfter ws h p b l .stores)))
       (fewer-used h (e .size) (e .size) 0 (same-used h (joined ws h p b l)) (back .heap) (omega arith)))
@@ -63,7 +62,7 @@ module _ {ws : List ℕ} {h : Heap} {low : List Entry} {e : Entry} {high : List 
   give-up-tail-is f =
       let d : Draft = tailAfter shrinks in
       let back = tail-released shrinks f in
-      let size-is : blockEnd e - (e .place + n) ≡ e .size - n = omega arith in
+      let size-is : chunkEnd e - (e .place + n) ≡ e .size - n = omega arith in
       rw (size-is, back .is)
       (ap (state (written ws (d .stores)))
       (fewer-used h (e .size - n) (e .size) n (same-used h (tailJoined shrinks f)) (back .heap) (omega arith)))

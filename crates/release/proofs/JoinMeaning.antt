@@ -11,8 +11,8 @@ use Rattle.record.specs.declared.kinds.Kind.{Kind}
 use Rattle.record.specs.declared.kinds.Kind.the-variants.{InUse}
 use Rattle.record.specs.Heap.{summaryOf}
 use Rattle.region.specs.Words.{word, backward}
-use Rattle.rules.specs.Shape.{Entry, entry, flagsAt, shape, binList}
-use Rattle.rules.specs.Kinds.{kindAt, inUse, ordinaryKind, freeKind, ordinary, isFree, unused, blockEnd, outside}
+use Rattle.rules.specs.Shape.{Entry, chunkEnd, entry, flagsAt, shape, binList}
+use Rattle.rules.specs.Kinds.{kindAt, inUse, ordinaryKind, freeKind, ordinary, isFree, unused, outside}
 use Rattle.rules.specs.Check.{Passes}
 use Rattle.rules.specs.Join.{Joined, joinedAs, joining}
 use Rattle.rules.proofs.SpotLaws.{inside, around}
@@ -91,17 +91,17 @@ module _ {ws : List ℕ} {h : Heap} {low : List Entry} {e : Entry} {high : List 
       ap (flagsAt ws) (s .link ∙ sym (s .place)) ∙ sym (inside ws h well y (s .member) .stands)
 
   join-sees : joinM ws (summaryOf h) place
-      ≡ joinedM ws (sees h below) (sees h above) (below .place) (e .place) (blockEnd e)
+      ≡ joinedM ws (sees h below) (sees h above) (below .place) (e .place) (chunkEnd e)
   unfolding joinM
   join-sees =
-      rw (neighbour-is ws h well (below .place) below (sides chunk .below) refl, neighbour-is ws h well (blockEnd e) above (sides chunk .above) (sides chunk .abovePlace))
+      rw (neighbour-is ws h well (below .place) below (sides chunk .below) refl, neighbour-is ws h well (chunkEnd e) above (sides chunk .above) (sides chunk .abovePlace))
 
   -- what is freed, `part`, ends where the chunk of the block does, and has `under` below it as the last of `lows`
-  pub part-joins : (lows : List Entry) (part : Entry) (under over : Kind) → blockEnd part ≡ blockEnd e
+  pub part-joins : (lows : List Entry) (part : Entry) (under over : Kind) → chunkEnd part ≡ chunkEnd e
       → cond (ordinaryKind under) (word ws (lastOr outside lows .place) backward) (lastOr outside lows .place)
       ≡ lastOr outside (cond (ordinaryKind under) (butLast lows) lows) .place
       → (freeKind over ≡ true → isFree h above ≡ true)
-      → Agrees (joinedBy under over lows part high) (lastOr outside lows) above (joinedM ws under over (lastOr outside lows .place) (part .place) (blockEnd e))
+      → Agrees (joinedBy under over lows part high) (lastOr outside lows) above (joinedM ws under over (lastOr outside lows .place) (part .place) (chunkEnd e))
   unfolding joinedM
   part-joins lows part under over q named f =
       let s = summit chunk (freeKind over) f in
@@ -115,10 +115,10 @@ module _ {ws : List ℕ} {h : Heap} {low : List Entry} {e : Entry} {high : List 
         leaving = refl;
       }
 
-  pub part-lies : (c : ℕ) (lower : Entry) (under over : Kind) → c % 8 ≡ 0 → e .place ≤ c → c + 24 ≤ blockEnd e
+  pub part-lies : (c : ℕ) (lower : Entry) (under over : Kind) → c % 8 ≡ 0 → e .place ≤ c → c + 24 ≤ chunkEnd e
       → (ordinaryKind under ≡ true → Mem lower es × (ordinary h lower ≡ true) × (lower .place < c))
       → (freeKind over ≡ true → isFree h above ≡ true) → (ordinaryKind over ≡ true → ordinary h above ≡ true)
-      → UnionLies ws h c lower above (joinedM ws under over (lower .place) c (blockEnd e))
+      → UnionLies ws h c lower above (joinedM ws under over (lower .place) c (chunkEnd e))
   unfolding joinedM
   part-lies c lower under over z lo hi o f u =
       let s = summit chunk (freeKind over) f in

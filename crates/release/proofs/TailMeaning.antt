@@ -13,8 +13,8 @@ use Rattle.record.specs.declared.kinds.Kind.the-variants.{InUse}
 use Rattle.record.specs.Heap.{at, summaryOf}
 use Rattle.region.specs.Words.{Store, word, forward, backward}
 use Rattle.region.proofs.WordsLaws.{off}
-use Rattle.rules.specs.Shape.{Entry, flagsAt, binList}
-use Rattle.rules.specs.Kinds.{freeKind, used, blockEnd, outside}
+use Rattle.rules.specs.Shape.{Entry, chunkEnd, flagsAt, binList}
+use Rattle.rules.specs.Kinds.{freeKind, used, outside}
 use Rattle.rules.specs.Check.{Passes}
 use Rattle.rules.specs.Draft.{Draft, asRead}
 use Rattle.rules.specs.Join.{joining, release}
@@ -61,7 +61,7 @@ module _ {ws : List ℕ} {h : Heap} {low : List Entry} {e : Entry} {high : List 
 
   -- where the tail lies, whatever its flags, and what the code joins to it
   abbrev pub tailPlace : ℕ → Place
-  tailPlace flags = record { before = at (e .place); chunk = at (e .place + n); end = blockEnd e; flags = flags }
+  tailPlace flags = record { before = at (e .place); chunk = at (e .place + n); end = chunkEnd e; flags = flags }
 
   abbrev pub tailJoined : ℕ → Union
   tailJoined flags = joinM words (summaryOf h) (tailPlace flags)
@@ -78,7 +78,7 @@ module _ {ws : List ℕ} {h : Heap} {low : List Entry} {e : Entry} {high : List 
       let k = place-eight in
       ap (λ (v : ℕ). v % 8) (off stores ws c backward (omega arith))
 
-  end-eight : blockEnd e % 8 ≡ 0
+  end-eight : chunkEnd e % 8 ≡ 0
   end-eight = let i = inside ws h well e (here chunk) in omega arith
 
   neighbour-stands : (c : ℕ) → c % 8 ≡ 0 → neighbourM words (summaryOf h) c ≡ neighbourM ws (summaryOf h) c
@@ -92,32 +92,32 @@ module _ {ws : List ℕ} {h : Heap} {low : List Entry} {e : Entry} {high : List 
       ap (λ (k : Kind). cond (h .merge) k InUse) (sym (kind-in-use (h .bytes) (h .donor .0) (h .top .0) d (λ z. omega arith) (λ z. omega arith) (omega arith)))
       ∙ in-use-seen (h .merge)
 
-  tail-lies-by : UnionLies ws h (e .place + n) kept above (joinedM ws InUse (sees h above) (e .place) (e .place + n) (blockEnd e))
+  tail-lies-by : UnionLies ws h (e .place + n) kept above (joinedM ws InUse (sees h above) (e .place) (e .place + n) (chunkEnd e))
   tail-lies-by =
       let z = place-eight in
       part-lies chunk (e .place + n) kept InUse (sees h above) (omega arith) (omega arith) (omega arith)
       (λ q. absurd (false≢true q)) (seen-free chunk) (seen-above chunk)
 
   -- what the code joins in the words so changed is what it would have joined before
-  joined-stands : joinedM words InUse (sees h above) (e .place) (e .place + n) (blockEnd e)
-      ≡ joinedM ws InUse (sees h above) (e .place) (e .place + n) (blockEnd e)
+  joined-stands : joinedM words InUse (sees h above) (e .place) (e .place + n) (chunkEnd e)
+      ≡ joinedM ws InUse (sees h above) (e .place) (e .place + n) (chunkEnd e)
   unfolding joinedM
   joined-stands =
       let t = tail-lies-by .top in
       let i = inside ws h well (t .0) (t .1) in
       let z = place-eight in
       let y = end-eight in
-      let to : ℕ = cond (freeKind (sees h above)) (word ws (blockEnd e) forward) (blockEnd e) in
-      rw (off stores ws (blockEnd e) forward (omega arith), flags-stand to (omega (arith, t .2)))
+      let to : ℕ = cond (freeKind (sees h above)) (word ws (chunkEnd e) forward) (chunkEnd e) in
+      rw (off stores ws (chunkEnd e) forward (omega arith), flags-stand to (omega (arith, t .2)))
 
-  join-sees : (flags : ℕ) → tailJoined flags ≡ joinedM ws InUse (sees h above) (e .place) (e .place + n) (blockEnd e)
+  join-sees : (flags : ℕ) → tailJoined flags ≡ joinedM ws InUse (sees h above) (e .place) (e .place + n) (chunkEnd e)
   unfolding joinM
   join-sees flags =
       rw (
         neighbour-stands (e .place) place-eight,
-        neighbour-stands (blockEnd e) end-eight,
+        neighbour-stands (chunkEnd e) end-eight,
         neighbour-is ws h well (e .place) e (here chunk) refl,
-        neighbour-is ws h well (blockEnd e) above (sides chunk .above) (sides chunk .abovePlace),
+        neighbour-is ws h well (chunkEnd e) above (sides chunk .above) (sides chunk .abovePlace),
         used-seen e refl (own chunk .0),
       )
       joined-stands

@@ -15,8 +15,8 @@ use Rattle.region.proofs.WordsLaws.{off}
 use Rattle.rules.specs.Check.{Passes}
 use Rattle.rules.specs.Draft.{Draft, asRead, Spot}
 use Rattle.rules.specs.Free.{isLive, blockSpot, freeBlock}
-use Rattle.rules.specs.Kinds.{blockOf, blockEnd, blockWords, outside}
-use Rattle.rules.specs.Shape.{Entry, shape}
+use Rattle.rules.specs.Kinds.{blockOf, blockWords, outside}
+use Rattle.rules.specs.Shape.{Entry, chunkEnd, shape}
 use Rattle.rules.proofs.SpotLaws.{around, inside, one-chunk}
 use Rattle.rules.proofs.NamedLaws.{live-between}
 use Rattle.seek.specs.Seek.{placed}
@@ -57,7 +57,7 @@ module _ {ws : List ℕ} {h : Heap} {n : ℕ} {e : Entry} (moves : Moving ws h n
       go (granted-large (moves .room)) (i .place) (k .place) (i .size) (k .size) (b .some) (granted-beside (moves .room) e (moves .member) (moves .live))
     where
       go : n ≤ new .size → e .place % 8 ≡ 0 → new .place % 8 ≡ 0 → e .size % 8 ≡ 0 → new .size % 8 ≡ 0 → 24 ≤ e .size
-          → (blockEnd e ≤ new .place) ⊎ (blockEnd new ≤ e .place) → Disjoint (e .place) (new .place) (blockWords e)
+          → (chunkEnd e ≤ new .place) ⊎ (chunkEnd new ≤ e .place) → Disjoint (e .place) (new .place) (blockWords e)
       go u ze zn se sn w (inl a) j k jl kl q = omega arith
       go u ze zn se sn w (inr a) j k jl kl q = omega arith
 
@@ -105,7 +105,7 @@ module _ {ws : List ℕ} {h : Heap} {n : ℕ} {e : Entry} (moves : Moving ws h n
   drawn-again : drawn words (freeBlock (blockOf e) (asRead words heap)) ≡ drawn ws freedAfter
   drawn-again = rw (moved-reread moves .0, moved-words moves) refl
 
-  pub move-is : givenUpM words (tableOf h) heap (record { before = at (word words (e .place) backward - word words (e .place) backward % 8); chunk = at (e .place); end = blockEnd e; flags = e .flags })
+  pub move-is : givenUpM words (tableOf h) heap (record { before = at (word words (e .place) backward - word words (e .place) backward % 8); chunk = at (e .place); end = chunkEnd e; flags = e .flags })
       ≡ drawn ws freedAfter
   move-is =
       rw (below-again, ← grant-table (moves .room))

@@ -16,11 +16,11 @@ use Rattle.rules.specs.Check.{Passes, passes}
 use Rattle.rules.specs.Cut.{Grant}
 use Rattle.rules.specs.Draft.{Draft, asRead}
 use Rattle.rules.specs.Free.{isLive, blockSpot, freeBlock}
-use Rattle.rules.specs.Kinds.{overhead, blockOf, blockEnd}
+use Rattle.rules.specs.Kinds.{overhead, blockOf}
 use Rattle.rules.specs.Outcome.{made, grants}
 use Rattle.rules.specs.Reallocate.{resize, resized}
 use Rattle.rules.specs.Serve.{need, permitted, nowhere}
-use Rattle.rules.specs.Shape.{Entry, shape}
+use Rattle.rules.specs.Shape.{Entry, chunkEnd, shape}
 use Rattle.rules.specs.Statements.{leftBy}
 use Rattle.rules.proofs.CheckLaws.{passes-iff}
 use Rattle.rules.proofs.SpotLaws.{bounds, inside}
@@ -57,7 +57,7 @@ module _ (ws : List ℕ) (h : Heap) (q : passes ws h ≡ true) (z : ℕ) (k : pe
 
   -- the size of the chunk, its block, and that they are small
   record Measured : Type 0 where
-    pub size : blockEnd e - e .place ≡ e .size
+    pub size : chunkEnd e - e .place ≡ e .size
     pub block : blockAt (e .place) ≡ blockOf e
     pub few : e .place + e .size ≤ 65536
 

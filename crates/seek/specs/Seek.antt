@@ -5,15 +5,15 @@ use mathlib.Core.List.{List, [], _∷_}
 use Prim.Native.Nat.{ℕ, _+_, _%_}
 use lib.Dec.{eqb}
 use Rattle.record.specs.Heap.{at}
-use Rattle.rules.specs.Kinds.{blockOf, blockEnd}
-use Rattle.rules.specs.Shape.{Entry}
+use Rattle.rules.specs.Kinds.{blockOf}
+use Rattle.rules.specs.Shape.{Entry, chunkEnd}
 use Rattle.seek.specs.declared.Place.{Place}
 use Rattle.seek.specs.declared.Sought.{Sought}
 use Rattle.seek.specs.declared.Sought.the-variants.{Found, NotFound}
 
 -- the chunk e, above one at p
 abbrev pub placed : ℕ → Entry → Place
-placed p e = record { before = at p; chunk = at (e .place); end = blockEnd e; flags = e .flags }
+placed p e = record { before = at p; chunk = at (e .place); end = chunkEnd e; flags = e .flags }
 
 -- the first of es that meets the test, where the chunk below es is at p
 unfoldable pub soughtM : (Entry → Bool) → ℕ → List Entry → Sought
