@@ -51,8 +51,8 @@ module _ {ws : List ℕ} {h : Heap} (p : Passes ws h) {d : Draft} (follows : Fol
     {c : ℕ} {lower upper : Entry} {u : Union} (lies : UnionLies ws h c lower upper u) where
   leaves : (x : Entry) → Mem x (shape ws (h .bytes)) → ordinary h x ≡ true → LeavesBin ws h d x (leaveBin x d)
   leaves x m o =
-      let b = ordinary-listed ws h p x m o in
-      leave-step ws h d follows x (b .0) (b .1) (b .2) (has (b .0) (x .place) (b .3))
+      let (i, below, takes, listed) = ordinary-listed ws h p x m o in
+      leave-step ws h d follows x i below takes (has i (x .place) listed)
 
   -- those that join leave their bins, the lower one first
   out : (t s : Bool) → u .lower ≡ t → u .upper ≡ s
@@ -62,20 +62,20 @@ module _ {ws : List ℕ} {h : Heap} (p : Passes ws h) {d : Draft} (follows : Fol
   out false false q r =
       record { is = refl; follows = follows; far = λ j x lj m. lies .far j x lj (follows .from j x lj m) }
   out false true q r =
-      let o = lies .over r in
-      let g = leaves upper (o .0) (o .1) in
+      let (member, isOrdinary, above) = lies .over r in
+      let g = leaves upper member isOrdinary in
       record { is = g .is; follows = g .follows; far = λ j x lj m. lies .far j x lj (g .follows .from j x lj m) }
   out true false q r =
-      let o = lies .under q in
-      let g = leaves lower (o .0) (o .1) in
+      let (member, isOrdinary, below) = lies .under q in
+      let g = leaves lower member isOrdinary in
       record { is = g .is; follows = g .follows; far = g .far }
   out true true q r =
-      let o = lies .under q in
-      let g = leaves lower (o .0) (o .1) in
-      let v = lies .over r in
-      let a = ordinary-listed ws h p upper (v .0) (v .1) in
-      let ne : upper .place ≢ lower .place = λ z. omega (arith, o .2, v .2) in
-      let k = leave-step ws h _ (g .follows) upper (a .0) (a .1) (a .2) (g .keeps (a .0) (upper .place) ne (has (a .0) (upper .place) (a .3))) in
+      let (lowMember, lowOrdinary, below) = lies .under q in
+      let (highMember, highOrdinary, above) = lies .over r in
+      let g = leaves lower lowMember lowOrdinary in
+      let (i, inside, takes, listed) = ordinary-listed ws h p upper highMember highOrdinary in
+      let ne : upper .place ≢ lower .place = λ z. omega arith in
+      let k = leave-step ws h _ (g .follows) upper i inside takes (g .keeps i (upper .place) ne (has i (upper .place) listed)) in
       record {
         is = ap (λ (x : Books). leaveM x (upper .place)) (g .is) ∙ k .is;
         follows = k .follows;
@@ -103,14 +103,13 @@ module _ {ws : List ℕ} {h : Heap} (p : Passes ws h) {d : Draft} (follows : Fol
         clear = λ j x lj m lt. omega (arith, lies .far j x lj m);
       }
   bottom-by true q =
-      let o = lies .under q in
-      let i = inside ws h p lower (o .0) in
-      let b = ordinary-listed ws h p lower (o .0) (o .1) in
+      let (member, isOrdinary, below) = lies .under q in
+      let (i, valid, takes, listed) = ordinary-listed ws h p lower member isOrdinary in
       record {
-        eight = i .place;
-        some = follows .way .holds (b .0) (b .1) .nodes (lower .place) (has (b .0) (lower .place) (b .3)) .some;
-        up = omega (arith, o .2);
-        clear = λ j x lj m lt. member-below ws h p j x lj m lower (o .0) lt;
+        eight = inside ws h p lower member .place;
+        some = follows .way .holds i valid .nodes (lower .place) (has i (lower .place) listed) .some;
+        up = omega arith;
+        clear = λ j x lj m lt. member-below ws h p j x lj m lower member lt;
       }
 
   bottom : Bottom ws h c from
@@ -128,30 +127,33 @@ module _ {ws : List ℕ} {h : Heap} (p : Passes ws h) {d : Draft} (follows : Fol
 
     small : from + headOr outside (j .high) .flags < 4294967296
     small =
-        let i = inside ws h p (lies .top .0) (lies .top .1) in
+        let (top, member, here) = lies .top in
+        let i = inside ws h p top member in
         let b = bounds ws h p in
         let r = rises in
-        omega (arith, lies .top .2, lies .flags, agrees .flags)
+        omega (arith, lies .flags, agrees .flags)
 
     links : Follows ws h afterLinking
     links =
-        let i = inside ws h p (lies .top .0) (lies .top .1) in
+        let (top, member, here) = lies .top in
+        let i = inside ws h p top member in
         link-follows ws h afterLeaving (gone .follows) (j .low) (j .high) from (u .end) rises (sym (agrees .above)) small
         (λ k x lk m. (
           λ lt. bottom .clear k x lk m lt,
-          λ lt. let a = member-below ws h p k x lk m (lies .top .0) (lies .top .1) (omega (arith, lies .top .2)) in omega (arith, lies .top .2),
+          λ lt. let a = member-below ws h p k x lk m top member (omega arith) in omega arith,
         ))
-        (bottom .eight) (omega (arith, lies .top .2))
+        (bottom .eight) (omega arith)
 
     settles : Settled ws h (booksOf ws afterLinking) (joinedAs (lies .becomes .0)) from (u .end - from)
         (settle (joinedAs (lies .becomes .0)) new afterLinking)
     unfolding relink
     settles =
-        let i = inside ws h p (lies .top .0) (lies .top .1) in
+        let (top, member, here) = lies .top in
+        let i = inside ws h p top member in
         let b = bounds ws h p in
         let o = bottom in
         settle-step ws h afterLinking links p from (u .end - from) unused (omega (arith, lies .large))
-        (record { eight = o .eight; some = o .some; fits = omega (arith, lies .large, lies .top .2) })
+        (record { eight = o .eight; some = o .some; fits = omega (arith, lies .large) })
         (gone .far) (lies .becomes .0)
 
     -- the code's calls, one after the other
