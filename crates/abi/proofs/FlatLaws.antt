@@ -19,7 +19,7 @@ copies-one to from now at i fits e l = rw (e, add-one i) (paste-suc to at from i
 pub part-length : (rs : List ℕ) (n : ℕ) → length rs ≡ recordWords → n + 32 ≤ recordWords → length (take 32 (drop n rs)) ≡ 32
 part-length rs n whole inside = length-take-le 32 (drop n rs) (omega (arith, length-drop n rs))
 
--- a copy that fills-whole all
+-- a copy that fills all
 pub fills-whole : (to from : List ℕ) → length to ≡ 32 → length from ≡ 32 → paste to 0 from (length from) ≡ from
 fills-whole to from t f =
     rw (take-all (length from) from (omega arith), drop-of-length-le to {i = 0 + length from} (omega arith))

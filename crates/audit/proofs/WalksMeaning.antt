@@ -41,7 +41,7 @@ pub record Rest (ws : List ℕ) (h : Heap) : Type 0 where
   pub binned : (e : Entry) → Mem e (shape ws (h .bytes)) → ordinary h e ≡ true → InItsBin ws h e
   pub used : h .used ≡ usedBytes h (shape ws (h .bytes))
 
--- markM keeps the bitmap's length
+-- marking keeps the bitmap's length
 marked-long : (ms : List ℕ) (k : Kind) (c : ℕ) → length (markM ms k c) ≡ length ms
 unfolding markM
 marked-long ms k c = go (ordinaryKind k)

@@ -24,7 +24,7 @@ pub record Holds (b : Books) (i : ℕ) (cs : List ℕ) : Type 0 where
   pub nodes : (c : ℕ) → Mem c cs → Node (length (b .words)) c
   pub once : Distinct cs
 
--- the books after a chunk has leftBooks bin i, where xs was before it and ys after it
+-- the books after a chunk has left bin i, where xs was before it and ys after it
 abbrev pub leftBooks : Books → ℕ → List ℕ → List ℕ → Books
 leftBooks b i xs ys =
     books (written (b .words) (meet xs ys)) (set (b .heads) i (headOr 0 (xs ++ ys))) (set (b .tails) i (lastOr 0 (xs ++ ys)))

@@ -1,4 +1,4 @@
--- The books of a heap that passes: each bin holds the list that is read from its head; no chunk is in two lists; members lie far chunks-apart;
+-- The books of a heap that passes: each bin holds the list that is read from its head; no chunk is in two lists; members lie far apart;
 -- a list has at most 8192 members; every ordinary chunk is in a list. Assumes nothing.
 use mathlib.Core.Path.{_≡_, refl, sym, ap, _∙_}
 use mathlib.Core.Logic.{_≢_, _⊎_, inl, inr}

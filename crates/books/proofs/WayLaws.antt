@@ -198,7 +198,7 @@ module _ (b : Books) (lists : ℕ → List ℕ) (n : ℕ) (w : OnWay b lists n) 
               ∙ w .binned j d lj (stays j m);
         }
 
-    -- it is far from all members that are leftBooks, so it can be put again
+    -- it is far from all members that are left, so it can be put again
     left-far : (j d : ℕ) → j < n → Mem d (relisted i (xs ++ ys) lists j) → Far c d
     left-far j d lj m = w .far i j c d l lj here (stays j m) (λ e. gone e (member-relisted i (xs ++ ys) lists j m))
       where

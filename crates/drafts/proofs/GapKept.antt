@@ -111,7 +111,7 @@ module _ {ws : List ℕ} {h : Heap} {base : List Entry} (p : Passes ws h) (gone 
         others x (inl k) = inl k
         others x (inr k) = inr (inl k)
 
-    -- the gapChunk is not live, so used bytes are those of `base`
+    -- the gap is not live, so used bytes are those of `base`
     same-lives : lives h chain ≡ lives h base
     same-lives = lives-free h low fill high refl ∙ g .alive
 

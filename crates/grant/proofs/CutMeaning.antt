@@ -121,7 +121,7 @@ module _ {ws : List ℕ} {h : Heap} (p : Passes ws h) where
     unfolding asRead
     left-is = gone .is
 
-    -- where the chunk follows-begins and ends, and what is below and above it
+    -- where the chunk begins and ends, and what is below and above it
     record CutBounds : Type 0 where
       pub place : e .place % 8 ≡ 0
       pub size : e .size % 8 ≡ 0

@@ -41,7 +41,7 @@ granted-few n s l = go (decLt s (n + 24))
     go (yes k) = rw (lt-leb (n + 24) s k) (omega arith)
     go (no k) = rw (le-leb (n + 24) s (omega arith)) l
 
--- m bytes of the chunk e, which were taken as the rule says, are handedOn back as its grant
+-- m bytes of the chunk e, which were taken as the rule says, are handed back as its grant
 taken-is : {ws : List ℕ} {h : Heap} {n : ℕ} {k : Kind} {e : Entry} {m : ℕ} {g : Grant} → m + h .used < 2 ^ 32 → Taken ws h n k e m g
     → afterGrant h (takenM (books ws (h .heads) (h .tails)) (tableOf h) (summaryOf h) k (e .place) n) ≡ handedOn ws g
 unfolding takenM

@@ -37,7 +37,7 @@ product-fits count size p q =
     let l : count * size ≤ 4294967295 * 4294967295 = mul-le-mul {n₂ = 4294967295} {m₂ = 4294967295} (omega arith) (omega arith) in
     record { fits = omega arith }
 
--- a reply and the words after it are what the rule says. It is a record, so that the checker finds by itself what the call was handedOn
+-- a reply and the words after it are what the rule says. It is a record, so that the checker finds by itself what the call was handed
 pub record Allocated (ws : List ℕ) (h : Heap) (z : ℕ) (clears : Bool) (r : Reply) (words : List ℕ) : Type 0 where
   pub meets : Meets ws (allocateWith (fillStores clears) ws h z) r words
 

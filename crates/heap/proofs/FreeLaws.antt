@@ -28,7 +28,7 @@ use Rattle.reclaim.proofs.ReclaimMeaning.{reclaim-is}
 use Rattle.replies.specs.declared.Answered.{Answered}
 use Rattle.replies.specs.Replies.{concluded, recorded, refusedReply, reply}
 
--- a reply and the words after it are what the rule says. It is a record, so that the checker finds by itself what the call was handedOn
+-- a reply and the words after it are what the rule says. It is a record, so that the checker finds by itself what the call was handed
 pub record Freed (ws : List ℕ) (h : Heap) (b : ℕ) (r : Reply) (words : List ℕ) : Type 0 where
   pub meets : Meets ws (free ws h b) r words
 

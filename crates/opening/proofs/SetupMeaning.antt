@@ -1,4 +1,4 @@
--- Setup by its outcomes: what each refusedM leaves, and what an accepted setup leaves, in the code's own terms. Assumes nothing.
+-- Setup by its outcomes: what each refusal leaves, and what an accepted setup leaves, in the code's own terms. Assumes nothing.
 use mathlib.Core.Path.{_≡_}
 use mathlib.Core.Bool.{Bool, true, false}
 use mathlib.Core.List.{List, _++_}

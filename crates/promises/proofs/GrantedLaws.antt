@@ -62,7 +62,7 @@ module _ {ws : List ℕ} {h : Heap} {n : ℕ} (room : Grantable ws h n) where
   abbrev from : Entry
   from = sourceChunk room
 
-  -- the sourceChunk chunk can serve
+  -- the source chunk can serve
   source-serves : serves (tableOf h) (h .donor .0) (h .top .0) n from ≡ true
   source-serves = go (source room) refl (can room)
     where

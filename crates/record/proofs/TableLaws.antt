@@ -123,7 +123,7 @@ module _ (t : List ℕ) where
   pub bin-is : (s : ℕ) (r : Binned) → TakenBy t s r → r ≡ binOf t s
   bin-is s r k = bin-one s r (binOf t s) k (bin-taken t s)
 
--- where a eightsFrom of eights from `next` ends
+-- where a run of eights from `next` ends
 run-in : (next : ℕ) (bs : List ℕ) → eightsFrom next bs ≤ length bs
 run-in next [] = omega arith
 run-in next (b ∷ bs) = go (eqb b next) (run-in (next + 8) bs)

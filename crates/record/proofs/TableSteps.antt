@@ -15,7 +15,7 @@ pub small-start : (t : List ℕ) → eightsFrom 32 (drop 1 t) ≡ smallBins t
 small-start [] = refl
 small-start (b ∷ bs) = refl
 
--- a eightsFrom ends at another size, and at the end of the table
+-- a run ends at another size, and at the end of the table
 module _ (t : List ℕ) (i next : ℕ) where
   pub run-stops : i < length t → (getD t i 0 ≡ next → ⊥) → eightsFrom next (drop i t) ≡ 0
   run-stops h ne = rw (drop-cons t i 0 h, ne-eqb (getD t i 0) next ne)

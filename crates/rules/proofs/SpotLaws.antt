@@ -191,7 +191,7 @@ module _ (ws : List ℕ) (h : Heap) (p : Passes ws h) where
       go (inl k) = omega arith
       go (inr k) = let l = ends in absurd (omega arith)
 
-  -- two chunks other than start and end are so far chunks-apart that no header reaches into the other chunk
+  -- two chunks other than start and end are so far apart that no header reaches into the other chunk
   pub far : (d e : Entry) → Mem d es → Mem e es → (d .place ≡ e .place → ⊥)
       → 0 < d .place → d .place + 8 < h .bytes → 0 < e .place → e .place + 8 < h .bytes
       → 24 ≤ (d .place - e .place) + (e .place - d .place)
