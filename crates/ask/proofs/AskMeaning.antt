@@ -44,20 +44,20 @@ last-place d (e ∷ es) = last-place e es
 -- the words of a member of a linked list name its neighbours
 module _ (ws : List ℕ) (c : ℕ) where
   linked-next : (p : ℕ) (cs : List ℕ) → Linked ws p cs → Mem c cs → word ws c nextInBin ≡ headOr 0 (past (eqb c) cs)
-  linked-next p (d ∷ ds) l m = go (ℕ-discrete c d) m (linked-next d ds (l .2))
+  linked-next p (d ∷ ds) (previous, next, links) m = go (ℕ-discrete c d) m (linked-next d ds links)
     where
       go : Dec (c ≡ d) → Mem c (d ∷ ds) → (Mem c ds → word ws c nextInBin ≡ headOr 0 (past (eqb c) ds))
           → word ws c nextInBin ≡ headOr 0 (past (eqb c) (d ∷ ds))
-      go (yes e) m f = rw (eq-eqb c d e, e) (l .1)
+      go (yes e) m f = rw (eq-eqb c d e, e) next
       go (no n) (List·Memᴰ·head e) f = absurd (n e)
       go (no n) (List·Memᴰ·tail k) f = rw (ne-eqb c d n) (f k)
 
   linked-previous : (p : ℕ) (cs : List ℕ) → Linked ws p cs → Mem c cs → word ws c previousInBin ≡ lastOr p (upTo (eqb c) cs)
-  linked-previous p (d ∷ ds) l m = go (ℕ-discrete c d) m (linked-previous d ds (l .2))
+  linked-previous p (d ∷ ds) (previous, next, links) m = go (ℕ-discrete c d) m (linked-previous d ds links)
     where
       go : Dec (c ≡ d) → Mem c (d ∷ ds) → (Mem c ds → word ws c previousInBin ≡ lastOr d (upTo (eqb c) ds))
           → word ws c previousInBin ≡ lastOr p (upTo (eqb c) (d ∷ ds))
-      go (yes e) m f = rw (eq-eqb c d e, e) (l .0)
+      go (yes e) m f = rw (eq-eqb c d e, e) previous
       go (no n) (List·Memᴰ·head e) f = absurd (n e)
       go (no n) (List·Memᴰ·tail k) f = rw (ne-eqb c d n) (f k)
 
@@ -67,9 +67,9 @@ nextBy bytes e = cond (eqb (chunkEnd e) bytes) 0 (chunkEnd e)
 
 next-behind : (bytes : ℕ) (e : Entry) (high : List Entry) → Tiled (chunkEnd e) high bytes → nextBy bytes e ≡ headOr 0 (placesOf high)
 next-behind bytes e [] t = rw (eq-eqb (chunkEnd e) bytes t)
-next-behind bytes e (d ∷ ds) t =
-    let u = tiled-up (chunkEnd d) bytes ds (t .2) in
-    rw (ne-eqb (chunkEnd e) bytes (omega (arith, t .0, t .1))) (sym (t .0))
+next-behind bytes e (d ∷ ds) (here, some, further) =
+    let up = tiled-up (chunkEnd d) bytes ds further in
+    rw (ne-eqb (chunkEnd e) bytes (omega arith)) (sym here)
 
 -- of a heap that passes only the question itself is refused
 judged-answer : (h : Heap) (p b : Bool) (v : ℕ) → p ≡ true
@@ -88,8 +88,8 @@ module _ (ws : List ℕ) (h : Heap) (k : Passes ws h) where
         → cond t (numberIn (binOf (tableOf h) (e .size))) 0 ≡ shown (numberOfBin (cond t (binOf (tableOf h) (e .size)) NoBin))
     number-is false o = refl
     number-is true o =
-        let r = k .binned e m o in
-        rw (r .1) (omega (arith, r .2 .0, k .table .bins))
+        let (i, takes, (below, listed)) = k .binned e m o in
+        rw takes (omega (arith, k .table .bins))
 
     -- what a word of the chunk tells of the list of its bin
     neighbour-is : (number : ℕ) (told : List ℕ → ℕ) → told [] ≡ 0
@@ -99,8 +99,8 @@ module _ (ws : List ℕ) (h : Heap) (k : Passes ws h) where
     unfolding asRead
     neighbour-is number told none linked false o = sym none
     neighbour-is number told none linked true o =
-        let r = k .binned e m o in
-        rw (r .1) (linked (binList ws h (r .0)) (k .bins (r .0) (r .2 .0) .links) (r .2 .1))
+        let (i, takes, (below, listed)) = k .binned e m o in
+        rw takes (linked (binList ws h i) (k .bins i below .links) listed)
 
     block-is : cond (liveM (h .bytes) (e .place) (e .flags)) (blockAt (e .place)) 0 ≡ shown (onlyIf (live h e) (blockOf e))
     block-is =
@@ -125,8 +125,9 @@ module _ (ws : List ℕ) (h : Heap) (k : Passes ws h) where
 
     next-place : nextBy (h .bytes) (here .here) ≡ shown (firstIn (placesOf (here .high)))
     next-place =
-        let t = tiled-cut 0 (h .bytes) (here .low) (here .here ∷ here .high) (rw (spot-splits p (shape ws (h .bytes)) found .0) at (tiled ws h k)) in
-        next-behind (h .bytes) (here .here) (here .high) (t .2 .2) ∙ shown-first (placesOf (here .high))
+        let (starts, some, further) =
+        tiled-cut 0 (h .bytes) (here .low) (here .here ∷ here .high) (rw (spot-splits p (shape ws (h .bytes)) found .0) at (tiled ws h k)) in
+        next-behind (h .bytes) (here .here) (here .high) (further .2) ∙ shown-first (placesOf (here .high))
 
     -- what the code tells of it
     abbrev figure : ℕ → ℕ

@@ -143,25 +143,27 @@ module _ (ws : List ℕ) (h : Heap) where
       audit-walked found.Fails k =
           not-so (passes-iff ws h) (λ p. false≢true (sym (rw even-is at k) ∙ walks .1 (rest-of p)))
       audit-walked (found.Passes c) k =
-          let j = rw even-is at k in
-          let p = passes-of (walks .0 (j .0)) in
-          (passes-iff ws h .1 p, j .1 ∙ counts-are p)
+          let (well, counts) = rw even-is at k in
+          let p = passes-of (walks .0 well) in
+          (passes-iff ws h .1 p, counts ∙ counts-are p)
 
 -- what the code lends on is there
 pub lent-words : (words bytes : ℕ) → fitsLengthM words bytes ≡ true → bytes / 4 ≤ words
 unfolding fitsLengthM
 lent-words words bytes e =
-    let t = both (both (at-most 10 words) (at-most words 16384)) (number-is (words / 2 * 8) bytes) .0 e in
-    omega (arith, t .1)
+    let (range, fits) = both (both (at-most 10 words) (at-most words 16384)) (number-is (words / 2 * 8) bytes) .0 e in
+    omega arith
 
 pub lent-sizes : (bins : ℕ) (sizes heads tails : List ℕ) → isTabledM bins sizes heads tails ≡ true → bins ≤ length sizes
 unfolding isTabledM
 lent-sizes bins sizes heads tails e =
+    let ((((enough, valid), sizesUnused), headsUnused), tailsUnused) =
     both
     (both (both (both (at-most bins (length sizes)) (itself (validTable (take bins sizes)))) (itself (unusedFrom bins sizes)))
     (itself (unusedFrom bins heads)))
     (itself (unusedFrom bins tails))
-    .0 e .0 .0 .0 .0
+    .0 e in
+    enough
 
 -- the answer of the check, by what was found
 module _ (ws : List ℕ) (h : Heap) {r : Audit} (k : AuditIs ws h r) where
@@ -172,8 +174,8 @@ module _ (ws : List ℕ) (h : Heap) {r : Audit} (k : AuditIs ws h r) where
   pub answer-counts : {c : Counts} → r ≡ found.Passes c → Counted c ≡ checked ws h
   unfolding AuditIs checked
   answer-counts {c} e =
-      let j : (passes ws h ≡ true) × (c ≡ countsOf h (shape ws (h .bytes))) = subst (λ (q : Audit). AuditIs ws h q) e k in
-      rw (j .0) (ap Counted (j .1))
+      let (well, counts) : (passes ws h ≡ true) × (c ≡ countsOf h (shape ws (h .bytes))) = subst (λ (q : Audit). AuditIs ws h q) e k in
+      rw well (ap Counted counts)
 
   -- and whether it passes
   pub finds-failing : r ≡ found.Fails → false ≡ passes ws h
@@ -185,5 +187,5 @@ module _ (ws : List ℕ) (h : Heap) {r : Audit} (k : AuditIs ws h r) where
   pub finds-passing : {c : Counts} → r ≡ found.Passes c → true ≡ passes ws h
   unfolding AuditIs
   finds-passing {c} e =
-      let j : (passes ws h ≡ true) × (c ≡ countsOf h (shape ws (h .bytes))) = subst (λ (q : Audit). AuditIs ws h q) e k in
-      sym (j .0)
+      let (well, counts) : (passes ws h ≡ true) × (c ≡ countsOf h (shape ws (h .bytes))) = subst (λ (q : Audit). AuditIs ws h q) e k in
+      sym well

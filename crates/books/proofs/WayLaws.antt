@@ -69,7 +69,7 @@ leave-off c cs x f =
 -- a word of the chunk at d that is none of its bin links is no link of a member, if each member is d or far from it
 pub no-link : (d k : ℕ) (cs : List ℕ) → k < 6 → k ≢ nextInBin → k ≢ previousInBin → d % 8 ≡ 0
     → ((c : ℕ) → Mem c cs → (c % 8 ≡ 0) × (d ≢ c → Far d c)) → NoLink (d / 4 + k) cs
-no-link d k cs s n3 n4 z f = λ c m. at c (f c m .0) (f c m .1) (ℕ-discrete d c)
+no-link d k cs s n3 n4 z f = λ c m. let (eight, far) = f c m in at c eight far (ℕ-discrete d c)
   where
     at : (c : ℕ) → c % 8 ≡ 0 → (d ≢ c → Far d c) → Dec (d ≡ c) → NoLinkOf (d / 4 + k) c
     at c e g (yes q) = omega arith
@@ -77,7 +77,7 @@ no-link d k cs s n3 n4 z f = λ c m. at c (f c m .0) (f c m .1) (ℕ-discrete d 
 
 -- no word of a chunk far from all members is a link of a member
 pub far-no-link : (d k : ℕ) (cs : List ℕ) → k < 6 → d % 8 ≡ 0 → ((c : ℕ) → Mem c cs → (c % 8 ≡ 0) × Far d c) → NoLink (d / 4 + k) cs
-far-no-link d k cs s z f = λ c m. at c (f c m .0) (f c m .1)
+far-no-link d k cs s z f = λ c m. let (eight, far) = f c m in at c eight far
   where
     at : (c : ℕ) → c % 8 ≡ 0 → Far d c → NoLinkOf (d / 4 + k) c
     at c e g = omega arith
@@ -85,7 +85,7 @@ far-no-link d k cs s z f = λ c m. at c (f c m .0) (f c m .1)
 -- nor is one of the first three words of the chunk at d, if the members below it end below it
 pub header-no-link : (d k : ℕ) (cs : List ℕ) → k < 3 → d % 8 ≡ 0
     → ((c : ℕ) → Mem c cs → (c % 8 ≡ 0) × (c < d → c + 24 ≤ d)) → NoLink (d / 4 + k) cs
-header-no-link d k cs s z f = λ c m. at c (f c m .0) (f c m .1) (decLt c d)
+header-no-link d k cs s z f = λ c m. let (eight, below) = f c m in at c eight below (decLt c d)
   where
     at : (c : ℕ) → c % 8 ≡ 0 → (c < d → c + 24 ≤ d) → Dec (c < d) → NoLinkOf (d / 4 + k) c
     at c e g (yes q) = let r = g q in omega arith
@@ -137,7 +137,7 @@ module _ (b : Books) (lists : ℕ → List ℕ) (n : ℕ) (w : OnWay b lists n) 
           record {
             head = h .head;
             tail = h .tail;
-            links = linked-keeps ss (b .words) (lists j) (λ d m. let o = f j d l m in (o .0, o .1)) (h .links);
+            links = linked-keeps ss (b .words) (lists j) (λ d m. let (next, previous, bin) = f j d l m in (next, previous)) (h .links);
             nodes = rw length-written (h .nodes);
             once = h .once;
           }
@@ -161,8 +161,8 @@ module _ (b : Books) (lists : ℕ → List ℕ) (n : ℕ) (w : OnWay b lists n) 
     stays j {d} k = go (member-relisted i (xs ++ ys) lists j k)
       where
         go : InRelisted i (xs ++ ys) lists j d → Mem d (lists j)
-        go (inl q) = rw (q .0, s) (member-with xs c ys (q .1))
-        go (inr q) = q .1
+        go (inl (own, k)) = rw (own, s) (member-with xs c ys k)
+        go (inr (other, k)) = k
 
     -- every other chunk is still in its list
     remains : (j : ℕ) {d : ℕ} → d ≢ c → Mem d (lists j) → Mem d (relisted i (xs ++ ys) lists j)
@@ -207,8 +207,8 @@ module _ (b : Books) (lists : ℕ → List ℕ) (n : ℕ) (w : OnWay b lists n) 
         twice e (inr k) = distinct-parts xs (c ∷ ys) (before .once) .right .0 (rw (← e) at k)
 
         gone : c ≡ d → InRelisted i (xs ++ ys) lists j d → ⊥
-        gone e (inl q) = twice e (List·Memᴰ·append-cases xs (q .1))
-        gone e (inr q) = w .apart j i lj l (q .0) d (q .1) (rw e at here)
+        gone e (inl (own, k)) = twice e (List·Memᴰ·append-cases xs k)
+        gone e (inr (other, k)) = w .apart j i lj l other d k (rw e at here)
 
   -- the chunk at c, a member of bin i, leaves it
   module _ (i c : ℕ) (l : i < n) (m : Mem c (lists i)) where
@@ -254,8 +254,8 @@ module _ {b : Books} {lists : ℕ → List ℕ} {n i : ℕ} {xs : List ℕ} {c :
       own q (inr m) = inl (rw (q, p .split) m)
 
       go : InRelisted i (xs ++ c ∷ ys) lists j d → From j d
-      go (inl q) = own (q .0) (member-without xs c ys (q .1))
-      go (inr q) = inl (q .1)
+      go (inl (q, m)) = own q (member-without xs c ys m)
+      go (inr (other, m)) = inl m
 
   put-each : (j : ℕ) → j < n → Holds (putAt b i xs c ys) j (relisted i (xs ++ c ∷ ys) lists j)
   put-each =
@@ -283,10 +283,10 @@ module _ {b : Books} {lists : ℕ → List ℕ} {n i : ℕ} {xs : List ℕ} {c :
       off (putStores i xs c ys) (b .words) d bin
       (put-off b i xs c ys (d / 4 + bin) (rw (p .split) at (way-no-link b lists n w i j d bin l lj m (omega arith) (omega arith) (omega arith))) (omega arith))
       ∙ w .binned j d lj m
-  put-binned j d lj (inr q) =
+  put-binned j d lj (inr (own, new)) =
       let ss : List Store = meet xs (c ∷ []) ++ meet (c ∷ []) ys in
       let k = length-written ss (b .words) in
-      rw (q .0, q .1, written-append ss (put c bin (8 * i) ∷ []) (b .words)) (word-same _ c bin (8 * i) (omega arith))
+      rw (own, new, written-append ss (put c bin (8 * i) ∷ []) (b .words)) (word-same _ c bin (8 * i) (omega arith))
 
   pub way-puts : OnWay (putAt b i xs c ys) (relisted i (xs ++ c ∷ ys) lists) n
   way-puts =

@@ -37,7 +37,7 @@ goes-up b [] =
     (λ h. record { eights = λ i l. absurd (omega arith); ascends = λ i l. absurd (omega arith) }, λ f. refl)
 goes-up b (c ∷ cs) =
     meaning (both (both (number-is (c % 8) 0) (less b c)) (goes-up c cs))
-    (λ h. follow-on (h .0 .0) (h .0 .1) (h .1))
+    (λ ((eight, up), further). follow-on eight up further)
     (λ f. (
       (f .eights 0 (omega arith), f .ascends 0 (omega arith)),
       record {
@@ -52,7 +52,7 @@ unfolding validTable
 valid-iff t =
     meaning
     (both (both (both (at-most 1 (length t)) (at-most (length t) 32)) (number-is (sizeAt t 0) 24)) (goes-up 24 (drop 1 t)))
-    (λ h. made t (h .0 .0 .0) (h .0 .0 .1) (h .0 .1) (h .1))
+    (λ (((some, few), first), up). made t some few first up)
     (λ v. (((v .some, v .few), v .first), rest t v))
   where
     made : (t : List ℕ) → 1 ≤ length t → length t ≤ 32 → sizeAt t 0 ≡ 24 → Follow 24 (drop 1 t) → ValidTable t
@@ -228,7 +228,7 @@ module _ (t : List ℕ) (v : ValidTable t) where
   unfolding takesBin
   takes-iff i s =
       meaning (both (both (less i (length t)) (at-most (sizeAt t i) s)) (or-else (at-most (length t) (suc i)) (less s (sizeAt t (suc i)))))
-      (λ h. sym (bin-is t s (Bin i) (record { inside = h .0 .0; notAbove = h .0 .1; last = λ j lo hi. above (h .1) j lo hi })))
+      (λ ((inside, notAbove), next). sym (bin-is t s (Bin i) (record { inside = inside; notAbove = notAbove; last = λ j lo hi. above next j lo hi })))
       (λ e. back (subst (λ (r : Binned). TakenBy t s r) e (bin-taken t s)))
     where
       above : (length t ≤ suc i) ⊎ (s < sizeAt t (suc i)) → (j : ℕ) → i < j → j < length t → s < sizeAt t j

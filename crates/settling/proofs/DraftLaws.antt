@@ -48,9 +48,9 @@ HeaderStores x (s ∷ ss) = (s .number ≤ 2) × Clears x (s .chunk) × HeaderSt
 header-stores-off : (x : ℕ) (ss : List Store) → x % 8 ≡ 0 → HeaderStores x ss → PassBy ss x
 header-stores-off x [] z a = (tt, tt, tt)
 header-stores-off x (s ∷ ss) z (a, (e, f), r) =
-    let o = header-stores-off x ss z r in
-    let k = apart (s .chunk) (s .number) a e (decLt x (s .chunk)) f in
-    ((k .0, o .0), (k .1, o .1), (k .2, o .2))
+    let (nexts, previouses, bins) = header-stores-off x ss z r in
+    let (next, previous, bin) = apart (s .chunk) (s .number) a e (decLt x (s .chunk)) f in
+    ((next, nexts), (previous, previouses), (bin, bins))
   where
     apart : (y n : ℕ) → n ≤ 2 → y % 8 ≡ 0 → Dec (x < y) → (x < y → x + 24 ≤ y)
         → (x / 4 + 3 ≢ y / 4 + n) × (x / 4 + 4 ≢ y / 4 + n) × (x / 4 + 5 ≢ y / 4 + n)
@@ -154,9 +154,9 @@ module _ (ws : List ℕ) (h : Heap) (d : Draft) (f : Follows ws h d) where
     link-follows g zc zt =
         relink-follows low (entry c (to - c) unused ∷ []) high
         (λ j x l m.
-        let k = g j x l (f .from j x l m) in
-        let a : Clears x c = (zc, k .0) in
-        let b : Clears x (headOr outside high .place) = rw next (zt, k .1) in
+        let (belowNew, belowNext) = g j x l (f .from j x l m) in
+        let a : Clears x c = (zc, belowNew) in
+        let b : Clears x (headOr outside high .place) = rw next (zt, belowNext) in
         ((omega arith, a, (omega arith, a, (omega arith, a, (omega arith, b, tt))))))
 
   -- a chunk far from all that are in bins is put into the bin of its size
@@ -172,17 +172,17 @@ module _ (ws : List ℕ) (h : Heap) (d : Draft) (f : Follows ws h d) where
     pub put-step : putInBinM (booksOf ws d) (tableOf h) c s ≡ booksOf ws (putInBin (entry c s u) d)
     unfolding putInBinM putBinnedM putInBin
     put-step =
-        let b = bin-from (tableOf h) (p .table .valid) s large in
-        let l : b .0 < h .bins = omega (arith, b .2 .inside, length-take (h .bins) (h .sizes)) in
-        rw (f .table, b .1, put-between (b .0) c d, f .table, put-into-is (f .way) (b .0) c l (smallBins (tableOf h)))
-        (between-is (b .0) _ _)
+        let (i, is, taken) = bin-from (tableOf h) (p .table .valid) s large in
+        let l : i < h .bins = omega (arith, taken .inside, length-take (h .bins) (h .sizes)) in
+        rw (f .table, is, put-between i c d, f .table, put-into-is (f .way) i c l (smallBins (tableOf h)))
+        (between-is i _ _)
 
     -- of the record only the bins' ends change
     put-keeps : let after = putInBin (entry c s u) d in after .heap ≡ withEnds h (after .heap .heads) (after .heap .tails)
     unfolding putInBin putBetween
     put-keeps =
-        let b = bin-from (tableOf h) (p .table .valid) s large in
-        rw (f .table, b .1, put-between (b .0) c d) (rw (f .heap))
+        let (i, is, taken) = bin-from (tableOf h) (p .table .valid) s large in
+        rw (f .table, is, put-between i c d) (rw (f .heap))
 
     put-settles : Settled ws h (booksOf ws d) Ordinary c s (settle Ordinary (entry c s u) d)
     unfolding settleM settle

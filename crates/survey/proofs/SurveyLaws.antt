@@ -43,12 +43,12 @@ module _ (ws : List ℕ) (bytes : ℕ) where
   sizes-sum =
       chain-by ws bytes (λ c es. c ≤ bytes → total (λ (e : Entry). e .size) es ≡ bytes - c)
       (λ c n h. omega arith)
-      (λ c es u r h. let s = r (omega (arith, u .1)) in omega (arith, u .0, u .1))
+      (λ c es (up, inside) r h. let s = r (omega arith) in omega arith)
 
   pub chunks-few : (c : ℕ) → length (chainFrom ws bytes c) ≤ max 1 (bytes - c)
   chunks-few =
       chain-by ws bytes (λ c es. length es ≤ max 1 (bytes - c)) (λ c n. omega arith)
-      (λ c es u r. omega (arith, u .0, u .1))
+      (λ c es (up, inside) r. omega arith)
 
   -- the chain is never empty
   chain-last : (d f : Entry) (c : ℕ) → lastOr d (chainFrom ws bytes c) ≡ lastOr f (chainFrom ws bytes c)
@@ -176,7 +176,7 @@ module _ (ws : List ℕ) (s : Summary) where
       where
         go : Dec (end c ≡ s .bytes) → allSound ws s p (chain c) ≡ false
         go (yes e) = rw (chain-here ws (s .bytes) c e, h)
-        go (no n) = rw (chain-next ws (s .bytes) c n .2, h)
+        go (no n) = let (up, inside, further) = chain-next ws (s .bytes) c n in rw (further, h)
 
     module _ (k : Kind) (kind : k ≡ kindM s (chunk c))
         (h : soundAt ws s p (chunk c) ≡ true) where
@@ -194,16 +194,16 @@ module _ (ws : List ℕ) (s : Summary) where
       goes-on : (end c ≡ s .bytes → ⊥)
           → Onward ms₀ (markM ms k c) (addedM t (shareOf k (end c - c)) c) c (end c)
       goes-on n =
-          let r = chain-next ws (s .bytes) c n in
+          let (up, inside, further) = chain-next ws (s .bytes) c n in
           rw kind
           (record {
-            inside = omega (arith, r .1);
-            sound = rw (r .2, h) at (o .sound);
-            marks = rw (r .2) at (o .marks);
+            inside = omega arith;
+            sound = rw (further, h) at (o .sound);
+            marks = rw further at (o .marks);
             tally =
-                ap (λ (u : Tally). counted u (chain (end c))) (unwrapped fits t c _ _ (r .2) (o .tally))
+                ap (λ (u : Tally). counted u (chain (end c))) (unwrapped fits t c _ _ further (o .tally))
                 ∙ recounted t (chunk c) c (chain (end c)) (chain-last ws (s .bytes) outside (chunk c) (end c))
-                ∙ (rw (r .2) at (o .tally));
+                ∙ (rw further at (o .tally));
           })
 
 -- at the start everything is left
@@ -256,13 +256,13 @@ module _ {ws : List ℕ} {s : Summary} {ms₀ ms : List ℕ} {t : Tally} {p c : 
       {t′ : Tally} (et : t′ ≡ addedM t share c) {ms′ : List ℕ} (em : ms′ ≡ markM ms k c) where
     pub walk-ends : e ≡ s .bytes → SurveyIs ws s ms₀ ms′ (Surveyed t′)
     walk-ends q =
-        let r = told-sound k ek in
-        rw (et, em, sh, end-is) (ends ws s fits ms₀ ms t p c o k (r .0) (r .1) (sym end-is ∙ q))
+        let (kind, sound) = told-sound k ek in
+        rw (et, em, sh, end-is) (ends ws s fits ms₀ ms t p c o k kind sound (sym end-is ∙ q))
 
     pub walk-goes : (e ≡ s .bytes → ⊥) → (c < n) × (n < s .bytes) × Onward ws s ms₀ ms′ t′ c n
     walk-goes f =
-        let r = told-sound k ek in
+        let (kind, sound) = told-sound k ek in
         let m : end ws s c ≡ s .bytes → ⊥ = λ q. f (end-is ∙ q) in
-        let h = chain-next ws (s .bytes) c m in
+        let (up, inside, further) = chain-next ws (s .bytes) c m in
         let link : n ≡ end ws s c = links .0 ∙ end-link ws (s .bytes) c m in
-        rw (et, em, sh, end-is, link) (h .0, h .1, goes-on ws s fits ms₀ ms t p c o k (r .0) (r .1) m)
+        rw (et, em, sh, end-is, link) (up, inside, goes-on ws s fits ms₀ ms t p c o k kind sound m)
