@@ -1,4 +1,5 @@
 -- `audit::is_tabled` makes its five tests in turn. Assumes nothing.
+-- The four blanks of each law are the bin count, the sizes, the heads and the tails; the goal fills them in.
 use mathlib.Core.Path.{sym}
 use lib.Seq.{length-take-le}
 use borrow.Author.Needs.{needs}

@@ -46,6 +46,7 @@ look-spec =
     returns-2
     (λ c. search needs)
     (λ c. sym (length-take-le _ _ (lent-words _ _ (fits (long (c .before .before))))))
+    -- the blanks of `lent-sizes` are the bin count, the sizes, the heads and the tails
     (λ c. sym (length-take-le _ _ (lent-sizes _ _ _ _ (tabled (c .before .before .before)))))
     (λ c κs. search needs)
     returns-3)

@@ -1,4 +1,5 @@
 -- `blocks::copy_block` copies word by word. The invariant: what is left to copy comes to the whole copy. Assumes nothing.
+-- The blanks of the two laws are the region, from where, to where, how many words, and the word that is next.
 use Prim.Native.Nat.{_-_}
 use native.Mathlib.Omega.{arith}
 use mathlib.Core.Path.{_≡_, refl, _∙_}

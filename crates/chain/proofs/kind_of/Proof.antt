@@ -1,4 +1,5 @@
 -- `chain::kind_of` makes the tests of a chunk's kind in their order. Assumes nothing.
+-- The four blanks of each law are the heap bytes, the donor, the top and the chunk; the goal fills them in.
 use native.Mathlib.Omega.{arith}
 use borrow.Author.Needs.{needs}
 use Rattle.rules.proofs.KindsLaws.{kind-start, kind-end, kind-in-use, kind-top, kind-donor, kind-ordinary}

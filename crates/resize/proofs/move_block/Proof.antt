@@ -1,4 +1,5 @@
 -- `resize::move_block` is its definition, call by call. Assumes nothing.
+-- The blanks of `served-recorded` are the words, the table, the record and the order; of `given-recorded` the place is the last.
 use Prim.Native.Nat.{ℕ}
 use mathlib.Core.Path.{_≡_, refl, sym}
 use lib.ListN.{length}

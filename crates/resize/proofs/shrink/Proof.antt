@@ -1,4 +1,5 @@
 -- `resize::shrink` is its definition, call by call. Assumes nothing.
+-- The blanks of `given-recorded` are the words, the table, the record and the place.
 use borrow.Author.Needs.{needs}
 use Rattle.release.proofs.GiveSteps.{given-recorded}
 use Rattle.resize.proofs.ResizeSteps.{shrinks, shrunk-by}

@@ -1,4 +1,5 @@
 -- `flat::hand_back` gives the reply in words, and packs the record where the call is accepted. Assumes nothing.
+-- The first four blanks of each law are the record's words before, the answer's words, the answer and the record; the goal fills them in.
 use borrow.Author.Needs.{needs}
 use Rattle.abi.proofs.HandedLaws.{refusal-keeps, acceptance-packs}
 use Rattle.abi.proofs.flat.hand_back.Statement.{statement}
