@@ -7,7 +7,7 @@ use mathlib.Core.List.{List, [], _∷_, _++_, append-assoc, List·Memᴰ·head, 
 use Prim.Native.Nat.{ℕ, _+_, _-_, _%_, _<_}
 use native.Mathlib.Omega.{arith}
 use Rattle.lists.specs.Lists.{Mem}
-use Rattle.lists.proofs.SplitLaws.{among, outer-in, middle-in, all-but}
+use Rattle.lists.proofs.SplitLaws.{among, middle-in, all-but}
 use Rattle.record.specs.declared.heap.Heap.{Heap}
 use Rattle.region.specs.Words.{written}
 use Rattle.rules.specs.Shape.{Entry, entry, chunkEnd}
@@ -18,7 +18,7 @@ use Rattle.rules.proofs.SpotLaws.{Between}
 use Rattle.rules.proofs.TiledLaws.{Tiled, tiled-empty}
 use Rattle.drafts.proofs.LivesLaws.{lives, lives-free}
 use Rattle.drafts.proofs.PostsLaws.{Posts, top-at, donor-at}
-use Rattle.drafts.proofs.LayoutLaws.{Laid, Layout, cuts, outer-beside, beside-elsewhere, layout-replaced, laid-between}
+use Rattle.drafts.proofs.LayoutLaws.{Laid, Layout, cuts, outer-elsewhere, layout-replaced, laid-between}
 use Rattle.drafts.proofs.HeaderLaws.{headed-cut, headed-below}
 use Rattle.drafts.proofs.HalfwayLaws.{Halfway, Opened}
 use Rattle.drafts.proofs.OpenLaws.{Loose, opened-kept, opened-left}
@@ -185,9 +185,7 @@ module _ {ws : List ℕ} {h : Heap} {base : List Entry} where
       above-widens o = widened (opened-kept above-loose o)
 
       pub above-apart : (z : Entry) → Mem z (low ++ high) → z .place ≢ x .place
-      above-apart z m =
-          beside-elsewhere z x (outer-beside low pair high pair-laid m (List·Memᴰ·tail (List·Memᴰ·head refl)))
-          (pair-laid .chunks z (outer-in low pair high m) .some) (above-laid .some)
+      above-apart z m = outer-elsewhere low pair high pair-laid m (List·Memᴰ·tail (List·Memᴰ·head refl))
 
       pub above-higher : from < x .place
       above-higher = let b = gap-between in let n = above-next in omega arith

@@ -8,7 +8,7 @@ use native.Mathlib.Omega.{arith}
 use lib.ListN.{length}
 use Rattle.lists.specs.Lists.{Mem, headOr, lastOr}
 use Rattle.lists.proofs.MembersLaws.{last-append}
-use Rattle.lists.proofs.SplitLaws.{first-stays, last-stays, among, outer-in, all-but}
+use Rattle.lists.proofs.SplitLaws.{first-stays, last-stays, among, outer-in, middle-in, all-but}
 use Rattle.record.specs.declared.heap.Heap.{Heap}
 use Rattle.rules.specs.Shape.{Entry, shape, chunkEnd}
 use Rattle.rules.specs.Kinds.{outside}
@@ -26,7 +26,7 @@ every-other low e high x m n = all-but low e high m (λ q. n (ap (λ (d : Entry)
 abbrev pub Beside : Entry → Entry → Type 0
 Beside d e = (chunkEnd d ≤ e .place) ⊎ (chunkEnd e ≤ d .place)
 
-pub beside-elsewhere : (d e : Entry) → Beside d e → 8 ≤ d .size → 8 ≤ e .size → d .place ≢ e .place
+beside-elsewhere : (d e : Entry) → Beside d e → 8 ≤ d .size → 8 ≤ e .size → d .place ≢ e .place
 beside-elsewhere d e (inl b) s t q = omega arith
 beside-elsewhere d e (inr b) s t q = omega arith
 
@@ -120,6 +120,10 @@ module _ {bytes : ℕ} (low mid high : List Entry) (y : Layout bytes (low ++ mid
           let (begins, _, _) = tiled-in (cuts .to) bytes high (cuts .above) j in
           let (_, _, ends) = tiled-in (cuts .from) (cuts .to) mid (cuts .middle) k in
           inr (omega arith)
+
+  pub outer-elsewhere : {d e : Entry} → Mem d (low ++ high) → Mem e mid → d .place ≢ e .place
+  outer-elsewhere {d} {e} m k =
+      beside-elsewhere d e (outer-beside m k) (y .chunks d (outer-in low mid high m) .some) (y .chunks e (middle-in low mid high k) .some)
 
 -- the chunks `olds` are replaced by the chunks `news`, which fill the same bytes
 module _ {bytes : ℕ} (low olds news high : List Entry) (y : Layout bytes (low ++ olds ++ high))

@@ -17,7 +17,7 @@ use Rattle.rules.specs.Draft.{Draft, asRead, leaveBin}
 use Rattle.rules.proofs.SpotLaws.{Between}
 use Rattle.rules.proofs.TiledLaws.{tiled-empty}
 use Rattle.drafts.proofs.PostsLaws.{TopAmong, DonorAmong}
-use Rattle.drafts.proofs.LayoutLaws.{Beside, Layout, Cuts, layout-read, cuts, outer-beside, beside-elsewhere, every-other}
+use Rattle.drafts.proofs.LayoutLaws.{Beside, Layout, Cuts, layout-read, cuts, outer-beside, outer-elsewhere, every-other}
 use Rattle.drafts.proofs.HeaderLaws.{Header, Headed, headed-cut, headed-read}
 use Rattle.drafts.proofs.HalfwayLaws.{recordMidway, EndsAlone, same-kind, Halfway, halfway-begins, halfway-fewer, Opened}
 use Rattle.drafts.proofs.LeaveLaws.{Among, leave-headed, leave-halfway, leave-same}
@@ -62,9 +62,7 @@ module _ {ws : List ℕ} {h : Heap} {low : List Entry} {x : Entry} {high : List 
     among-two = record { halfway = l .halfway; layout = y; sub = stays }
 
     apart : (z : Entry) → Mem z (low ++ high) → z .place ≢ x .place
-    apart z m =
-        beside-elsewhere z x (outer-beside low two high y m there) (y .chunks z (outer-in low two high m) .some)
-        (y .chunks x (middle-in low two high there) .some)
+    apart z m = outer-elsewhere low two high y m there
 
     same-headed : (b : Entry) (es : List Entry) (n : Entry) → ((z : Entry) → Mem z es → Mem z (low ++ high)) → Headed (written ws (d .stores)) b es n
         → Headed (written ws (leaveBin x d .stores)) b es n
@@ -101,7 +99,7 @@ module _ {ws : List ℕ} {h : Heap} {low : List Entry} {e : Entry} {high : List 
   beside x m = outer-beside low (e ∷ []) high laid-out m (List·Memᴰ·head refl)
 
   pub elsewhere : (x : Entry) → Mem x (low ++ high) → x .place ≢ e .place
-  elsewhere x m = beside-elsewhere x e (beside x m) (laid-out .chunks x (outer-in low (e ∷ []) high m) .some) (omega arith)
+  elsewhere x m = outer-elsewhere low (e ∷ []) high laid-out m (List·Memᴰ·head refl)
 
   pub outer : (x : Entry) → Mem x (shape ws (h .bytes)) → x .place ≢ e .place → Mem x (low ++ high)
   outer x m n = every-other low e high x (subst (λ (l : List Entry). Mem x l) whole m) n

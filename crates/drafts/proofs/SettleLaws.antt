@@ -92,8 +92,8 @@ module _ {ws : List ℕ} {h : Heap} {stay : List Entry} {d : Draft} {all : List 
       go (inl b) = let p = y .chunks x m .eight in let r = y .chunks x m .free z in omega arith
       go (inr b) = let p = y .chunks x m .eight in let r = between in omega arith
 
-  elsewhere : (x : Entry) → Mem x stay → x .place ≢ c .place
-  elsewhere x m q = u .new (rw (laid-once y (sub x m) (u .there) q) at m)
+  pub unsettled-elsewhere : (x : Entry) → Mem x stay → x .place ≢ c .place
+  unsettled-elsewhere x m q = u .new (rw (laid-once y (sub x m) (u .there) q) at m)
 
   -- c is put into bin i, between xs and ys
   module _ (kind : ordinary (recordMidway h d) c ≡ true) (long : h .bytes ≤ 4 * length ws) (i : ℕ) (l : i < h .bins) (t : binOf (tableOf h) (c .size) ≡ Bin i)
@@ -136,7 +136,7 @@ module _ {ws : List ℕ} {h : Heap} {stay : List Entry} {d : Draft} {all : List 
           midway-below (u .among) i z′ l j x (sub x m) .0,
           member-far (u .among) x (sub x m) (r .free z .some) (not-listed (u .among) x m o) i z′ l j,
         )))
-        (own-apart x (sub x m) z (elsewhere x m) k b) in
+        (own-apart x (sub x m) z (unsettled-elsewhere x m) k b) in
         (off nextInBin (omega arith), off previousInBin (omega arith), off bin (omega arith))
 
     put-members : (j x : ℕ) → j < h .bins → Mem x (lists j) → Belonging h (d .heap .donor .0) (d .heap .top .0) (c ∷ stay) j x
@@ -238,7 +238,7 @@ module _ {ws : List ℕ} {h : Heap} {stay : List Entry} {d : Draft} {all : List 
     named-unbinned : (x : Entry) → Mem x (c ∷ stay) → x .flags ≡ 0 → ordinaryKind (kindAt (h .bytes) donor top x) ≡ false → Unbinned cleared (x .place)
     named-unbinned x (List·Memᴰ·head q) z o = rw q own-unbinned
     named-unbinned x (List·Memᴰ·tail k) z o =
-        let off : (j : ℕ) → j < 6 → Off (x .place / 4 + j) (noBinWords (c .place)) = own-apart x (sub x k) z (elsewhere x k) in
+        let off : (j : ℕ) → j < 6 → Off (x .place / 4 + j) (noBinWords (c .place)) = own-apart x (sub x k) z (unsettled-elsewhere x k) in
         unbinned-keeps (noBinWords (c .place)) (off nextInBin (omega arith), off previousInBin (omega arith), off bin (omega arith))
         (f .reserved x k z (sym (same-ordinary x k) ∙ o))
 

@@ -20,10 +20,10 @@ use Rattle.rules.proofs.KindsLaws.{Used, kind-top, kind-donor, kind-ordinary, d
 use Rattle.rules.proofs.SpotLaws.{Between, bounds}
 use Rattle.drafts.proofs.LivesLaws.{lives-same}
 use Rattle.drafts.proofs.PostsLaws.{Posts}
-use Rattle.drafts.proofs.LayoutLaws.{Layout, laid-once}
+use Rattle.drafts.proofs.LayoutLaws.{Layout}
 use Rattle.drafts.proofs.HeaderLaws.{Headed}
 use Rattle.drafts.proofs.HalfwayLaws.{recordMidway, EndsAlone, Halfway, halfway-others}
-use Rattle.drafts.proofs.SettleLaws.{PlaceTaken, Unsettled, settles-in-bin, settles-as-donor, settles-as-top}
+use Rattle.drafts.proofs.SettleLaws.{PlaceTaken, Unsettled, unsettled-elsewhere, settles-in-bin, settles-as-donor, settles-as-top}
 use Rattle.drafts.proofs.PictureLaws.{Pictured, pictured}
 
 -- the chain es is linked: the chunks `stay` are settled (`Halfway`), the free chunks `wait` are in no bin yet, all others are in use.
@@ -82,7 +82,7 @@ module _ {ws : List ℕ} {h : Heap} (p : Passes ws h) where
     between = w .layout .chunks c there .free free
 
     elsewhere : (x : Entry) → Mem x stay → x .place ≢ c .place
-    elsewhere x m q = out (rw (laid-once (w .layout) (w .stays x m) there q) at m)
+    elsewhere = unsettled-elsewhere unsettled
 
     -- the kind of a chunk by the record g
     kind-by : (x : Entry) → kindOf (recordMidway h d) x ≡ kindAt (h .bytes) (g .donor .0) (g .top .0) x
