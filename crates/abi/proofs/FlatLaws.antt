@@ -11,9 +11,9 @@ use mir.Val.{boolByte}
 use Rattle.abi.specs.Flat.{recordWords}
 
 -- one more word
-pub copies-one : (to from now : List ℕ) (at i : ℕ) → at + length from ≤ length to → now ≡ paste to at from i → i < length from
-    → set now (at + i) (getD from i 0) ≡ paste to at from (i + 1)
-copies-one to from now at i fits e l = rw (e, add-one i) (paste-suc to at from i 0 (omega arith) (omega arith))
+pub copies-one : (to from after : List ℕ) (at i : ℕ) → at + length from ≤ length to → after ≡ paste to at from i → i < length from
+    → set after (at + i) (getD from i 0) ≡ paste to at from (i + 1)
+copies-one to from after at i fits e l = rw (e, add-one i) (paste-suc to at from i 0 (omega arith) (omega arith))
 
 -- a part of the flat record
 pub part-length : (rs : List ℕ) (n : ℕ) → length rs ≡ recordWords → n + 32 ≤ recordWords → length (take 32 (drop n rs)) ≡ 32
@@ -30,17 +30,17 @@ abbrev pub BeginsWith : ℕ → List ℕ → List ℕ → Type 0
 BeginsWith n there words = (length words ≡ recordWords) × (take n words ≡ there)
 
 -- one part more
-pub part-goes-on : (n m : ℕ) (to from there now : List ℕ) → length from ≡ m → n + m ≤ recordWords → BeginsWith n there to
-    → now ≡ paste to n from (length from) → BeginsWith (n + m) (there ++ from) now
-part-goes-on n m to from there now size inside (whole, begins) e =
+pub part-goes-on : (n m : ℕ) (to from there after : List ℕ) → length from ≡ m → n + m ≤ recordWords → BeginsWith n there to
+    → after ≡ paste to n from (length from) → BeginsWith (n + m) (there ++ from) after
+part-goes-on n m to from there after size inside (whole, begins) e =
     let fits : n + length from ≤ length to = omega arith in
     (ap length e ∙ length-paste to n from (length from) fits (omega arith) ∙ whole, rw (e, sym size) (take-paste to n from (length from) (omega arith) (omega arith) ∙ rw (begins, take-length from) refl))
 
 -- the four parts of the record, one after the other
-pub four-parts : (now first sizes heads tails : List ℕ) → BeginsWith recordWords (((first ++ sizes) ++ heads) ++ tails) now
-    → now ≡ first ++ (sizes ++ (heads ++ tails))
-four-parts now first sizes heads tails (whole, begins) =
-    sym (take-all recordWords now (omega arith)) ∙ begins ∙ append-assoc (first ++ sizes) heads tails ∙ append-assoc first sizes (heads ++ tails)
+pub four-parts : (after first sizes heads tails : List ℕ) → BeginsWith recordWords (((first ++ sizes) ++ heads) ++ tails) after
+    → after ≡ first ++ (sizes ++ (heads ++ tails))
+four-parts after first sizes heads tails (whole, begins) =
+    sym (take-all recordWords after (omega arith)) ∙ begins ∙ append-assoc (first ++ sizes) heads tails ∙ append-assoc first sizes (heads ++ tails)
 
 -- a Boolean as the machine's byte, and as the word of the record
 pub merge-word : (on : Bool) → boolByte on ≡ cond on 1 0

@@ -49,10 +49,10 @@ module _ (rs five : List ℕ) (a : Answer) (h : Heap) (e : five ≡ answerOut a)
   acceptance-packs after z p = (first-is, (e, rw (eq-eqb (refusalOut a) 0 (sym first-is ∙ z)) p))
 
 -- a damaged merge word
-pub refuses : {ws rs : List ℕ} (o : Outcome) {r : ℕ} {five : List ℕ} → 1 < getD rs mergePlace 0 → (r ≡ 4) × (five ≡ answerOut (Refused HeapFails))
+pub refuses-merge-word : {ws rs : List ℕ} (o : Outcome) {r : ℕ} {five : List ℕ} → 1 < getD rs mergePlace 0 → (r ≡ 4) × (five ≡ answerOut (Refused HeapFails))
     → handed r five rs ws ≡ handedBy ws rs o
 unfolding handedBy
-refuses o l (n, e) = rw (lt-leb _ _ l, n, e) refl
+refuses-merge-word o l (n, e) = rw (lt-leb _ _ l, n, e) refl
 
 module _ (ws rs : List ℕ) where
   -- a call on the record that the words say

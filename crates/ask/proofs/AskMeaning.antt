@@ -33,7 +33,7 @@ use Rattle.rules.proofs.AskLaws.{shown-first, shown-last}
 use Rattle.rules.proofs.SpotLaws.{spot-member, spot-splits, tiled}
 use Rattle.seek.specs.Seek.{placed, soughtM, liveM, hasBlockM}
 use Rattle.seek.proofs.SeekLaws.{live-is, sought-none, sought-spot, sought-block}
-use Rattle.details.specs.Details.{sizeM, numberIn, binNumberM, ofPlaceM, asksOfBinM, ofMemberM, ofChunkM}
+use Rattle.details.specs.Details.{numberIn, binNumberM, ofPlaceM, asksOfBinM, ofMemberM, ofChunkM}
 use Rattle.ask.specs.Questions.{toldOf, holderOf, askChunkM, askBinM}
 
 -- the place of the last chunk is the last of the places
@@ -136,7 +136,7 @@ module _ (ws : List ℕ) (h : Heap) (k : Passes ws h) where
         (placed (lastOr (entry 0 0 0) (here .low) .place) (here .here))
 
     figure-is : (q : ℕ) → 1 ≤ q → q ≤ 9 → (q ≡ 3 → ⊥) → figure q ≡ answerTo q (chunkAnswers (asRead ws h) here)
-    unfolding asRead ofChunkM asksOfBinM ofPlaceM ofMemberM binNumberM sizeM
+    unfolding asRead ofChunkM asksOfBinM ofPlaceM ofMemberM binNumberM
     figure-is zero lo hi n = absurd (omega arith)
     figure-is (suc zero) lo hi n = rw size-is (number-is (here .here) member (ordinary h (here .here)) refl)
     figure-is (suc (suc zero)) lo hi n = block-is (here .here) member

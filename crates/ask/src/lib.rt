@@ -11,12 +11,12 @@ use details::of_chunk;
 use record::answers::Answer;
 use record::answers::Refusal;
 use record::heap::Summary;
-use record::questions::BIN_NUMBER;
-use record::questions::CHUNK;
-use record::questions::COUNT;
-use record::questions::FIRST;
-use record::questions::LAST;
-use record::questions::TYPE;
+use record::questions::ASK_BIN;
+use record::questions::ASK_CHUNK;
+use record::questions::ASK_COUNT;
+use record::questions::ASK_FIRST;
+use record::questions::ASK_LAST;
+use record::questions::ASK_TYPE;
 use region::Block;
 use region::Chunk;
 use region::NEXT_IN_BIN;
@@ -45,7 +45,7 @@ fn ask_place(region: &[u32], table: &[u32], summary: Summary, question: u32, pla
     Answer::Told(of_chunk(region, table, summary, question, found))
 }
 
-// The questions are numbered from BIN_NUMBER to TYPE; CHUNK alone is asked of a block.
+// The questions are numbered from ASK_BIN to ASK_TYPE; ASK_CHUNK alone is asked of a block.
 pub fn ask_chunk(
     region: &[u32],
     table: &[u32],
@@ -55,13 +55,13 @@ pub fn ask_chunk(
 ) -> Answer
     ensures { λ r. ⌜ r ≡ askChunkM (now (region .entry)) (now (table .entry)) summary question place ⌝ }
 {
-    if question == CHUNK {
+    if question == ASK_CHUNK {
         return ask_block(region, summary.bytes, Block(place));
     }
-    if question < BIN_NUMBER {
+    if question < ASK_BIN {
         return Answer::Refused(Refusal::NotThere);
     }
-    if TYPE < question {
+    if ASK_TYPE < question {
         return Answer::Refused(Refusal::NotThere);
     }
     ask_place(region, table, summary, question, place)
@@ -97,13 +97,13 @@ pub fn ask_bin(
         return Answer::Refused(Refusal::NotThere);
     }
     let first = list_end(heads, bin as usize);
-    if question == COUNT {
+    if question == ASK_COUNT {
         return Answer::Told(count_members(region, first, summary.bytes));
     }
-    if question == FIRST {
+    if question == ASK_FIRST {
         return Answer::Told(first);
     }
-    if question == LAST {
+    if question == ASK_LAST {
         return Answer::Told(list_end(tails, bin as usize));
     }
     Answer::Refused(Refusal::NotThere)

@@ -10,7 +10,7 @@ use region::store;
 use region::word;
 
 // The first word of a block, by its number in the chunk: it follows the two links.
-const FIRST: u32 = OVERHEAD / 4;
+const FIRST_WORD: u32 = OVERHEAD / 4;
 
 fn clear(words: &mut [u32])
     ensures { λ _. ⌜ now (words .exit) ≡ replicate (length (now (words .entry))) 0 ⌝ }
@@ -41,7 +41,7 @@ pub fn clear_block(region: &mut [u32], block: Block, end: u32)
 pub fn copy_block(region: &mut [u32], from: Chunk, to: Chunk, words: u32)
     ensures { λ _. ⌜ now (region .exit) ≡ copiedM (words - 2) (now (region .entry)) (from .0) (to .0) 2 ⌝ }
 {
-    let mut number = FIRST;
+    let mut number = FIRST_WORD;
     while number < words {
         let value = word(region, from, number);
         store(region, to, number, value);

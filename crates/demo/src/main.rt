@@ -4,10 +4,10 @@ use io::print_decimal;
 use io::write_all;
 use record::answers::Answer;
 use record::heap::Heap;
-use record::questions::BIN_NUMBER;
-use record::questions::NEXT;
-use record::questions::SIZE;
-use record::questions::TYPE;
+use record::questions::ASK_BIN;
+use record::questions::ASK_NEXT;
+use record::questions::ASK_SIZE;
+use record::questions::ASK_TYPE;
 use region::Block;
 
 fn told(answer: Answer) -> u32 {
@@ -43,7 +43,7 @@ fn print_free(region: &mut [u32], heap: Heap, chunk: u32) {
         return;
     }
     write_all(1, b"free ");
-    print_decimal(1, ask(region, heap, BIN_NUMBER, chunk) as u64);
+    print_decimal(1, ask(region, heap, ASK_BIN, chunk) as u64);
     write_all(1, b"\n");
 }
 
@@ -52,11 +52,11 @@ fn print_kind(region: &mut [u32], heap: Heap, chunk: u32) {
         write_all(1, b"start\n");
         return;
     }
-    if ask(region, heap, NEXT, chunk) == 0 {
+    if ask(region, heap, ASK_NEXT, chunk) == 0 {
         write_all(1, b"end\n");
         return;
     }
-    if ask(region, heap, TYPE, chunk) == 1 {
+    if ask(region, heap, ASK_TYPE, chunk) == 1 {
         write_all(1, b"inuse\n");
         return;
     }
@@ -65,7 +65,7 @@ fn print_kind(region: &mut [u32], heap: Heap, chunk: u32) {
 
 fn print_chunk(region: &mut [u32], heap: Heap, chunk: u32) {
     print_number(chunk);
-    print_number(ask(region, heap, SIZE, chunk));
+    print_number(ask(region, heap, ASK_SIZE, chunk));
     print_kind(region, heap, chunk);
 }
 
@@ -80,7 +80,7 @@ fn print_chunks(region: &mut [u32], heap: Heap) {
     let mut left = MOST_CHUNKS;
     while left != 0 {
         print_chunk(region, heap, chunk);
-        chunk = ask(region, heap, NEXT, chunk);
+        chunk = ask(region, heap, ASK_NEXT, chunk);
         if chunk == 0 {
             return;
         }

@@ -17,8 +17,8 @@ use Rattle.region.specs.Words.{word, nextInBin, previousInBin}
 use Rattle.rules.specs.Kinds.{ordinaryKind}
 use Rattle.rules.specs.Shape.{entry}
 use Rattle.seek.specs.declared.Place.{Place}
-use Rattle.seek.specs.Seek.{liveM}
-use Rattle.details.specs.Details.{sizeM, binNumberM, ofPlaceM, asksOfBinM, ofMemberM, ofChunkM}
+use Rattle.seek.specs.Seek.{liveM, sizeIn}
+use Rattle.details.specs.Details.{binNumberM, ofPlaceM, asksOfBinM, ofMemberM, ofChunkM}
 
 -- the number of the bin that takes a size, and 0 if none does
 module _ (table : List ℕ) (s : ℕ) {r : Binned} (k : TakenBy table s r) where
@@ -56,7 +56,7 @@ module _ (bytes q : ℕ) (x : Place) where
       previous-told is = rw (ne-eqb q 2 not-two, ne-eqb q 4 not-four, eq-eqb q 6 is)
 
       module _ (not-six : q ≡ 6 → ⊥) where
-        pub size-told : q ≡ 8 → {s : ℕ} → s ≡ sizeM x → s ≡ ofPlaceM bytes q x
+        pub size-told : q ≡ 8 → {s : ℕ} → s ≡ sizeIn x → s ≡ ofPlaceM bytes q x
         unfolding ofPlaceM
         size-told is es = rw (ne-eqb q 2 not-two, ne-eqb q 4 not-four, ne-eqb q 6 not-six, eq-eqb q 8 is) es
 
@@ -87,7 +87,7 @@ pub of-member : {ws table : List ℕ} {q : ℕ} {x : Place} {v : ℕ} → OfMemb
 of-member m = m .is
 
 module _ {ws table : List ℕ} {q : ℕ} {x : Place} where
-  pub number-told : q ≡ 1 → {z b : ℕ} → z ≡ sizeM x → b ≡ binNumberM table z → OfMember ws table q x b
+  pub number-told : q ≡ 1 → {z b : ℕ} → z ≡ sizeIn x → b ≡ binNumberM table z → OfMember ws table q x b
   unfolding ofMemberM
   number-told is ez eb = record { is = rw (eq-eqb q 1 is, ← ez) eb }
 
@@ -117,8 +117,8 @@ module _ {ws table : List ℕ} {s : Summary} {q : ℕ} {x : Place} {t : Bool} (e
       {u : Bool} (eu : u ≡ ordinaryKind k) where
     pub no-member : not u ≡ true → OfChunk ws table s q x 0
     unfolding ofChunkM
-    no-member h = record { is = rw (← et, not-false t ht, ← ek (sizeM x), ← eu, not-true u h) }
+    no-member h = record { is = rw (← et, not-false t ht, ← ek (sizeIn x), ← eu, not-true u h) }
 
     pub member-told : not u ≡ false → {v : ℕ} → v ≡ ofMemberM ws table q x → OfChunk ws table s q x v
     unfolding ofChunkM
-    member-told h ev = record { is = rw (← et, not-false t ht, ← ek (sizeM x), ← eu, not-false u h) ev }
+    member-told h ev = record { is = rw (← et, not-false t ht, ← ek (sizeIn x), ← eu, not-false u h) ev }

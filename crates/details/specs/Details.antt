@@ -2,7 +2,7 @@
 -- It mirrors the code; that on a heap that passes these are the answers of the rules is proved in `ask`.
 use mathlib.Core.Bool.{Bool, true, cond}
 use mathlib.Core.List.{List}
-use Prim.Native.Nat.{ℕ, _-_, _%_}
+use Prim.Native.Nat.{ℕ, _%_}
 use lib.Dec.{eqb}
 use Rattle.chain.specs.Chain.{kindM}
 use Rattle.record.specs.declared.heap.Summary.{Summary}
@@ -14,10 +14,7 @@ use Rattle.region.specs.Words.{word, nextInBin, previousInBin}
 use Rattle.rules.specs.Kinds.{ordinaryKind}
 use Rattle.rules.specs.Shape.{entry}
 use Rattle.seek.specs.declared.Place.{Place}
-use Rattle.seek.specs.Seek.{liveM}
-
-unfoldable pub sizeM : Place → ℕ
-sizeM x = x .end - x .chunk .0
+use Rattle.seek.specs.Seek.{liveM, sizeIn}
 
 abbrev pub numberIn : Binned → ℕ
 numberIn (Bin i) = i % 32
@@ -32,7 +29,7 @@ ofPlaceM bytes q x =
     cond (eqb q 2) (cond (liveM bytes (x .chunk .0) (x .flags)) (blockAt (x .chunk .0)) 0)
     (cond (eqb q 4) (cond (eqb (x .end) bytes) 0 (x .end))
     (cond (eqb q 6) (x .before .0)
-    (cond (eqb q 8) (sizeM x) (x .flags))))
+    (cond (eqb q 8) (sizeIn x) (x .flags))))
 
 unfoldable pub asksOfBinM : ℕ → Bool
 asksOfBinM q = cond (eqb q 1) true (cond (eqb q 5) true (eqb q 7))
@@ -40,11 +37,11 @@ asksOfBinM q = cond (eqb q 1) true (cond (eqb q 5) true (eqb q 7))
 -- bin number (1), next in bin (5), and else previous in bin
 unfoldable pub ofMemberM : List ℕ → List ℕ → ℕ → Place → ℕ
 ofMemberM ws table q x =
-    cond (eqb q 1) (binNumberM table (sizeM x))
+    cond (eqb q 1) (binNumberM table (sizeIn x))
     (cond (eqb q 5) (word ws (x .chunk .0) nextInBin) (word ws (x .chunk .0) previousInBin))
 
 unfoldable pub ofChunkM : List ℕ → List ℕ → Summary → ℕ → Place → ℕ
 ofChunkM ws table s q x =
     cond (asksOfBinM q)
-    (cond (ordinaryKind (kindM s (entry (x .chunk .0) (sizeM x) (x .flags)))) (ofMemberM ws table q x) 0)
+    (cond (ordinaryKind (kindM s (entry (x .chunk .0) (sizeIn x) (x .flags)))) (ofMemberM ws table q x) 0)
     (ofPlaceM (s .bytes) q x)

@@ -1,18 +1,19 @@
 // What one chunk tells: of itself and its neighbours on the chain, and as a member of its bin. Where it is was found on the chain before.
 // Nothing is written.
 ghost use mathlib.Core.Path.{_≡_};
-ghost use Rattle.details.specs.Details.{asksOfBinM, binNumberM, ofChunkM, ofMemberM, ofPlaceM, sizeM};
+ghost use Rattle.details.specs.Details.{asksOfBinM, binNumberM, ofChunkM, ofMemberM, ofPlaceM};
+ghost use Rattle.seek.specs.Seek.{sizeIn};
 use chain::is_ordinary;
 use chain::kind_of;
 use record::heap::PLACES;
 use record::heap::Summary;
-use record::questions::BIN_NUMBER;
-use record::questions::BLOCK;
-use record::questions::NEXT;
-use record::questions::NEXT_MEMBER;
-use record::questions::PREVIOUS;
-use record::questions::PREVIOUS_MEMBER;
-use record::questions::SIZE;
+use record::questions::ASK_BIN;
+use record::questions::ASK_BLOCK;
+use record::questions::ASK_NEXT;
+use record::questions::ASK_NEXT_IN_BIN;
+use record::questions::ASK_PREVIOUS;
+use record::questions::ASK_PREVIOUS_IN_BIN;
+use record::questions::ASK_SIZE;
 use record::table::Binned;
 use record::table::bin_of;
 use region::NEXT_IN_BIN;
@@ -24,7 +25,7 @@ use seek::has_live_block;
 
 // A place that was found ends above its chunk. The test is there so that the subtraction needs no requirement.
 fn size_of(place: Place) -> u32
-    ensures { λ r. ⌜ r ≡ sizeM place ⌝ }
+    ensures { λ r. ⌜ r ≡ sizeIn place ⌝ }
 {
     if place.end < place.chunk.0 {
         return 0;
@@ -47,22 +48,22 @@ fn bin_number(table: &[u32], size: u32) -> u32
 fn of_place(bytes: u32, question: u32, place: Place) -> u32
     ensures { λ r. ⌜ r ≡ ofPlaceM bytes question place ⌝ }
 {
-    if question == BLOCK {
+    if question == ASK_BLOCK {
         if !has_live_block(bytes, place.chunk, place.flags) {
             return 0;
         }
         return block_of(place.chunk).0;
     }
-    if question == NEXT {
+    if question == ASK_NEXT {
         if place.end == bytes {
             return 0;
         }
         return place.end;
     }
-    if question == PREVIOUS {
+    if question == ASK_PREVIOUS {
         return place.before.0;
     }
-    if question == SIZE {
+    if question == ASK_SIZE {
         return size_of(place);
     }
     place.flags
@@ -71,23 +72,23 @@ fn of_place(bytes: u32, question: u32, place: Place) -> u32
 fn asks_of_bin(question: u32) -> bool
     ensures { λ r. ⌜ r ≡ asksOfBinM question ⌝ }
 {
-    if question == BIN_NUMBER {
+    if question == ASK_BIN {
         return true;
     }
-    if question == NEXT_MEMBER {
+    if question == ASK_NEXT_IN_BIN {
         return true;
     }
-    question == PREVIOUS_MEMBER
+    question == ASK_PREVIOUS_IN_BIN
 }
 
 // What an ordinary chunk tells as a member of its bin.
 fn of_member(region: &[u32], table: &[u32], question: u32, place: Place) -> u32
     ensures { λ r. ⌜ r ≡ ofMemberM (now (region .entry)) (now (table .entry)) question place ⌝ }
 {
-    if question == BIN_NUMBER {
+    if question == ASK_BIN {
         return bin_number(table, size_of(place));
     }
-    if question == NEXT_MEMBER {
+    if question == ASK_NEXT_IN_BIN {
         return word(region, place.chunk, NEXT_IN_BIN);
     }
     word(region, place.chunk, PREVIOUS_IN_BIN)

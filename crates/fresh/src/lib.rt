@@ -9,7 +9,7 @@ use region::BACKWARD;
 use region::Chunk;
 use region::END_SIZE;
 use region::FORWARD;
-use region::USED;
+use region::IN_USE;
 use region::store;
 
 pub mod first_record;
@@ -19,7 +19,7 @@ fn write_start(region: &mut [u32])
     ensures { λ _. ⌜ now (region .exit) ≡ written (now (region .entry)) startWords ⌝ }
 {
     store(region, Chunk(0), FORWARD, END_SIZE);
-    store(region, Chunk(0), BACKWARD, USED);
+    store(region, Chunk(0), BACKWARD, IN_USE);
 }
 
 // No chunk follows the end: its forward link is 0.
@@ -31,7 +31,7 @@ fn write_end(region: &mut [u32], top: Chunk, end: Chunk)
         region,
         end,
         BACKWARD,
-        std::num::wrapping_add_u32(top.0, USED),
+        std::num::wrapping_add_u32(top.0, IN_USE),
     );
 }
 

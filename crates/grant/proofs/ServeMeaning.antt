@@ -25,12 +25,12 @@ use Rattle.grant.proofs.CutMeaning.{Serving, Taken, chunk-taken}
 use Rattle.drafts.proofs.GrantKept.{source, theGrant, sourceChunk, can, low, high}
 
 -- what is left where the rule's grant was written, with this record and this chunk
-abbrev granting : List ℕ → Grant → Heap → Entry → AfterGrant
-granting ws g h e = record { words = written ws (g .draft .stores); heap = h; chunk = at (e .place); size = e .size }
+abbrev handedAs : List ℕ → Grant → Heap → Entry → AfterGrant
+handedAs ws g h e = record { words = written ws (g .draft .stores); heap = h; chunk = at (e .place); size = e .size }
 
 -- the rule's grant, as the code hands it back
 abbrev pub handedOn : List ℕ → Grant → AfterGrant
-handedOn ws g = granting ws g (g .draft .heap) (g .granted)
+handedOn ws g = handedAs ws g (g .draft .heap) (g .granted)
 
 -- no more is granted than the chunk has
 granted-few : (n s : ℕ) → n ≤ s → grantedM n s ≤ s
@@ -49,7 +49,7 @@ taken-is {ws} {h} {e = e} {m = m} {g = g} few t =
     let z : e .place + m - e .place ≡ m = omega arith in
     let u : (h .used + m) % 2 ^ 32 ≡ h .used + m = omega arith in
     rw (t .is, t .rest, z, u)
-    (ap (λ (x : Heap). granting ws g x (entry (e .place) m used)) (sym (t .heap)) ∙ ap (granting ws g (g .draft .heap)) (sym (t .granted)))
+    (ap (λ (x : Heap). handedAs ws g x (entry (e .place) m used)) (sym (t .heap)) ∙ ap (handedAs ws g (g .draft .heap)) (sym (t .granted)))
 
 module _ {ws : List ℕ} {h : Heap} {n : ℕ} (room : Grantable ws h n) where
   abbrev e : Entry

@@ -9,10 +9,10 @@ use region::BACKWARD;
 use region::BIN;
 use region::Chunk;
 use region::FORWARD;
+use region::IN_USE;
 use region::NEXT_IN_BIN;
 use region::PREVIOUS_IN_BIN;
 use region::SIZE;
-use region::USED;
 use region::store;
 
 // Of places in the wrong order, which no heap that passes has, the distance is 0: the function needs no requirement.
@@ -49,7 +49,7 @@ pub fn write_used(region: &mut [u32], before: Chunk, chunk: Chunk, next: Chunk)
         region,
         chunk,
         BACKWARD,
-        std::num::wrapping_add_u32(before.0, USED),
+        std::num::wrapping_add_u32(before.0, IN_USE),
     );
 }
 

@@ -56,19 +56,19 @@ NumbersRise n [] = Unit {0}
 NumbersRise n (t ∷ ts) = (n < numberOf (t .1)) × NumbersRise (numberOf (t .1)) ts
 
 -- the refusals that the tests give
-abbrev given : Refusals → List Refusal
-given ts = map (λ (t : Bool × Refusal). t .1) ts
+abbrev refusalsOf : Refusals → List Refusal
+refusalsOf ts = map (λ (t : Bool × Refusal). t .1) ts
 
 -- every reason that holds has a test
 abbrev pub Stands : (Refusal → Type 0) → Refusals → Type 0
-Stands B ts = (r : Refusal) → B r → Mem r (given ts)
+Stands B ts = (r : Refusal) → B r → Mem r (refusalsOf ts)
 
 -- r is the first number whose reason holds
 abbrev IsFirst : (Refusal → Type 0) → Refusal → Type 0
 IsFirst B r = B r × ((q : Refusal) → numberOf q < numberOf r → B q → ⊥)
 
 -- the numbers are above n
-higher : (n : ℕ) (ts : Refusals) → NumbersRise n ts → {r : Refusal} → Mem r (given ts) → n < numberOf r
+higher : (n : ℕ) (ts : Refusals) → NumbersRise n ts → {r : Refusal} → Mem r (refusalsOf ts) → n < numberOf r
 higher n (t ∷ ts) u (List·Memᴰ·head e) = rw e (u .0)
 higher n (t ∷ ts) u (List·Memᴰ·tail m) = let a = higher (numberOf (t .1)) ts (u .1) m in omega arith
 
@@ -83,18 +83,18 @@ module _ (B : Refusal → Type 0) (h : Heap) (o : Outcome) (accepted : Accepted 
         λ f. no-other f b (s r (f .0)),
       )
     where
-      lower : (y : Refusal) → numberOf y < numberOf x → Mem y (x ∷ given ts) → ⊥
+      lower : (y : Refusal) → numberOf y < numberOf x → Mem y (x ∷ refusalsOf ts) → ⊥
       lower y l (List·Memᴰ·head e) = let q = ap numberOf e in omega arith
       lower y l (List·Memᴰ·tail m) = let a = higher (numberOf x) ts (u .1) m in omega arith
 
-      no-other : IsFirst B r → B x → Mem r (x ∷ given ts) → Refused x ≡ Refused r
+      no-other : IsFirst B r → B x → Mem r (x ∷ refusalsOf ts) → Refused x ≡ Refused r
       no-other f b (List·Memᴰ·head e) = ap Refused (sym e)
       no-other f b (List·Memᴰ·tail m) = absurd (f .1 x (higher (numberOf x) ts (u .1) m) b)
   judged-first n ((false, x) ∷ ts) u s (decides, later) r =
       let none : B x → ⊥ = λ b. false≢true (decides .1 b) in
       judged-first (numberOf x) ts (u .1) (λ y k. further none y k (s y k)) (later none) r
     where
-      further : (B x → ⊥) → (y : Refusal) → B y → Mem y (x ∷ given ts) → Mem y (given ts)
+      further : (B x → ⊥) → (y : Refusal) → B y → Mem y (x ∷ refusalsOf ts) → Mem y (refusalsOf ts)
       further none y k (List·Memᴰ·head e) = absurd (none (rw e at k))
       further none y k (List·Memᴰ·tail m) = m
 

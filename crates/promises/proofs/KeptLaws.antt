@@ -45,8 +45,8 @@ use Rattle.promises.proofs.GrantedLaws.{cleared-within}
 use Rattle.promises.proofs.FreshLaws.{fresh-passes}
 
 -- the state that an outcome leaves for the next call
-abbrev left : List ℕ → Heap → Outcome → State
-left ws h o = record { words = written ws (o .stores); heap = recordAfter h (o .heap) (o .answer) }
+abbrev stateLeft : List ℕ → Heap → Outcome → State
+stateLeft ws h o = record { words = written ws (o .stores); heap = recordAfter h (o .heap) (o .answer) }
 
 -- the heap passes once a draft's stores are written
 abbrev PassesAfter : List ℕ → Draft → Type 0
@@ -79,8 +79,8 @@ setup-kept table donor merge ws h a =
 
 module _ (ws : List ℕ) (h : Heap) (p : Passes ws h) where
   -- a refusal leaves the heap as it was
-  judged-passes : (came : Heap) (o : Outcome) (ts : Refusals) → (Failed ts → Passing (left ws h o)) → Passing (left ws h (judged came ts o))
-  judged-passes came o ts = judged-so (λ x. Passing (left ws h x)) came o ts (λ r. p)
+  judged-passes : (came : Heap) (o : Outcome) (ts : Refusals) → (Failed ts → Passing (stateLeft ws h o)) → Passing (stateLeft ws h (judged came ts o))
+  judged-passes came o ts = judged-so (λ x. Passing (stateLeft ws h x)) came o ts (λ r. p)
 
   -- the live block at b is to have z bytes: it moves; it is resized, by moving or not
   module _ (b : ℕ) (l : isLive (asRead ws h) b ≡ true) (z : ℕ) where
@@ -104,21 +104,21 @@ module _ (ws : List ℕ) (h : Heap) (p : Passes ws h) where
         (λ spare. shrink-kept (block-shrinks p b l z spare) .passes) p
 
   -- a block is granted, and `fill` written into it
-  with-passes : (fill : Entry → List Store) → ((e : Entry) → Within e (fill e)) → (z : ℕ) → Passing (left ws h (allocateWith fill ws h z))
+  with-passes : (fill : Entry → List Store) → ((e : Entry) → Within e (fill e)) → (z : ℕ) → Passing (stateLeft ws h (allocateWith fill ws h z))
   with-passes fill within z =
       let e = grant (need overhead z) (asRead ws h) .granted in
       judged-passes h (allocated fill (asRead ws h) z) (allocateRefusals (heapFails ws h) (asRead ws h) z)
       (λ (_, (_, (some, _))). granted-filled (need-grantable z p some) (fill e) (within e) .passes)
 
-  allocate-passes : (z : ℕ) → Passing (left ws h (allocate ws h z))
+  allocate-passes : (z : ℕ) → Passing (stateLeft ws h (allocate ws h z))
   unfolding allocate
   allocate-passes = with-passes asFound (λ e. tt)
 
-  cleared-passes : (count size : ℕ) → Passing (left ws h (allocateCleared ws h count size))
+  cleared-passes : (count size : ℕ) → Passing (stateLeft ws h (allocateCleared ws h count size))
   unfolding allocateCleared
   cleared-passes count size = with-passes cleared cleared-within (count * size)
 
-  free-passes : (b : ℕ) → Passing (left ws h (free ws h b))
+  free-passes : (b : ℕ) → Passing (stateLeft ws h (free ws h b))
   unfolding free asRead
   free-passes b =
       judged-passes h (freed (asRead ws h) b) (freeRefusals (heapFails ws h) (asRead ws h) b) (λ (_, (l, _)). go (eqb b 0) l)
@@ -128,17 +128,17 @@ module _ (ws : List ℕ) (h : Heap) (p : Passes ws h) where
       go true l = p
       go false l = free-kept ws h p b (not-false (isLive (asRead ws h) b) l) .passes
 
-  resize-passes : (b z : ℕ) → Passing (left ws h (resize ws h b z))
+  resize-passes : (b z : ℕ) → Passing (stateLeft ws h (resize ws h b z))
   unfolding resize
   resize-passes b z =
       judged-passes h (resizedTo ws (asRead ws h) b z) (resizeRefusals (heapFails ws h) ws (asRead ws h) b z)
       (λ (_, (_, (l, (room, _)))). resized-passes b (not-false (isLive (asRead ws h) b) l) z room)
 
-  reallocate-passes : (b z : ℕ) → Passing (left ws h (reallocate ws h b z))
+  reallocate-passes : (b z : ℕ) → Passing (stateLeft ws h (reallocate ws h b z))
   unfolding reallocate
   reallocate-passes b z = go (eqb b 0)
     where
-      go : (t : Bool) → Passing (left ws h (cond t (allocate ws h z) (resize ws h b z)))
+      go : (t : Bool) → Passing (stateLeft ws h (cond t (allocate ws h z) (resize ws h b z)))
       go true = allocate-passes z
       go false = resize-passes b z
 
@@ -173,15 +173,15 @@ module _ (ws : List ℕ) (h : Heap) (p : Passes ws h) where
         used = p .used;
       }
 
-  merge-passes : (on : Bool) → Passing (left ws h (setMerge ws h on))
+  merge-passes : (on : Bool) → Passing (stateLeft ws h (setMerge ws h on))
   unfolding setMerge
   merge-passes on = judged-passes h (unchanged (withMerge h on) Done) (heapFails ws h ∷ []) (λ _. merged on)
 
   -- a call that changes nothing
-  told-passes : (a : Answer) → Passing (left ws h (unchanged h a))
+  told-passes : (a : Answer) → Passing (stateLeft ws h (unchanged h a))
   told-passes a = rw (same-record h a) p
 
-  step-passes : (call : Call) → Passing (left ws h (step call ws h))
+  step-passes : (call : Call) → Passing (stateLeft ws h (step call ws h))
   unfolding step setup check askChunk askBin
   step-passes (Setup table donor merge) =
       let bytes = heapBytes (length ws) in

@@ -37,34 +37,34 @@ use Rattle.promises.specs.Wrong.{refusesAlways, sameBlock, idleFree, inv
 use Rattle.promises.proofs.ReasonLaws.{live-iff}
 
 -- the demonstration's heap after so many of its calls, in a region of zeros
-abbrev after : ℕ → State
-after k = run (opening ∷ take k turns) (record { words = replicate 64 0; heap = empty })
+abbrev afterCalls : ℕ → State
+afterCalls k = run (opening ∷ take k turns) (record { words = replicate 64 0; heap = empty })
 
 -- it passes when fresh, after call 1 and after call 7
 passing : (s : State) → passes (s .words) (s .heap) ≡ true → Passes (s .words) (s .heap)
 passing s = passes-iff (s .words) (s .heap) .0
 
-fresh-passes : Passes (after 0 .words) (after 0 .heap)
+fresh-passes : Passes (afterCalls 0 .words) (afterCalls 0 .heap)
 unfolding computes
-fresh-passes = passing (after 0) refl
+fresh-passes = passing (afterCalls 0) refl
 
-first-passes : Passes (after 1 .words) (after 1 .heap)
+first-passes : Passes (afterCalls 1 .words) (afterCalls 1 .heap)
 unfolding computes
-first-passes = passing (after 1) refl
+first-passes = passing (afterCalls 1) refl
 
-seventh-passes : Passes (after 7 .words) (after 7 .heap)
+seventh-passes : Passes (afterCalls 7 .words) (afterCalls 7 .heap)
 unfolding computes
-seventh-passes = passing (after 7) refl
+seventh-passes = passing (afterCalls 7) refl
 
 -- some chunk of the fresh heap can serve 16 bytes
-fresh-serves : any (serves (tableOf (after 0 .heap)) (after 0 .heap .donor .0) (after 0 .heap .top .0) (need overhead 16)) (shape (after 0 .words) (after 0 .heap .bytes)) ≡ true
+fresh-serves : any (serves (tableOf (afterCalls 0 .heap)) (afterCalls 0 .heap .donor .0) (afterCalls 0 .heap .top .0) (need overhead 16)) (shape (afterCalls 0 .words) (afterCalls 0 .heap .bytes)) ≡ true
 unfolding computes serves
 fresh-serves = refl
 
 -- an allocator that refuses always
 pub room-refutes-refusing : Room refusesAlways → ⊥
 room-refutes-refusing promised =
-    let s : State = after 0 in
+    let s : State = afterCalls 0 in
     let none = promised (s .words) (s .heap) fresh-passes .allocate 16 refl .0 refl in
     let (e, m, t) = for-some (λ x. itself (serves (tableOf (s .heap)) (s .heap .donor .0) (s .heap .top .0) (need overhead 16) x)) (shape (s .words) (s .heap .bytes)) .0 fresh-serves in
     false≢true (sym (none e m) ∙ t)
@@ -81,58 +81,58 @@ granted-once way promised ws h p z block change d k q =
     go e b n (inr l) = let t = need-large z in omega arith
 
 -- from the fresh heap the rules grant block 16, which is then the only live block
-abbrev granting : State
-granting = record { words = ours (Allocate 16) (after 0 .words) (after 0 .heap) .words; heap = ours (Allocate 16) (after 0 .words) (after 0 .heap) .heap }
+abbrev grantedOnce : State
+grantedOnce = record { words = ours (Allocate 16) (afterCalls 0 .words) (afterCalls 0 .heap) .words; heap = ours (Allocate 16) (afterCalls 0 .words) (afterCalls 0 .heap) .heap }
 
-granting-live : every (λ e. not (live (granting .heap) e) || eqb (blockOf e) 16) (shape (granting .words) (granting .heap .bytes)) ≡ true
+granted-once-live : every (λ e. not (live (grantedOnce .heap) e) || eqb (blockOf e) 16) (shape (grantedOnce .words) (grantedOnce .heap .bytes)) ≡ true
 unfolding computes ours
-granting-live = refl
+granted-once-live = refl
 
-first-live : isLive (asRead (after 1 .words) (after 1 .heap)) 16 ≡ true
+first-live : isLive (asRead (afterCalls 1 .words) (afterCalls 1 .heap)) 16 ≡ true
 unfolding computes
 first-live = refl
 
-first-held : (d : Entry) × HoldsBlock (after 1 .words) (after 1 .heap) 16 d
-first-held = live-iff (after 1 .words) (after 1 .heap) 16 .0 first-live
+first-held : (d : Entry) × HoldsBlock (afterCalls 1 .words) (afterCalls 1 .heap) 16 d
+first-held = live-iff (afterCalls 1 .words) (afterCalls 1 .heap) 16 .0 first-live
 
 -- an allocator that grants the same block each time, whichever block: calls 1 and 2 of the demonstration
 pub apart-refutes-same-block : (block : Block) → Apart (sameBlock block) → ⊥
 apart-refutes-same-block block promised =
-    let (e, from, (held, cut)) = promised (after 0 .words) (after 0 .heap) fresh-passes .allocate 16 block (pos (need overhead 16)) refl .0 in
-    let is16 : blockOf e ≡ 16 = for-each (λ x. if-then (itself (live (granting .heap) x)) (number-is (blockOf x) 16)) (shape (granting .words) (granting .heap .bytes)) .0
-    granting-live e (held .member) (held .live) in
+    let (e, from, (held, cut)) = promised (afterCalls 0 .words) (afterCalls 0 .heap) fresh-passes .allocate 16 block (pos (need overhead 16)) refl .0 in
+    let is16 : blockOf e ≡ 16 = for-each (λ x. if-then (itself (live (grantedOnce .heap) x)) (number-is (blockOf x) 16)) (shape (grantedOnce .words) (grantedOnce .heap .bytes)) .0
+    granted-once-live e (held .member) (held .live) in
     let (d, k) = first-held in
-    granted-once (sameBlock block) promised (after 1 .words) (after 1 .heap) first-passes 17 block (pos (need overhead 17)) d
+    granted-once (sameBlock block) promised (afterCalls 1 .words) (afterCalls 1 .heap) first-passes 17 block (pos (need overhead 17)) d
     (rw (sym (held .block) ∙ is16) k) refl
 
 -- a free that does nothing: block 16 is still live
 pub apart-refutes-idle-free : Apart idleFree → ⊥
 apart-refutes-idle-free promised =
     let (d, k) = first-held in
-    promised (after 1 .words) (after 1 .heap) first-passes .free 16 d k .1 d (k .member) (k .live) .2 (k .block)
+    promised (afterCalls 1 .words) (afterCalls 1 .heap) first-passes .free 16 d k .1 d (k .member) (k .live) .2 (k .block)
 
 -- a count of chunks in a bin that is the same each time: bin 2 is empty in the fresh heap and has a chunk after call 7
-fresh-count : (2 < after 0 .heap .bins) × (length (binList (after 0 .words) (after 0 .heap) 2) ≡ 0)
+fresh-count : (2 < afterCalls 0 .heap .bins) × (length (binList (afterCalls 0 .words) (afterCalls 0 .heap) 2) ≡ 0)
 unfolding computes
 fresh-count = (ltb-true 2 4 refl, refl)
 
-seventh-count : (2 < after 7 .heap .bins) × (length (binList (after 7 .words) (after 7 .heap) 2) ≡ 1)
+seventh-count : (2 < afterCalls 7 .heap .bins) × (length (binList (afterCalls 7 .words) (afterCalls 7 .heap) 2) ≡ 1)
 unfolding computes
 seventh-count = (ltb-true 2 4 refl, refl)
 
 pub counts-refute-invented-count : (n : ℕ) → Counting (inventedCount n) → ⊥
 counts-refute-invented-count n promised =
     let value : Answer → ℕ = λ a. figuresOf a .value in
-    let none = ap value (promised .count (after 0 .words) (after 0 .heap) fresh-passes 2 (fresh-count .0)) in
-    let one = ap value (promised .count (after 7 .words) (after 7 .heap) seventh-passes 2 (seventh-count .0)) in
+    let none = ap value (promised .count (afterCalls 0 .words) (afterCalls 0 .heap) fresh-passes 2 (fresh-count .0)) in
+    let one = ap value (promised .count (afterCalls 7 .words) (afterCalls 7 .heap) seventh-passes 2 (seventh-count .0)) in
     omega (arith, none ∙ fresh-count .1, one ∙ seventh-count .1)
 
 -- used bytes that are the same each time: none in the fresh heap, 24 after call 1
-fresh-used : after 0 .heap .used ≡ 0
+fresh-used : afterCalls 0 .heap .used ≡ 0
 unfolding computes
 fresh-used = refl
 
-first-used : after 1 .heap .used ≡ 24
+first-used : afterCalls 1 .heap .used ≡ 24
 unfolding computes
 first-used = refl
 
@@ -143,6 +143,6 @@ invented-used n promised ws h p =
 
 pub counts-refute-invented-used : (n : ℕ) → Counting (inventedUsed n) → ⊥
 counts-refute-invented-used n promised =
-    let none = invented-used n promised (after 0 .words) (after 0 .heap) fresh-passes ∙ fresh-used in
-    let some = invented-used n promised (after 1 .words) (after 1 .heap) first-passes ∙ first-used in
+    let none = invented-used n promised (afterCalls 0 .words) (afterCalls 0 .heap) fresh-passes ∙ fresh-used in
+    let some = invented-used n promised (afterCalls 1 .words) (afterCalls 1 .heap) first-passes ∙ first-used in
     omega arith

@@ -23,9 +23,10 @@ pub const PREVIOUS_IN_BIN: u32 = 4;
 pub const BIN: u32 = 5;
 
 // The flags of a chunk in use; a free chunk has none. They stand in the three low bits of the backward link.
-pub const USED: u32 = 1;
+pub const IN_USE: u32 = 1;
 
 // The document's figures, by the names that the rules give them; each stands once, in the lowest crate that knows it.
+// Where places and sizes are multiples of 8, and flags what is beyond one, this 8 stands as a figure, as in the rules.
 // A block starts above the two links of its chunk.
 pub const OVERHEAD: u32 = 8;
 

@@ -19,15 +19,13 @@ use Rattle.rules.specs.Calls.{State}
 use Rattle.rules.specs.Serve.{nowhere}
 use Rattle.rules.specs.Statements.{Left}
 use Rattle.seek.specs.declared.Place.{Place}
-
-abbrev sizeM : Place → ℕ
-sizeM p = p .end - p .chunk .0
+use Rattle.seek.specs.Seek.{sizeIn}
 
 unfoldable pub shrinkM : List ℕ → List ℕ → Heap → Place → ℕ → Left
 shrinkM ws table h p n =
     let rest : ℕ = (p .chunk .0 + n) % 2 ^ 32 in
     let s : State = givenUpM (store ws (p .chunk .0) forward rest) table h (record { before = p .chunk; chunk = at rest; end = p .end; flags = p .flags }) in
-    left (Granted (record { 0 = blockAt (p .chunk .0) }) (changeM (sizeM p) n)) (s .heap) (s .words)
+    left (Granted (record { 0 = blockAt (p .chunk .0) }) (changeM (sizeIn p) n)) (s .heap) (s .words)
 
 -- the chunk of the block, with the chunk below it as its link names it
 unfoldable pub rereadM : List ℕ → Place → Place
@@ -38,9 +36,9 @@ rereadM ws p =
 -- what is made of a grant that the block moves to
 unfoldable pub movedM : List ℕ → Place → AfterGrant → Left
 movedM table p l =
-    let ws : List ℕ = copiedM (sizeM p / 4 - 2) (l .words) (p .chunk .0) (l .chunk .0) 2 in
+    let ws : List ℕ = copiedM (sizeIn p / 4 - 2) (l .words) (p .chunk .0) (l .chunk .0) 2 in
     let s : State = givenUpM ws table (l .heap) (rereadM ws p) in
-    left (Granted (record { 0 = blockAt (l .chunk .0) }) (changeM (sizeM p) (l .size))) (s .heap) (s .words)
+    left (Granted (record { 0 = blockAt (l .chunk .0) }) (changeM (sizeIn p) (l .size))) (s .heap) (s .words)
 
 unfoldable pub moveM : List ℕ → List ℕ → Heap → Place → ℕ → Left
 moveM ws table h p n =
@@ -49,6 +47,6 @@ moveM ws table h p n =
 
 unfoldable pub resizeM : List ℕ → List ℕ → Heap → Place → ℕ → Left
 resizeM ws table h p n =
-    cond (ltb (sizeM p) n) (moveM ws table h p n)
-    (cond (leb (n + 24) (sizeM p)) (shrinkM ws table h p n)
-    (left (Granted (record { 0 = blockAt (p .chunk .0) }) (changeM (sizeM p) (sizeM p))) h ws))
+    cond (ltb (sizeIn p) n) (moveM ws table h p n)
+    (cond (leb (n + 24) (sizeIn p)) (shrinkM ws table h p n)
+    (left (Granted (record { 0 = blockAt (p .chunk .0) }) (changeM (sizeIn p) (sizeIn p))) h ws))

@@ -2,7 +2,7 @@
 -- It mirrors the code; that it is the spot of the rules (`spot`) is proved.
 use mathlib.Core.Bool.{Bool, false, not, cond, _&&_}
 use mathlib.Core.List.{List, [], _∷_}
-use Prim.Native.Nat.{ℕ, _+_, _%_}
+use Prim.Native.Nat.{ℕ, _+_, _-_, _%_}
 use lib.Dec.{eqb}
 use Rattle.record.specs.Heap.{at}
 use Rattle.rules.specs.Kinds.{blockOf}
@@ -14,6 +14,10 @@ use Rattle.seek.specs.declared.Sought.the-variants.{Found, NotFound}
 -- the chunk e, above one at p
 abbrev pub placed : ℕ → Entry → Place
 placed p e = record { before = at p; chunk = at (e .place); end = chunkEnd e; flags = e .flags }
+
+-- the size of the chunk that was found
+abbrev pub sizeIn : Place → ℕ
+sizeIn p = p .end - p .chunk .0
 
 -- the first of es that meets the test, where the chunk below es is at p
 unfoldable pub soughtM : (Entry → Bool) → ℕ → List Entry → Sought

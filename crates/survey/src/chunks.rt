@@ -9,11 +9,11 @@ use region::BIN;
 use region::Chunk;
 use region::END_SIZE;
 use region::FORWARD;
+use region::IN_USE;
 use region::LEAST;
 use region::NEXT_IN_BIN;
 use region::PREVIOUS_IN_BIN;
 use region::SIZE;
-use region::USED;
 use region::word;
 
 // A chunk as the walk meets it: the chunk before it, its place, its size, and its second word, the backward link with the flags.
@@ -32,7 +32,7 @@ pub fn is_backed(link: u32, before: Chunk, chunk: Chunk) -> bool
     if chunk.0 % 8 != 0 {
         return false;
     }
-    if USED < flags {
+    if IN_USE < flags {
         return false;
     }
     link - flags == before.0
@@ -66,13 +66,13 @@ pub fn is_start(size: u32, flags: u32) -> bool
     if size != END_SIZE {
         return false;
     }
-    flags == USED
+    flags == IN_USE
 }
 
 pub fn is_end(region: &[u32], chunk: Chunk, flags: u32) -> bool
     ensures { λ r. ⌜ r ≡ isEndM (now (region .entry)) (chunk .0) flags ⌝ }
 {
-    if flags != USED {
+    if flags != IN_USE {
         return false;
     }
     word(region, chunk, FORWARD) == 0

@@ -1,12 +1,12 @@
 -- `abi::kz_ask_bin` answers a question about a bin, on the record that the words say. Assumes nothing.
 use borrow.Author.Needs.{needs}
 use Rattle.rules.specs.Ask.{askBin}
-use Rattle.abi.proofs.HandedLaws.{refuses, tells, bin-stays}
+use Rattle.abi.proofs.HandedLaws.{refuses-merge-word, tells, bin-stays}
 use Rattle.abi.proofs.kz_ask_bin.Statement.{statement}
 use Rattle.abi.proofs.kz_ask_bin.Tie as tie
 
 returns : tie.Need-returns
-returns c = refuses _ (c .before .before .if1 .taken) (c .refuse-record .ensures)
+returns c = refuses-merge-word _ (c .before .before .if1 .taken) (c .refuse-record .ensures)
 
 returns-2 : tie.Need-returns-2
 returns-2 c =

@@ -1,12 +1,12 @@
 -- `abi::kz_ask_chunk` answers a question about a chunk, on the record that the words say. Assumes nothing.
 use borrow.Author.Needs.{needs}
 use Rattle.rules.specs.Ask.{askChunk}
-use Rattle.abi.proofs.HandedLaws.{refuses, tells, chunk-stays}
+use Rattle.abi.proofs.HandedLaws.{refuses-merge-word, tells, chunk-stays}
 use Rattle.abi.proofs.kz_ask_chunk.Statement.{statement}
 use Rattle.abi.proofs.kz_ask_chunk.Tie as tie
 
 returns : tie.Need-returns
-returns c = refuses _ (c .before .before .if1 .taken) (c .refuse-record .ensures)
+returns c = refuses-merge-word _ (c .before .before .if1 .taken) (c .refuse-record .ensures)
 
 returns-2 : tie.Need-returns-2
 returns-2 c =

@@ -1,12 +1,12 @@
 -- `abi::kz_reallocate` gives a block another size by its rule, on the record that the words say. Assumes nothing.
 use borrow.Author.Needs.{needs}
 use Rattle.rules.specs.Reallocate.{reallocate}
-use Rattle.abi.proofs.HandedLaws.{refuses, answers}
+use Rattle.abi.proofs.HandedLaws.{refuses-merge-word, answers}
 use Rattle.abi.proofs.kz_reallocate.Statement.{statement}
 use Rattle.abi.proofs.kz_reallocate.Tie as tie
 
 returns : tie.Need-returns
-returns c = refuses _ (c .before .before .if1 .taken) (c .refuse-record .ensures)
+returns c = refuses-merge-word _ (c .before .before .if1 .taken) (c .refuse-record .ensures)
 
 returns-2 : tie.Need-returns-2
 returns-2 c =

@@ -14,8 +14,8 @@ use Rattle.abi.proofs.flat.pack.Statement.{statement}
 use Rattle.abi.proofs.flat.pack.Tie as tie
 
 -- the six words before the bins
-abbrev firstOf : Heap → List ℕ
-firstOf h = h .bytes ∷ h .bins ∷ h .donor .0 ∷ h .top .0 ∷ boolByte (h .merge) ∷ h .used ∷ []
+abbrev scalarsOf : Heap → List ℕ
+scalarsOf h = h .bytes ∷ h .bins ∷ h .donor .0 ∷ h .top .0 ∷ boolByte (h .merge) ∷ h .used ∷ []
 
 sizes-32 : (c : tie.Start) → length (c .args .heap .sizes) ≡ 32
 sizes-32 c = length-unmapped ℕ (c .args .heap .sizes) 32 (search needs)
@@ -39,11 +39,11 @@ sizes-put c = c .before .before .before .before
 abbrev heads-put : tie.After-copy4 → tie.After-copy3
 heads-put c = c .before .before .before .before
 
-with-first : (c : tie.After-copy) → BeginsWith sizesFrom (firstOf (start c .args .heap)) (c .copy .last .0)
+with-first : (c : tie.After-copy) → BeginsWith sizesFrom (scalarsOf (start c .args .heap)) (c .copy .last .0)
 with-first c =
-    part-goes-on 0 sizesFrom (replicate recordWords 0) (firstOf (start c .args .heap)) [] (c .copy .last .0) refl (omega arith) (refl, refl) (c .copy .ensures)
+    part-goes-on 0 sizesFrom (replicate recordWords 0) (scalarsOf (start c .args .heap)) [] (c .copy .last .0) refl (omega arith) (refl, refl) (c .copy .ensures)
 
-with-sizes : (c : tie.After-copy2) → let h = start (first-put c) .args .heap in BeginsWith headsFrom (firstOf h ++ h .sizes) (c .copy2 .last .0)
+with-sizes : (c : tie.After-copy2) → let h = start (first-put c) .args .heap in BeginsWith headsFrom (scalarsOf h ++ h .sizes) (c .copy2 .last .0)
 with-sizes c =
     let first = first-put c in
     let s = start first in
@@ -51,7 +51,7 @@ with-sizes c =
     (c .copy2 .ensures)
 
 with-heads : (c : tie.After-copy3)
-    → let h = start (first-put (sizes-put c)) .args .heap in BeginsWith tailsFrom ((firstOf h ++ h .sizes) ++ h .heads) (c .copy3 .last .0)
+    → let h = start (first-put (sizes-put c)) .args .heap in BeginsWith tailsFrom ((scalarsOf h ++ h .sizes) ++ h .heads) (c .copy3 .last .0)
 with-heads c =
     let sizes = sizes-put c in
     let s = start (first-put sizes) in
@@ -60,7 +60,7 @@ with-heads c =
 
 with-tails : (c : tie.After-copy4)
     → let h = start (first-put (sizes-put (heads-put c))) .args .heap in
-    BeginsWith recordWords (((firstOf h ++ h .sizes) ++ h .heads) ++ h .tails) (c .copy4 .last .0)
+    BeginsWith recordWords (((scalarsOf h ++ h .sizes) ++ h .heads) ++ h .tails) (c .copy4 .last .0)
 with-tails c =
     let heads = heads-put c in
     let s = start (first-put (sizes-put heads)) in
@@ -71,7 +71,7 @@ returns : tie.Need-returns
 unfolding recordOut
 returns c =
     let h = start (first-put (sizes-put (heads-put (c .before)))) .args .heap in
-    four-parts _ (firstOf h) (h .sizes) (h .heads) (h .tails) (with-tails (c .before)) ∙ rw (merge-word (h .merge)) refl
+    four-parts _ (scalarsOf h) (h .sizes) (h .heads) (h .tails) (with-tails (c .before)) ∙ rw (merge-word (h .merge)) refl
 
 sizes-fit : tie.Need-copy-requires-2
 sizes-fit c κs =
