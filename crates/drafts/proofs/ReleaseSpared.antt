@@ -182,8 +182,8 @@ module _ {ws : List ℕ} {h : Heap} {b n : ℕ} (shrinks : ShrinkingBlock ws h b
       (outer-in (old .low ++ kept ∷ []) (gapChunk (part .place) (chunkEnd part) ∷ []) (old .high) (outer-in (old .low) (kept ∷ []) (old .high) (others-outer ws h (shrinks .well) b (shrinks .live) e m o)))
       (live-used h e k)
 
-  -- no word of the kept part is written
-  pub shrink-spares-own : (i : ℕ) → b ≤ 4 * i → 4 * i < blockSpot (asRead ws h) b .here .place + n
+  -- no word of the block that is kept is written
+  pub shrink-spares-own : (i : ℕ) → b ≤ 4 * i → 4 * i < blockEnd kept
       → Off i (shrunken shrinks .draft .stores)
   shrink-spares-own i lo hi =
       blocks-spared shrink-spared kept kept-in refl i (omega (arith, splits ws h (shrinks .well) b (shrinks .live) .block)) hi
