@@ -11,6 +11,7 @@ use record::answers::Refusal;
 use record::heap::Heap;
 use record::heap::Summary;
 use record::table::valid;
+use region::ALIGNMENT;
 use region::END_SIZE;
 use region::FEWEST_WORDS;
 use region::MOST_WORDS;
@@ -19,6 +20,9 @@ use survey::Tally;
 use survey::walk;
 use sweep::Sweep;
 use sweep::sweep_bins;
+
+// A heap has whole pairs of words, so that it ends at a multiple of 8.
+const PAIR_BYTES: usize = ALIGNMENT as usize;
 
 pub enum Audit {
     Passes(Counts),
@@ -35,7 +39,7 @@ pub fn fits_length(words: usize, bytes: u32) -> bool
     if MOST_WORDS < words {
         return false;
     }
-    words / 2 * 8 == bytes as usize
+    words / 2 * PAIR_BYTES == bytes as usize
 }
 
 // From a place of an array on there is nothing but 0. The loop has no early exit, so that the compiler can test several places at a time.

@@ -7,6 +7,7 @@ ghost use Rattle.books.specs.Books.{books};
 ghost use Rattle.bins.specs.Bins.{side, linkM, leaveM, putM, firstFitM, nextOccupiedM, putIntoM, slot, steps};
 use record::heap::PLACES;
 use region::BIN;
+use region::BIN_FACTOR;
 use region::Chunk;
 use region::MOST_WORDS;
 use region::NEXT_IN_BIN;
@@ -45,7 +46,7 @@ pub fn set_list_end(ends: &mut [u32], bin: usize, place: u32)
 pub fn bin_word(bin: usize) -> u32
     ensures { λ r. ⌜ r ≡ bin % 32 * 8 ⌝ }
 {
-    (bin % PLACES) as u32 * 8
+    (bin % PLACES) as u32 * BIN_FACTOR
 }
 
 // The start chunk, at 0, is in no list: a link from 0 is the end of the list.
@@ -65,7 +66,7 @@ pub fn leave(region: &mut [u32], heads: &mut [u32], tails: &mut [u32], chunk: Ch
 {
     let next = word(region, chunk, NEXT_IN_BIN);
     let previous = word(region, chunk, PREVIOUS_IN_BIN);
-    let bin = (word(region, chunk, BIN) / 8) as usize;
+    let bin = (word(region, chunk, BIN) / BIN_FACTOR) as usize;
     link(region, heads, bin, previous, NEXT_IN_BIN, next);
     link(region, tails, bin, next, PREVIOUS_IN_BIN, previous);
 }

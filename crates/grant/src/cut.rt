@@ -9,6 +9,7 @@ use headers::write_above;
 use headers::write_free;
 use headers::write_used;
 use record::kinds::Kind;
+use region::ALIGNMENT;
 use region::BACKWARD;
 use region::Chunk;
 use region::FORWARD;
@@ -46,7 +47,7 @@ pub fn cut_of(region: &[u32], chunk: Chunk, need: u32) -> Cut
     let below = word(region, chunk, BACKWARD);
     let given = granted(need, word(region, chunk, SIZE));
     let end = word(region, chunk, FORWARD);
-    let flags = word(region, Chunk(end), BACKWARD) % 8;
+    let flags = word(region, Chunk(end), BACKWARD) % ALIGNMENT;
     Cut {
         below: Chunk(below),
         chunk: chunk,

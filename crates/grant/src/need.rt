@@ -2,14 +2,15 @@
 ghost use mathlib.Core.Path.{_≡_};
 ghost use Rattle.grant.specs.Need.{needM};
 ghost use Rattle.rules.specs.Serve.{permitted};
+use region::ALIGNMENT;
 use region::LEAST;
 use region::OVERHEAD;
 
 // The largest request that is permitted.
 const MOST_BYTES: u32 = 65488;
 
-// The links of the chunk, and what makes a division by 8 round up.
-const ROUNDING: u32 = OVERHEAD + 7;
+// The links of the chunk, and what makes a division round up.
+const ROUNDING: u32 = OVERHEAD + ALIGNMENT - 1;
 
 pub fn is_permitted(z: u64) -> bool
     ensures { λ r. ⌜ r ≡ permitted z ⌝ }
@@ -27,6 +28,6 @@ pub fn need_of(z: u32) -> u32
     if MOST_BYTES < z {
         return 0;
     }
-    let n = (z + ROUNDING) / 8 * 8;
+    let n = (z + ROUNDING) / ALIGNMENT * ALIGNMENT;
     if n < LEAST { LEAST } else { n }
 }

@@ -1,5 +1,6 @@
 // The bitmap of chunks: a mark for each multiple of 8, one bit of a word of 32 bits.
 // What a mark means is not known here.
+use region::ALIGNMENT;
 use region::Chunk;
 use region::LARGEST_HEAP;
 ghost use mathlib.Core.Path.{_≡_};
@@ -8,7 +9,7 @@ ghost use Rattle.marks.specs.Marks.{marked, flipped};
 const BITS: u32 = 32;
 
 // The bytes of the heap for which one word of the bitmap has marks.
-const SPAN: u32 = 8 * BITS;
+const SPAN: u32 = ALIGNMENT * BITS;
 
 // A bitmap of this many words has a mark for every chunk of the largest heap.
 pub const MARK_WORDS: usize = (LARGEST_HEAP / SPAN) as usize;
@@ -19,7 +20,7 @@ pub fn is_marked(marks: &[u32], chunk: Chunk) -> bool
 {
     let i = (chunk.0 / SPAN) as usize;
     if i < marks.len() {
-        (marks[i] >> (chunk.0 / 8 % BITS)) % 2 == 1
+        (marks[i] >> (chunk.0 / ALIGNMENT % BITS)) % 2 == 1
     } else {
         false
     }
@@ -31,6 +32,6 @@ pub fn flip(marks: &mut [u32], chunk: Chunk)
 {
     let i = (chunk.0 / SPAN) as usize;
     if i < marks.len() {
-        marks[i] ^= 1 << (chunk.0 / 8 % BITS);
+        marks[i] ^= 1 << (chunk.0 / ALIGNMENT % BITS);
     }
 }

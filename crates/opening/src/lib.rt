@@ -11,6 +11,7 @@ use record::answers::Refusal;
 use record::answers::Reply;
 use record::heap::Heap;
 use record::table::valid;
+use region::ALIGNMENT;
 use region::Chunk;
 use region::END_SIZE;
 use region::FEWEST_WORDS;
@@ -40,7 +41,7 @@ fn donor_fits(bytes: u32, donor: u32) -> bool
     if donor < LEAST {
         return false;
     }
-    if donor % 8 != 0 {
+    if donor % ALIGNMENT != 0 {
         return false;
     }
     if bytes < KEPT {

@@ -3,12 +3,15 @@
 ghost use mathlib.Core.Path.{_≡_};
 ghost use Rattle.record.specs.Table.{validTable, smallBins, small, takesBin, TakenBy};
 use crate::heap::PLACES;
+use region::ALIGNMENT;
 use region::LEAST;
 
-// The bins of the small array are 24, 32, 40 and so on: the second of them, and the first in eights.
-const SECOND: u64 = LEAST as u64 + 8;
+// The bins of the small array are 24, 32, 40 and so on: by how much they go up, the second of them, and the first in eights.
+const STEP: u64 = ALIGNMENT as u64;
 
-const FIRST_EIGHTS: usize = LEAST as usize / 8;
+const SECOND: u64 = LEAST as u64 + STEP;
+
+const FIRST_EIGHTS: usize = LEAST as usize / ALIGNMENT as usize;
 
 // The bin of a size, or none where every bin is for larger ones.
 pub enum Binned {
@@ -34,7 +37,7 @@ pub fn valid(table: &[u32]) -> bool
     let mut i = 1;
     while i < table.len() {
         let size = table[i];
-        right = right & (size % 8 == 0) & (before < size);
+        right = right & (size % ALIGNMENT == 0) & (before < size);
         before = size;
         i += 1;
     }
@@ -51,7 +54,7 @@ pub fn small_bins(table: &[u32]) -> usize
         if table[i] as u64 != next {
             return i - 1;
         }
-        next += 8;
+        next += STEP;
         i += 1;
     }
     i - 1
@@ -62,7 +65,7 @@ pub fn is_small(table: &[u32], size: u32) -> bool
     ensures { λ r. ⌜ r ≡ small (now (table .entry)) size ⌝ }
 {
     let m = small_bins(table);
-    let eights = (size / 8) as usize;
+    let eights = (size / ALIGNMENT) as usize;
     if eights < FIRST_EIGHTS {
         return true;
     }

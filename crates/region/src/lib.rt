@@ -26,7 +26,12 @@ pub const BIN: u32 = 5;
 pub const IN_USE: u32 = 1;
 
 // The document's figures, by the names that the rules give them; each stands once, in the lowest crate that knows it.
-// Where places and sizes are multiples of 8, and flags what is beyond one, this 8 stands as a figure, as in the rules.
+// Places and sizes are multiples of this; what a backward link has beyond one are the flags.
+pub const ALIGNMENT: u32 = 8;
+
+// The bin word is the bin's number times this.
+pub const BIN_FACTOR: u32 = 8;
+
 // A block starts above the two links of its chunk.
 pub const OVERHEAD: u32 = 8;
 

@@ -15,6 +15,7 @@ use headers::write_above;
 use headers::write_free;
 use record::heap::Summary;
 use record::kinds::Kind;
+use region::ALIGNMENT;
 use region::BACKWARD;
 use region::Chunk;
 use region::FORWARD;
@@ -45,7 +46,7 @@ pub fn neighbour(region: &[u32], summary: Summary, chunk: Chunk) -> Kind
     if !summary.merge {
         return Kind::InUse;
     }
-    let flags = word(region, chunk, BACKWARD) % 8;
+    let flags = word(region, chunk, BACKWARD) % ALIGNMENT;
     kind_of(summary, chunk, flags)
 }
 
@@ -98,7 +99,7 @@ pub fn join(region: &[u32], summary: Summary, place: Place) -> Union
     let lower = is_ordinary(neighbour(region, summary, before));
     let above = neighbour(region, summary, Chunk(place.end));
     let to = reach(region, above, place.end);
-    let flags = word(region, Chunk(to), BACKWARD) % 8;
+    let flags = word(region, Chunk(to), BACKWARD) % ALIGNMENT;
     Union {
         below: below_of(region, lower, before),
         chunk: lower_of(lower, before, place.chunk),

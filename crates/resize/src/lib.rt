@@ -13,6 +13,7 @@ use record::answers::Answer;
 use record::answers::Refusal;
 use record::answers::Reply;
 use record::heap::Heap;
+use region::ALIGNMENT;
 use region::BACKWARD;
 use region::Chunk;
 use region::FORWARD;
@@ -55,7 +56,7 @@ fn with_link_reread(region: &[u32], place: Place) -> Place
     let chunk = place.chunk;
     let link = word(region, chunk, BACKWARD);
     Place {
-        before: Chunk(link - link % 8),
+        before: Chunk(link - link % ALIGNMENT),
         chunk: chunk,
         end: place.end,
         flags: place.flags,

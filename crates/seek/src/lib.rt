@@ -6,6 +6,7 @@ ghost use Rattle.rules.specs.Kinds.{isAt};
 ghost use Rattle.rules.specs.Shape.{shape};
 ghost use Rattle.seek.specs.Seek.{hasBlockM, liveM, soughtM};
 use chain::end_of;
+use region::ALIGNMENT;
 use region::BACKWARD;
 use region::Block;
 use region::Chunk;
@@ -36,7 +37,7 @@ pub fn find_chunk(region: &[u32], bytes: u32, place: u32) -> Sought
         let next = word(region, Chunk(at), FORWARD);
         let end = end_of(bytes, Chunk(at), next);
         if at == place {
-            let flags = word(region, Chunk(at), BACKWARD) % 8;
+            let flags = word(region, Chunk(at), BACKWARD) % ALIGNMENT;
             return Sought::Found(Place {
                 before: Chunk(before),
                 chunk: Chunk(at),

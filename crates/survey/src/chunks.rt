@@ -5,6 +5,7 @@ ghost use Rattle.survey.specs.Chunks.{entryOf, examineM, isBackedM, isDo
 use chain::kind_of;
 use record::heap::Summary;
 use record::kinds::Kind;
+use region::ALIGNMENT;
 use region::BIN;
 use region::Chunk;
 use region::END_SIZE;
@@ -28,8 +29,8 @@ pub struct Visit {
 pub fn is_backed(link: u32, before: Chunk, chunk: Chunk) -> bool
     ensures { λ r. ⌜ r ≡ isBackedM link (before .0) (chunk .0) ⌝ }
 {
-    let flags = link % 8;
-    if chunk.0 % 8 != 0 {
+    let flags = link % ALIGNMENT;
+    if chunk.0 % ALIGNMENT != 0 {
         return false;
     }
     if IN_USE < flags {
@@ -112,12 +113,12 @@ pub fn is_sound(region: &[u32], summary: Summary, visit: Visit, kind: Kind) -> b
     ensures { λ r. ⌜ r ≡ isSoundM (now (region .entry)) summary (entryOf visit) kind ⌝ }
 {
     match kind {
-        Kind::Start => is_start(visit.size, visit.link % 8),
+        Kind::Start => is_start(visit.size, visit.link % ALIGNMENT),
         Kind::InUse => LEAST <= visit.size,
         Kind::Ordinary => is_sized(region, visit.chunk, visit.size),
         Kind::Donor => is_donor(region, summary, visit.chunk, visit.size),
         Kind::Top => is_top(region, summary, visit.chunk, visit.size),
-        Kind::End => is_end(region, visit.chunk, visit.link % 8),
+        Kind::End => is_end(region, visit.chunk, visit.link % ALIGNMENT),
     }
 }
 
@@ -136,7 +137,7 @@ pub fn examine(region: &[u32], visit: Visit, summary: Summary) -> Seen
     if !backed {
         return Seen::Unsound;
     }
-    let kind = kind_of(summary, visit.chunk, visit.link % 8);
+    let kind = kind_of(summary, visit.chunk, visit.link % ALIGNMENT);
     if !is_sound(region, summary, visit, kind) {
         return Seen::Unsound;
     }

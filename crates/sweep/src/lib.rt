@@ -7,6 +7,7 @@ use bins::list_end;
 use marks::flip;
 use marks::is_marked;
 use record::table::takes;
+use region::ALIGNMENT;
 use region::BIN;
 use region::Chunk;
 use region::NEXT_IN_BIN;
@@ -25,7 +26,7 @@ pub fn is_listed(
 ) -> bool
     ensures { λ r. ⌜ r ≡ isListedM (now (region .entry)) (now (table .entry)) bin (now (marks .entry)) before (chunk .0) ⌝ }
 {
-    if chunk.0 % 8 != 0 {
+    if chunk.0 % ALIGNMENT != 0 {
         return false;
     }
     if !is_marked(marks, chunk) {
