@@ -6,9 +6,9 @@ use Rattle.record.specs.declared.answers.Answer.{Answer}
 use Rattle.record.specs.declared.answers.Answer.the-variants.{Done, Granted, Returned, Told, Counted, Refused}
 use Rattle.record.specs.declared.answers.Counts.{Counts}
 use Rattle.record.specs.declared.answers.Refusal.{Refusal}
-use Rattle.record.specs.declared.answers.Refusal.the-variants.{RegionLength, BadTable, DonorSize, HeapFails, BlockSize, NotLive, NoRoom, NotThere, NoBinTakes}
+use Rattle.record.specs.declared.answers.Refusal.the-variants.{RegionLength, BadTable, DonorSize, HeapFails, BlockSize, NotLive, NoRoom, NotThere, NoBinTakes, RunSize, BeyondMending}
 
--- as the document's table numbers them
+-- as the table of document 01 and request Two of document 02 number them
 abbrev pub numberOf : Refusal → ℕ
 numberOf RegionLength = 1
 numberOf BadTable = 2
@@ -19,6 +19,8 @@ numberOf NotLive = 6
 numberOf NoRoom = 7
 numberOf NotThere = 8
 numberOf NoBinTakes = 9
+numberOf RunSize = 10
+numberOf BeyondMending = 12
 
 -- the counts in every answer but the check's
 abbrev pub noCounts : Counts

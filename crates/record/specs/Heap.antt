@@ -34,6 +34,7 @@ empty =
       top = at 0;
       merge = false;
       used = 0;
+      patrol = at 0;
     }
 
 -- the record without its arrays
@@ -46,6 +47,7 @@ summaryOf h =
       top = h .top;
       merge = h .merge;
       used = h .used;
+      patrol = h .patrol;
     }
 
 -- the record of a summary and of the sizes, heads and tails of the bins; every setter of the record is made of it
@@ -61,11 +63,12 @@ recordOf s sizes heads tails =
       top = s .top;
       merge = s .merge;
       used = s .used;
+      patrol = s .patrol;
     }
 
 -- a summary with what a call may change; every setter of a summary is made of it
-abbrev with : Summary → ℕ → ℕ → Bool → ℕ → Summary
-with s donor top merge used =
+abbrev with : Summary → ℕ → ℕ → Bool → ℕ → ℕ → Summary
+with s donor top merge used patrol =
     record {
       bytes = s .bytes;
       bins = s .bins;
@@ -73,22 +76,26 @@ with s donor top merge used =
       top = at top;
       merge = merge;
       used = used;
+      patrol = at patrol;
     }
 
--- a summary whose donor, top, merge setting or used bytes are now these
+-- a summary whose donor, top, merge setting, used bytes or place of the patrol are now these
 abbrev pub donorNow : Summary → ℕ → Summary
-donorNow s c = with s c (s .top .0) (s .merge) (s .used)
+donorNow s c = with s c (s .top .0) (s .merge) (s .used) (s .patrol .0)
 
 abbrev pub topNow : Summary → ℕ → Summary
-topNow s c = with s (s .donor .0) c (s .merge) (s .used)
+topNow s c = with s (s .donor .0) c (s .merge) (s .used) (s .patrol .0)
 
 abbrev pub mergeNow : Summary → Bool → Summary
-mergeNow s on = with s (s .donor .0) (s .top .0) on (s .used)
+mergeNow s on = with s (s .donor .0) (s .top .0) on (s .used) (s .patrol .0)
 
 abbrev pub usedNow : Summary → ℕ → Summary
-usedNow s u = with s (s .donor .0) (s .top .0) (s .merge) u
+usedNow s u = with s (s .donor .0) (s .top .0) (s .merge) u (s .patrol .0)
 
--- the record with another summary; with other heads and tails; with another donor, top, merge setting or used bytes
+abbrev pub patrolNow : Summary → ℕ → Summary
+patrolNow s c = with s (s .donor .0) (s .top .0) (s .merge) (s .used) c
+
+-- the record with another summary; with other heads and tails; with another donor, top, merge setting, used bytes or place of the patrol
 abbrev pub withSummary : Heap → Summary → Heap
 withSummary h s = recordOf s (h .sizes) (h .heads) (h .tails)
 
@@ -106,6 +113,9 @@ withMerge h on = withSummary h (mergeNow (summaryOf h) on)
 
 abbrev pub withUsed : Heap → ℕ → Heap
 withUsed h u = withSummary h (usedNow (summaryOf h) u)
+
+abbrev pub withPatrol : Heap → ℕ → Heap
+withPatrol h c = withSummary h (patrolNow (summaryOf h) c)
 
 -- the bin sizes in use
 abbrev pub tableOf : Heap → List ℕ

@@ -15,6 +15,8 @@ pub enum Refusal {
     NoRoom,
     NotThere,
     NoBinTakes,
+    RunSize,
+    BeyondMending,
 }
 
 // The check's four figures.
@@ -54,5 +56,7 @@ pub fn number(refusal: Refusal) -> u32
         Refusal::NoRoom => 7,
         Refusal::NotThere => 8,
         Refusal::NoBinTakes => 9,
+        Refusal::RunSize => 10,
+        Refusal::BeyondMending => 12,
     }
 }

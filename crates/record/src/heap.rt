@@ -1,7 +1,7 @@
-// The record: a struct by value, with a setter for what grants and frees change, and one for the merge setting; and its summary,
-// which is the record without its arrays. What the fields must be for a heap to pass is in the rules.
+// The record: a struct by value, with a setter for what grants and frees change, one for the merge setting and one for the patrol's
+// place; and its summary, which is the record without its arrays. What the fields must be for a heap to pass is in the rules.
 ghost use mathlib.Core.Path.{_≡_};
-ghost use Rattle.record.specs.Heap.{donorNow, empty, summaryOf, topNow, usedNow, withEnds, withMerge, withSummary};
+ghost use Rattle.record.specs.Heap.{donorNow, empty, patrolNow, summaryOf, topNow, usedNow, withEnds, withMerge, withPatrol, withSummary};
 use region::Chunk;
 
 // A record has places for this many bins, in its table, heads and tails.
@@ -17,6 +17,8 @@ pub struct Heap {
     pub top: Chunk,
     pub merge: bool,
     pub used: u32,
+    // The patrol's place: the next chunk that a run handles.
+    pub patrol: Chunk,
 }
 
 // The scalars of the record: what a function below the public calls is handed, beside the arrays that it uses.
@@ -27,6 +29,7 @@ pub struct Summary {
     pub top: Chunk,
     pub merge: bool,
     pub used: u32,
+    pub patrol: Chunk,
 }
 
 // The setters name every field, so that the compiler copies fields and not the struct: a copy of the struct reads `merge` and `used` at
@@ -36,6 +39,7 @@ impl Summary {
         ensures { λ r. ⌜ r ≡ donorNow self (donor .0) ⌝ }
     {
         let top = self.top;
+        let patrol = self.patrol;
         Self {
             bytes: self.bytes,
             bins: self.bins,
@@ -43,6 +47,7 @@ impl Summary {
             top: top,
             merge: self.merge,
             used: self.used,
+            patrol: patrol,
         }
     }
 
@@ -50,6 +55,7 @@ impl Summary {
         ensures { λ r. ⌜ r ≡ topNow self (top .0) ⌝ }
     {
         let donor = self.donor;
+        let patrol = self.patrol;
         Self {
             bytes: self.bytes,
             bins: self.bins,
@@ -57,11 +63,29 @@ impl Summary {
             top: top,
             merge: self.merge,
             used: self.used,
+            patrol: patrol,
         }
     }
 
     pub fn with_used(self, used: u32) -> Self
         ensures { λ r. ⌜ r ≡ usedNow self used ⌝ }
+    {
+        let donor = self.donor;
+        let top = self.top;
+        let patrol = self.patrol;
+        Self {
+            bytes: self.bytes,
+            bins: self.bins,
+            donor: donor,
+            top: top,
+            merge: self.merge,
+            used: used,
+            patrol: patrol,
+        }
+    }
+
+    pub fn with_patrol(self, patrol: Chunk) -> Self
+        ensures { λ r. ⌜ r ≡ patrolNow self (patrol .0) ⌝ }
     {
         let donor = self.donor;
         let top = self.top;
@@ -71,7 +95,8 @@ impl Summary {
             donor: donor,
             top: top,
             merge: self.merge,
-            used: used,
+            used: self.used,
+            patrol: patrol,
         }
     }
 }
@@ -91,6 +116,7 @@ impl Heap {
             top: Chunk(0),
             merge: false,
             used: 0,
+            patrol: Chunk(0),
         }
     }
 
@@ -99,6 +125,7 @@ impl Heap {
     {
         let donor = self.donor;
         let top = self.top;
+        let patrol = self.patrol;
         Summary {
             bytes: self.bytes,
             bins: self.bins,
@@ -106,6 +133,7 @@ impl Heap {
             top: top,
             merge: self.merge,
             used: self.used,
+            patrol: patrol,
         }
     }
 
@@ -115,6 +143,7 @@ impl Heap {
     {
         let donor = summary.donor;
         let top = summary.top;
+        let patrol = summary.patrol;
         let sizes = self.sizes;
         Self {
             bytes: summary.bytes,
@@ -126,6 +155,7 @@ impl Heap {
             top: top,
             merge: summary.merge,
             used: summary.used,
+            patrol: patrol,
         }
     }
 
@@ -133,6 +163,13 @@ impl Heap {
         ensures { λ r. ⌜ r ≡ withMerge self merge ⌝ }
     {
         self.merge = merge;
+        self
+    }
+
+    pub fn with_patrol(mut self, patrol: Chunk) -> Self
+        ensures { λ r. ⌜ r ≡ withPatrol self (patrol .0) ⌝ }
+    {
+        self.patrol = patrol;
         self
     }
 }

@@ -11,19 +11,20 @@ use Rattle.rules.specs.Check.{passesAs, passes}
 use Rattle.rules.specs.Serve.{chosen}
 use Rattle.rules.specs.Draft.{asRead, leave, putBetween, putInto, leaveBin, putInBin, settle, relink}
 use Rattle.rules.specs.Cut.{cut, grantAt, grantFrom}
-use Rattle.rules.specs.Join.{joining, release}
+use Rattle.rules.specs.Join.{joining, movedDown, release}
 use Rattle.rules.specs.Setup.{setup}
 use Rattle.rules.specs.Allocate.{allocate, allocateCleared}
 use Rattle.rules.specs.Free.{freeBlock, free}
 use Rattle.rules.specs.Reallocate.{resized, resize, reallocate}
 use Rattle.rules.specs.Merge.{setMerge, checked, check}
 use Rattle.rules.specs.Ask.{askChunk, askBin}
+use Rattle.rules.specs.Patrol.{skips, broken, nextOf, mends, patrolRun, patrol}
 use Rattle.rules.specs.Calls.{step, next}
 use Rattle.rules.specs.Cases.{cases, caseHolds}
 
 -- `unfolding computes` opens every definition by which a call's outcome is computed
 unfoldable pub computes : ℕ
-unfolding word store validTable shape members inUse kindAt passesAs passes chosen asRead leave putBetween putInto leaveBin putInBin settle relink cut grantAt grantFrom joining release setup allocate allocateCleared freeBlock free resized resize reallocate setMerge checked check askChunk askBin step next
+unfolding word store validTable shape members inUse kindAt passesAs passes chosen asRead leave putBetween putInto leaveBin putInBin settle relink cut grantAt grantFrom joining movedDown release setup allocate allocateCleared freeBlock free resized resize reallocate setMerge checked check askChunk askBin skips broken nextOf mends patrolRun patrol step next
 computes = 0
 
 pub marked-cases : every caseHolds cases ≡ true

@@ -130,7 +130,7 @@ module _ (ws : List ℕ) (h : Heap) where
   unfolding passesAs
   passes-as-iff es =
       meaning
-      (both (both (both (both (both (both (both (both (both (both
+      (both (both (both (both (both (both (both (both (both (both (both
       fits-iff
       tabled-iff)
       (chained-iff es))
@@ -142,7 +142,8 @@ module _ (ws : List ℕ) (h : Heap) where
       (for-below (λ i. listed-iff es i (binList ws h i)) (h .bins)))
       (for-each (λ e. if-then (itself (ordinary h e)) (in-bin-iff (e .place) (binOf (tableOf h) (e .size)))) es))
       (number-is (h .used) (usedBytes h es)))
-      (λ ((((((((((fits, table), chain), ends), backward), chunks), top), donor), bins), binned), used).
+      (for-some (λ e. number-is (e .place) (h .patrol .0)) es))
+      (λ (((((((((((fits, table), chain), ends), backward), chunks), top), donor), bins), binned), used), patrol).
       record {
         fits = fits;
         table = table;
@@ -155,9 +156,10 @@ module _ (ws : List ℕ) (h : Heap) where
         bins = bins;
         binned = binned;
         used = used;
+        patrol = patrol;
       })
       (λ f.
-      ((((((((((f .fits, f .table), f .chain), f .ends), f .backward), f .chunks), f .top), f .donor), f .bins), f .binned), f .used))
+      (((((((((((f .fits, f .table), f .chain), f .ends), f .backward), f .chunks), f .top), f .donor), f .bins), f .binned), f .used), f .patrol))
     where
       ended-iff : (es : List Entry) → Decides (ended es) (Ended es)
       ended-iff es =

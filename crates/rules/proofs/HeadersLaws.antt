@@ -156,6 +156,7 @@ module _ {ws ws′ : List ℕ} {h : Heap} (p : Passes ws h) (same : (e : Entry) 
         bins = λ i l. rw (headers-list i) (listed-same i l);
         binned = λ e m o. let (i, takes, (inside, member)) = p .binned e m o in (i, takes, (inside, rw (headers-list i) member));
         used = p .used;
+        patrol = p .patrol;
       }
 
   pub headers-pass : Fits ws′ h → Passes ws′ h

@@ -1,4 +1,4 @@
--- Calls as data, the step that one makes, and runs of calls (document 01, "The calls").
+-- Calls as data, the step that one makes, and runs of calls (document 01, "The calls"; document 02, request Two).
 use mathlib.Core.Bool.{Bool}
 use mathlib.Core.List.{List, [], _∷_}
 use Prim.Native.Nat.{ℕ}
@@ -13,8 +13,9 @@ use Rattle.rules.specs.Free.{free}
 use Rattle.rules.specs.Reallocate.{reallocate}
 use Rattle.rules.specs.Merge.{setMerge, check}
 use Rattle.rules.specs.Ask.{askChunk, askBin}
+use Rattle.rules.specs.Patrol.{patrol}
 
--- the nine calls with their arguments
+-- the ten calls with their arguments
 pub data Call : Type 0 where
   -- table, donor size, merge setting
   Setup : List ℕ → ℕ → Bool → Call
@@ -30,6 +31,8 @@ pub data Call : Type 0 where
   AskChunk : ℕ → ℕ → Call
   -- question, bin
   AskBin : ℕ → ℕ → Call
+  -- chunks of the run
+  Patrol : ℕ → Call
 
 -- the outcome of a call on a region and a record
 unfoldable pub step : Call → List ℕ → Heap → Outcome
@@ -42,6 +45,7 @@ step (SetMerge on) ws h = setMerge ws h on
 step Check ws h = check ws h
 step (AskChunk q p) ws h = askChunk ws h q p
 step (AskBin q i) ws h = askBin ws h q i
+step (Patrol chunks) ws h = patrol ws h chunks
 
 -- a region with a record
 pub record State : Type 0 where

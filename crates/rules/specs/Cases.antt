@@ -128,7 +128,7 @@ sameHeap g h =
     eqb (g .bytes) (h .bytes) && eqb (g .bins) (h .bins)
     && sameList (g .sizes) (h .sizes) && sameList (g .heads) (h .heads) && sameList (g .tails) (h .tails)
     && eqb (g .donor .0) (h .donor .0) && eqb (g .top .0) (h .top .0)
-    && sameBool (g .merge) (h .merge) && eqb (g .used) (h .used)
+    && sameBool (g .merge) (h .merge) && eqb (g .used) (h .used) && eqb (g .patrol .0) (h .patrol .0)
 
 abbrev sameFigures : Figures → Figures → Bool
 sameFigures f g =

@@ -12,6 +12,7 @@ pub mod Free
 pub mod Reallocate
 pub mod Merge
 pub mod Ask
+pub mod Patrol
 pub mod Calls
 pub mod Statements
 pub mod Cases

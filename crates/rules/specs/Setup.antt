@@ -42,6 +42,7 @@ fresh bytes table donor merge =
       top = at (firstTop donor);
       merge = merge;
       used = 0;
+      patrol = at 0;
     }
 
 -- the donor as an entry, and the stores of its bin words; nothing if its size is 0

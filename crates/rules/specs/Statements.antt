@@ -15,6 +15,7 @@ use Rattle.rules.specs.Free.{free}
 use Rattle.rules.specs.Reallocate.{reallocate}
 use Rattle.rules.specs.Merge.{setMerge, check}
 use Rattle.rules.specs.Ask.{askChunk, askBin}
+use Rattle.rules.specs.Patrol.{patrol}
 
 -- all that a call leaves behind
 pub record Left : Type 0 where
@@ -33,7 +34,7 @@ replied r ws = record { answer = r .answer; heap = r .heap; words = ws }
 abbrev pub Meets : List ℕ → Outcome → Reply → List ℕ → Type 0
 Meets before o r after = replied r after ≡ leftBy before o
 
--- the nine calls, each by its rule
+-- the ten calls, each by its rule
 abbrev pub SetsUp : List ℕ → List ℕ → ℕ → Bool → Reply → List ℕ → Type 0
 SetsUp ws table donor merge = Meets ws (setup ws table donor merge)
 
@@ -60,3 +61,6 @@ AsksChunk ws h question place = Meets ws (askChunk ws h question place)
 
 abbrev pub AsksBin : List ℕ → Heap → ℕ → ℕ → Reply → List ℕ → Type 0
 AsksBin ws h question bin = Meets ws (askBin ws h question bin)
+
+abbrev pub Patrols : List ℕ → Heap → ℕ → Reply → List ℕ → Type 0
+Patrols ws h chunks = Meets ws (patrol ws h chunks)
