@@ -18,7 +18,7 @@ use Rattle.rules.specs.Kinds.{live, overhead, blockOf, blockWords}
 use Rattle.rules.specs.Check.{Passes}
 use Rattle.rules.specs.Serve.{need, serves}
 use Rattle.rules.specs.Statements.{Left}
-use Rattle.rules.specs.Calls.{Call, Setup, Allocate, AllocateCleared, Free, Reallocate, SetMerge, Check, AskChunk, AskBin}
+use Rattle.rules.specs.Calls.{Call, Setup, Allocate, AllocateCleared, Free, Reallocate, SetMerge, Check, AskChunk, AskBin, Patrol}
 use Rattle.promises.specs.Ways.{Way}
 use Rattle.promises.specs.Room.{OnChain, HoldsBlock}
 use Rattle.promises.specs.Refusing.{isSetup}
@@ -86,7 +86,7 @@ pub record Stays (ws : List ℕ) (n b : ℕ) (old : Entry) (words : List ℕ) (h
   pub noMore : e .size ≤ old .size
   pub same : SameWords ws b words b (blockWords e)
 
--- the calls that neither grant nor free: free of block 0, the merge setting, the check, the questions
+-- the calls that neither grant nor free: free of block 0, the merge setting, the check, the questions, the patrol
 abbrev pub onlyLooks : Call → Bool
 onlyLooks (Setup table donor merge) = false
 onlyLooks (Allocate z) = false
@@ -97,6 +97,7 @@ onlyLooks (SetMerge on) = true
 onlyLooks Check = true
 onlyLooks (AskChunk q p) = true
 onlyLooks (AskBin q i) = true
+onlyLooks (Patrol f) = true
 
 -- the promise on one heap, call by call. Setup is left out: it lays out the region anew
 pub record ApartAt (way : Way) (ws : List ℕ) (h : Heap) : Type 0 where

@@ -8,4 +8,9 @@ pub mod Odd
 pub mod Kept
 pub mod Apart
 pub mod Runs
+pub mod Rounds
+pub mod FullPatrol
+pub mod Mended
+pub mod Straightened
+pub mod Singly
 pub mod Wrong

@@ -1,21 +1,22 @@
--- Refused (document 01, "Numbers of refusal"): a call is refused exactly with the first number whose reason holds,
+-- Refused (document 01, "Numbers of refusal"; document 02, request Two): a call is refused exactly with the first number whose reason holds,
 -- and a refused call changes nothing. The reasons stand in the order of the document's table.
 use mathlib.Core.Path.{_≡_}
 use mathlib.Core.Logic.{_↔_, _⊎_, _≢_}
 use mathlib.Core.Bool.{Bool, true, false}
 use mathlib.Core.List.{List}
-use Prim.Native.Nat.{ℕ, _+_, _*_, _%_, _≤_, _<_}
+use mathlib.Core.Option.{some, none}
+use Prim.Native.Nat.{ℕ, suc, _+_, _*_, _-_, _%_, _≤_, _<_}
 use lib.IntN.{pos}
 use lib.ListN.{length}
 use Rattle.record.specs.declared.answers.Answer.the-variants.{Refused}
 use Rattle.record.specs.declared.answers.Refusal.{Refusal}
-use Rattle.record.specs.declared.answers.Refusal.the-variants.{RegionLength, BadTable, DonorSize, HeapFails, BlockSize, NotLive, NoRoom, NotThere, NoBinTakes}
+use Rattle.record.specs.declared.answers.Refusal.the-variants.{RegionLength, BadTable, DonorSize, HeapFails, BlockSize, NotLive, NoRoom, NotThere, NoBinTakes, RunSize, BeyondMending}
 use Rattle.record.specs.declared.heap.Heap.{Heap}
 use Rattle.record.specs.Answers.{numberOf, figures, noCounts, figuresOf}
 use Rattle.record.specs.Heap.{empty}
 use Rattle.record.specs.Table.{least, ValidTable}
 use Rattle.rules.specs.Shape.{Entry, heapBytes}
-use Rattle.rules.specs.Kinds.{overhead}
+use Rattle.rules.specs.Kinds.{overhead, endSize}
 use Rattle.rules.specs.Check.{fewestWords, mostWords, Passes}
 use Rattle.rules.specs.Setup.{endsAndTop}
 use Rattle.rules.specs.Serve.{need, mostBytes}
@@ -23,7 +24,8 @@ use Rattle.rules.specs.Draft.{asRead}
 use Rattle.rules.specs.Allocate.{grant}
 use Rattle.rules.specs.Free.{freeBlock, blockSpot}
 use Rattle.rules.specs.Reallocate.{resized}
-use Rattle.rules.specs.Calls.{Call, Setup, Allocate, AllocateCleared, Free, Reallocate, SetMerge, Check, AskChunk, AskBin}
+use Rattle.rules.specs.Patrol.{nextOf}
+use Rattle.rules.specs.Calls.{Call, Setup, Allocate, AllocateCleared, Free, Reallocate, SetMerge, Check, AskChunk, AskBin, Patrol}
 use Rattle.promises.specs.Ways.{Way}
 use Rattle.promises.specs.Room.{OnChain, HoldsBlock, NoneServes}
 
@@ -36,7 +38,7 @@ abbrev pub WrongDonor : List ℕ → ℕ → Type 0
 WrongDonor ws donor =
     (0 < donor) × ((donor < least) ⊎ ((donor % 8 ≢ 0) ⊎ (heapBytes (length ws) < donor + endsAndTop)))
 
--- 4 is given by every call but setup
+-- every call but setup gets a record
 abbrev pub isSetup : Call → Bool
 isSetup (Setup table donor merge) = true
 isSetup (Allocate z) = false
@@ -47,6 +49,26 @@ isSetup (SetMerge on) = false
 isSetup Check = false
 isSetup (AskChunk q p) = false
 isSetup (AskBin q i) = false
+isSetup (Patrol f) = false
+
+-- 4: every call but setup and the patrol asks that the heap pass the check
+abbrev pub asksCheck : Call → Bool
+asksCheck (Setup table donor merge) = false
+asksCheck (Allocate z) = true
+asksCheck (AllocateCleared count size) = true
+asksCheck (Free b) = true
+asksCheck (Reallocate b z) = true
+asksCheck (SetMerge on) = true
+asksCheck Check = true
+asksCheck (AskChunk q p) = true
+asksCheck (AskBin q i) = true
+asksCheck (Patrol f) = false
+
+-- 4 of the patrol: the region's length or the recorded heap bytes are wrong, or the place is no multiple of 8 up to the end chunk
+abbrev pub NoPatrol : List ℕ → Heap → Type 0
+NoPatrol ws h =
+    WrongLength ws
+    ⊎ ((h .bytes ≢ heapBytes (length ws)) ⊎ ((h .patrol .0 % 8 ≢ 0) ⊎ (h .bytes < h .patrol .0 + endSize)))
 
 -- 5: the size is 0 or too large
 abbrev pub WrongSize : ℕ → Type 0
@@ -68,6 +90,12 @@ NoQuestion most q = (q ≡ 0) ⊎ (most < q)
 abbrev pub AskedOf : List ℕ → Heap → ℕ → ℕ → Entry → Type 0
 AskedOf ws h q p e = (q ≡ 3 → HoldsBlock ws h p e) × (q ≢ 3 → OnChain ws h e × (e .place ≡ p))
 
+-- 12: a run of so many chunks from the one at c meets a chunk whose next one is not found. All is judged on the words as they came:
+-- what the run mends on its way makes no difference
+pub data Lost (ws : List ℕ) (end : ℕ) : ℕ → ℕ → Type 0 where
+  lostHere : {f c : ℕ} → c ≢ end → nextOf ws end c ≡ none → Lost ws end (suc f) c
+  lostLater : {f c v : ℕ} → c ≢ end → nextOf ws end c ≡ some v → Lost ws end f v → Lost ws end (suc f) c
+
 -- the reason of each number, for each call that can give it
 pub data Because (ws : List ℕ) (h : Heap) : Call → Refusal → Type 0 where
   -- 1, 2, 3
@@ -78,7 +106,8 @@ pub data Because (ws : List ℕ) (h : Heap) : Call → Refusal → Type 0 where
   setupDonor : {table : List ℕ} {donor : ℕ} {merge : Bool} → WrongDonor ws donor
       → Because ws h (Setup table donor merge) DonorSize
   -- 4
-  fails : {call : Call} → isSetup call ≡ false → (Passes ws h → ⊥) → Because ws h call HeapFails
+  fails : {call : Call} → asksCheck call ≡ true → (Passes ws h → ⊥) → Because ws h call HeapFails
+  patrolFails : {f : ℕ} → NoPatrol ws h → Because ws h (Patrol f) HeapFails
   -- 5
   allocateSize : {z : ℕ} → WrongSize z → Because ws h (Allocate z) BlockSize
   clearedSize : {count size : ℕ} → WrongSize (count * size) → Because ws h (AllocateCleared count size) BlockSize
@@ -106,11 +135,29 @@ pub data Because (ws : List ℕ) (h : Heap) : Call → Refusal → Type 0 where
       → resized ws (blockSpot (asRead ws h) b) (need overhead z) (asRead ws h) .draft .noBinTakes ≡ true
       → Because ws h (Reallocate b z) NoBinTakes
 
--- r is the first number whose reason holds. The order of the numbers is the order of refusals for every call:
--- only the questions give 8, and they give no 5, 6, 7 or 9
+  -- 10, 12
+  patrolNone : {f : ℕ} → f ≡ 0 → Because ws h (Patrol f) RunSize
+  patrolLost : {f : ℕ} → Lost ws (h .bytes - endSize) f (h .patrol .0) → Because ws h (Patrol f) BeyondMending
+
+-- the order of the refusals is that of their numbers, but that 10 comes first. It is the order of every call: only the questions
+-- give 8, and they give no 5, 6, 7 or 9
+abbrev pub orderOf : Refusal → ℕ
+orderOf RegionLength = 1
+orderOf BadTable = 2
+orderOf DonorSize = 3
+orderOf HeapFails = 4
+orderOf BlockSize = 5
+orderOf NotLive = 6
+orderOf NoRoom = 7
+orderOf NotThere = 8
+orderOf NoBinTakes = 9
+orderOf RunSize = 0
+orderOf BeyondMending = 12
+
+-- r is the first in that order whose reason holds
 pub record First (ws : List ℕ) (h : Heap) (call : Call) (r : Refusal) : Type 0 where
   pub because : Because ws h call r
-  pub before : (q : Refusal) → numberOf q < numberOf r → Because ws h call q → ⊥
+  pub before : (q : Refusal) → orderOf q < orderOf r → Because ws h call q → ⊥
 
 -- the record that a refused call gives: the one that came; setup gives an empty one
 abbrev pub refusedRecord : Call → Heap → Heap
@@ -123,6 +170,7 @@ refusedRecord (SetMerge on) h = h
 refusedRecord Check h = h
 refusedRecord (AskChunk q p) h = h
 refusedRecord (AskBin q i) h = h
+refusedRecord (Patrol f) h = h
 
 -- the promise: a refusal is given exactly for the first reason that holds, and changes nothing
 pub record Refusing (way : Way) : Type 0 where
