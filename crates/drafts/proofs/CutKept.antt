@@ -3,7 +3,7 @@
 use mathlib.Core.Path.{_≡_, refl, sym, ap, subst, _∙_}
 use mathlib.Core.Logic.{_≢_, _⊎_, inl, inr}
 use mathlib.Core.Bool.{Bool, true, false, cond}
-use mathlib.Core.List.{List, [], _∷_, _++_, List·Memᴰ·head}
+use mathlib.Core.List.{List, [], _∷_, _++_, List·Memᴰ·head, List·Memᴰ·eq-of-singleton}
 use Prim.Native.Nat.{ℕ, _+_, _-_, _%_, _≤_, _<_}
 use native.Mathlib.Nat.{add-zero}
 use native.Mathlib.Omega.{arith}
@@ -16,7 +16,7 @@ use Rattle.record.specs.declared.kinds.Kind.{Kind}
 use Rattle.record.specs.declared.kinds.Kind.the-variants.{Ordinary, Donor, Top}
 use Rattle.rules.specs.Shape.{Entry, chunkEnd, shape}
 use Rattle.rules.specs.Kinds.{ordinaryKind, freeKind, liveKind, kindOf, live, outside}
-use Rattle.rules.specs.Check.{usedBytes, Passes}
+use Rattle.rules.specs.Check.{usedBytes, IsChunk, Passes}
 use Rattle.rules.specs.Draft.{Draft, asRead, relink, settle, nowUses}
 use Rattle.rules.specs.Cut.{Parts, chunksOf, leaveAs}
 use Rattle.rules.proofs.KindsLaws.{Used, kind-in-use, free-not-live, free-kinds, being-as}
@@ -29,7 +29,7 @@ use Rattle.drafts.proofs.LayoutLaws.{Beside, Laid, Layout, outer-beside
 use Rattle.drafts.proofs.OpenLaws.{InnerChunk, whole, laid-out, elsewhere, beside, lows, highs, opens-kept, opens-left, top-outer, donor-outer}
 use Rattle.drafts.proofs.HalfwayLaws.{Opened, Closed, closes}
 use Rattle.drafts.proofs.WaitingLaws.{Waiting, Finished, takes-bin, takes-donor, takes-top, waiting-done}
-use Rattle.drafts.proofs.CutLaws.{FreeChunk, Cutting, PartIn, restOf, parts-tiled, rest-among, chunks-among, rest-once, part-in, lives-parts, rest-none, rest-above}
+use Rattle.drafts.proofs.CutLaws.{FreeChunk, Cutting, PartIn, restOf, parts-tiled, granted-among, rest-among, chunks-among, rest-once, part-in, lives-parts, rest-none, rest-above}
 
 -- a free chunk e; the chain is split there
 module _ {ws : List ℕ} {h : Heap} {low : List Entry} {e : Entry} {high : List Entry} (chunk : FreeChunk ws h low e high) where
@@ -143,6 +143,16 @@ module _ {ws : List ℕ} {h : Heap} {low : List Entry} {e : Entry} {high : List 
     stays : (x : Entry) → Mem x (low ++ high) → Mem x grantChain
     stays x m = outer-in low (chunksOf parts) high m
 
+    -- the patrol's place is still a chunk's: where it is e's, the granted chunk is there
+    still-placed : IsChunk grantChain (h .patrol .0)
+    still-placed = let (x, m, q) = well .patrol in go x q (among low (e ∷ []) high (subst (λ (l : List Entry). Mem x l) (whole inner) m))
+      where
+        go : (x : Entry) → x .place ≡ h .patrol .0 → Mem x (low ++ high) ⊎ Mem x (e ∷ []) → IsChunk grantChain (h .patrol .0)
+        go x q (inl k) = (x, stays x k, q)
+        go x q (inr k) =
+            let s = ap (λ (y : Entry). y .place) (List·Memᴰ·eq-of-singleton k) in
+            (granted, middle-in low (chunksOf parts) high (granted-among c (omega arith)), c .place ∙ add-zero (e .place) ∙ sym s ∙ q)
+
     abbrev linked : Kind → Draft
     linked k = relink low (chunksOf parts) high (leaveAs k e (asRead ws h))
 
@@ -161,7 +171,7 @@ module _ {ws : List ℕ} {h : Heap} {low : List Entry} {e : Entry} {high : List 
     wholly-done z kind =
         waiting-done well
         (subst (λ (l : List Entry). Waiting ws h h (low ++ high) l grantChain (linked Ordinary)) (rest-none c z) (waits (opens Ordinary kind refl)))
-        (posts-in stays (ordinary-posts kind)) 0 (granted .size) counted
+        (posts-in stays (ordinary-posts kind)) (λ c. c) still-placed 0 (granted .size) counted
 
     -- a part is left above, which settles with e's kind
     module _ (some : above .size ≡ 0 → ⊥) where
@@ -177,7 +187,8 @@ module _ {ws : List ℕ} {h : Heap} {low : List Entry} {e : Entry} {high : List 
 
       partly-ordinary : kindOf h e ≡ Ordinary → Finished ws grantChain (nowUses 0 (granted .size) (settle Ordinary above (linked Ordinary)))
       partly-ordinary kind =
-          waiting-done well (takes-bin well (one-waits Ordinary kind refl) (ordinary-posts kind)) (posts-in stays (ordinary-posts kind)) 0 (granted .size) counted
+          waiting-done well (takes-bin well (one-waits Ordinary kind refl) (ordinary-posts kind)) (posts-in stays (ordinary-posts kind)) (λ c. c) still-placed 0
+          (granted .size) counted
 
       -- e is the donor
       module _ (kind : kindOf h e ≡ Donor) where
@@ -210,7 +221,7 @@ module _ {ws : List ℕ} {h : Heap} {low : List Entry} {e : Entry} {high : List 
               top = top-in stays top-else;
               donor = λ _. record { chunk = above; member = above-there; place = refl; free = c .free; below = below-top };
             })
-            0 (granted .size) counted
+            (λ c. c) still-placed 0 (granted .size) counted
 
       -- e is the top
       module _ (kind : kindOf h e ≡ Top) where
@@ -231,7 +242,7 @@ module _ {ws : List ℕ} {h : Heap} {low : List Entry} {e : Entry} {high : List 
                   let t = donor-outer inner (λ z. omega arith) d in
                   donor-at t (stays (t .chunk) (t .member)) (omega arith);
             })
-            0 (granted .size) counted
+            (λ c. c) still-placed 0 (granted .size) counted
 
     -- for each kind of e; of donor and top at least 24 bytes are left
     pub cut-done : (k : Kind) → kindOf h e ≡ k → freeKind k ≡ true → (ordinaryKind k ≡ false → n + 24 ≤ e .size)

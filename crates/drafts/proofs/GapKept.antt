@@ -14,9 +14,9 @@ use Rattle.record.specs.declared.kinds.Kind.{Kind}
 use Rattle.record.specs.declared.kinds.Kind.the-variants.{Start, InUse, Ordinary, Donor, Top, End}
 use Rattle.rules.specs.Shape.{Entry, chunkEnd}
 use Rattle.rules.specs.Kinds.{ordinaryKind, freeKind, kindOf, ordinary, outside}
-use Rattle.rules.specs.Check.{usedBytes, Passes}
+use Rattle.rules.specs.Check.{usedBytes, IsChunk, Passes}
 use Rattle.rules.specs.Draft.{Draft, leaveBin, relink, settle, nowUses}
-use Rattle.rules.specs.Join.{Joined, joinedAs, joining, leaveBins, release}
+use Rattle.rules.specs.Join.{Joined, joinedAs, joining, leaveBins, movedDown, swallowing, release}
 use Rattle.rules.proofs.KindsLaws.{Used, being-as}
 use Rattle.rules.proofs.SpotLaws.{Between, bounds}
 use Rattle.rules.proofs.TiledLaws.{tiled-empty}
@@ -26,8 +26,8 @@ use Rattle.drafts.proofs.LayoutLaws.{Beside, cuts, outer-beside}
 use Rattle.drafts.proofs.HalfwayLaws.{Closed, closes}
 use Rattle.drafts.proofs.PictureLaws.{Pictured}
 use Rattle.drafts.proofs.WaitingLaws.{Waiting, Finished, takes-bin, takes-donor, takes-top, waiting-done}
-use Rattle.drafts.proofs.JoinLaws.{sees, joinedBy, joining-sees, sees-ordinary, givenBack}
-use Rattle.drafts.proofs.GapLaws.{gapChunk, Gap, posts-stay, below-laid, below-joins, above-laid, gap-around, above-joins, above-widens, above-apart, above-higher, above-else}
+use Rattle.drafts.proofs.JoinLaws.{sees, joinedBy, joining-sees, sees-ordinary, givenBack, inside-moves, outside-stays}
+use Rattle.drafts.proofs.GapLaws.{gapChunk, Placed, Gap, posts-stay, below-laid, below-joins, above-laid, gap-around, above-joins, above-widens, above-apart, above-higher, above-else}
 
 -- a neighbour that joining sees as free has the kind that it sees
 sees-kind : (t : Bool) (k : Kind) → freeKind (cond t k InUse) ≡ true → k ≡ cond t k InUse
@@ -121,22 +121,42 @@ module _ {ws : List ℕ} {h : Heap} {base : List Entry} (p : Passes ws h) (gone 
     ends : {after : Draft} → Finished ws chain after → GivenBack ws h base after
     ends f = record { pictured = f .pictured; alive = ap (lives h) (f .chain) ∙ same-lives }
 
+    -- a patrol's place in the gap moves down to the chunk that fills it; any other stays
+    filled-place : IsChunk chain (movedDown fill (h .patrol .0))
+    filled-place = go (g .patrol)
+      where
+        beside : (x : Entry) → 8 ≤ x .size → Beside x fill → (x .place ≤ from) ⊎ (to ≤ x .place)
+        beside x s (inl b) = inl (omega arith)
+        beside x s (inr b) = inr (let r = room in omega arith)
+
+        go : Placed (h .patrol .0) (low ++ high) from to → IsChunk chain (movedDown fill (h .patrol .0))
+        go (inl (x, m, q)) =
+            let r = room in
+            let away = beside x (g .layout .chunks x (stays x m) .some) (gap-beside x m) in
+            (x, stays x m, q ∙ sym (outside-stays fill (h .patrol .0) (elim away [ inl l ↦ inl (omega arith) | inr l ↦ inr (omega arith) ])))
+        go (inr (lo, hi)) = let r = room in (fill, there, sym (inside-moves fill (h .patrol .0) lo (omega arith)))
+
+    -- the draft with the gap filled, settled and, it may be, the patrol's place moved
+    abbrev filledAs : Kind → Draft
+    filledAs k = nowUses gone new (swallowing fill (settle k fill linked))
+
     -- it goes to its bin; donor and top are other chunks
-    pub fills-bin : Posts h (low ++ high) → GivenBack ws h base (nowUses gone new (settle Ordinary fill linked))
-    fills-bin posts = ends (waiting-done p (takes-bin p fill-waits posts) (posts-in stays posts) gone new counted)
+    pub fills-bin : Posts h (low ++ high) → GivenBack ws h base (filledAs Ordinary)
+    fills-bin posts =
+        ends (waiting-done p (takes-bin p fill-waits posts) (posts-in stays posts) (movedDown fill) filled-place gone new counted)
 
     -- it becomes the donor, in place of the old one
     pub fills-donor : ((x : Entry) → Mem x (low ++ high) → x .place ≢ h .donor .0) → from < h .top .0 → TopAmong (h .bytes) (h .top .0) (low ++ high)
-        → GivenBack ws h base (nowUses gone new (settle Donor fill linked))
+        → GivenBack ws h base (filledAs Donor)
     fills-donor else below top =
         ends
         (waiting-done p (takes-donor p fill-waits else below)
         (record { top = top-in stays top; donor = λ _. record { chunk = fill; member = there; place = refl; free = refl; below = below } })
-        gone new counted)
+        (movedDown fill) filled-place gone new counted)
 
     -- it becomes the top, in place of the old one
     pub fills-top : ((x : Entry) → Mem x (low ++ high) → x .place ≢ h .top .0) → chunkEnd fill + 8 ≡ h .bytes
-        → (0 < h .donor .0 → DonorAmong (h .donor .0) from (low ++ high)) → GivenBack ws h base (nowUses gone new (settle Top fill linked))
+        → (0 < h .donor .0 → DonorAmong (h .donor .0) from (low ++ high)) → GivenBack ws h base (filledAs Top)
     fills-top else reaches donor =
         ends
         (waiting-done p (takes-top p fill-waits else)
@@ -144,7 +164,7 @@ module _ {ws : List ℕ} {h : Heap} {base : List Entry} (p : Passes ws h) (gone 
           top = record { chunk = fill; member = there; place = refl; free = refl; reaches = reaches };
           donor = λ some. donor-in stays (donor some);
         })
-        gone new counted)
+        (movedDown fill) filled-place gone new counted)
 
   -- the chunk above the gap joins it, or does not; then the gap is filled
   module _ {low : List Entry} {from to : ℕ} {high : List Entry} {d : Draft} (g : Gap ws h base low from to high d) (posts : Posts h (low ++ high)) where
@@ -169,7 +189,7 @@ module _ {ws : List ℕ} {h : Heap} {base : List Entry} (p : Passes ws h) (gone 
 
     -- that chunk is ordinary
     joins-ordinary : above .flags ≡ 0 → kindOf h above ≡ Ordinary
-        → GivenBack ws h base (nowUses gone new (settle Ordinary (gapChunk from (chunkEnd above)) (joined (leaveBin above d))))
+        → GivenBack ws h base (nowUses gone new (swallowing (gapChunk from (chunkEnd above)) (settle Ordinary (gapChunk from (chunkEnd above)) (joined (leaveBin above d)))))
     joins-ordinary free q =
         let o = ap ordinaryKind q in
         fills-bin (above-joins opened free o)
@@ -181,7 +201,7 @@ module _ {ws : List ℕ} {h : Heap} {base : List Entry} (p : Passes ws h) (gone 
 
       -- it is the donor
       joins-donor : ordinary h above ≡ false → 0 < h .donor .0 → above .place ≡ h .donor .0
-          → GivenBack ws h base (nowUses gone new (settle Donor (gapChunk from (chunkEnd above)) (joined d)))
+          → GivenBack ws h base (nowUses gone new (swallowing (gapChunk from (chunkEnd above)) (settle Donor (gapChunk from (chunkEnd above)) (joined d))))
       joins-donor o some q =
           let t = posted .top in
           let b = posted .donor some .below in
@@ -195,7 +215,7 @@ module _ {ws : List ℕ} {h : Heap} {base : List Entry} (p : Passes ws h) (gone 
 
       -- it is the top
       joins-top : ordinary h above ≡ false → above .place ≡ h .top .0
-          → GivenBack ws h base (nowUses gone new (settle Top (gapChunk from (chunkEnd above)) (joined d)))
+          → GivenBack ws h base (nowUses gone new (swallowing (gapChunk from (chunkEnd above)) (settle Top (gapChunk from (chunkEnd above)) (joined d))))
       joins-top o q =
           let t = posted .top in
           fills-top wide (λ x m z. above-apart opened free x m (z ∙ sym q))
@@ -228,8 +248,9 @@ module _ {ws : List ℕ} {h : Heap} {base : List Entry} (p : Passes ws h) (gone 
     joins-above : (k : Kind) → (freeKind k ≡ true → kindOf h above ≡ k) → let end = cond (freeKind k) (chunkEnd above) to in
         GivenBack ws h base
         (nowUses gone new
+        (swallowing (gapChunk from end)
         (settle (joinedAs k) (gapChunk from end)
-        (relink low (gapChunk from end ∷ []) (cond (freeKind k) beyond high) (leaveBins (cond (ordinaryKind k) (above ∷ []) []) d))))
+        (relink low (gapChunk from end ∷ []) (cond (freeKind k) beyond high) (leaveBins (cond (ordinaryKind k) (above ∷ []) []) d)))))
     joins-above Ordinary q =
         let b = being-as h above Ordinary (q refl) in
         let f = flags-small in

@@ -4,7 +4,7 @@ use mathlib.Core.Path.{_≡_, refl, sym, ap, subst, _∙_}
 use mathlib.Core.Logic.{_≢_, _⊎_, inl, inr}
 use mathlib.Core.Bool.{true, false, false≢true}
 use mathlib.Core.List.{List, [], _∷_, _++_, append-assoc, List·Memᴰ·head, List·Memᴰ·tail, List·Memᴰ·eq-of-singleton, Memᴰ·append-right}
-use Prim.Native.Nat.{ℕ, _+_, _-_, _%_, _<_}
+use Prim.Native.Nat.{ℕ, _+_, _-_, _%_, _≤_, _<_}
 use native.Mathlib.Omega.{arith}
 use Rattle.lists.specs.Lists.{Mem}
 use Rattle.lists.proofs.SplitLaws.{among, middle-in, all-but}
@@ -12,6 +12,7 @@ use Rattle.record.specs.declared.heap.Heap.{Heap}
 use Rattle.region.specs.Words.{written}
 use Rattle.rules.specs.Shape.{Entry, entry, chunkEnd}
 use Rattle.rules.specs.Kinds.{ordinaryKind, ordinary, unused, outside}
+use Rattle.rules.specs.Check.{IsChunk}
 use Rattle.rules.specs.Draft.{Draft, leaveBin}
 use Rattle.rules.proofs.KindsLaws.{kind-top, kind-donor, ordinary-free}
 use Rattle.rules.proofs.SpotLaws.{Between}
@@ -27,12 +28,28 @@ use Rattle.drafts.proofs.OpenLaws.{Loose, opened-kept, opened-left}
 abbrev pub gapChunk : ℕ → ℕ → Entry
 gapChunk from to = entry from (to - from) unused
 
--- the chain is `low`, a gap, and `high`; with the gap filled it is a layout; the live chunks are those of `base`
+-- the place c is that of a chunk outside the gap, or lies in the gap
+abbrev pub Placed : ℕ → List Entry → ℕ → ℕ → Type 0
+Placed c outer from to = IsChunk outer c ⊎ ((from ≤ c) × (c < to))
+
+-- the chunk x joins the gap, which then runs from `from` to `to`
+placed-wider : {c : ℕ} (low : List Entry) (x : Entry) (high : List Entry) {a b from to : ℕ} → Placed c (low ++ x ∷ [] ++ high) a b
+    → from ≤ a → b ≤ to → from ≤ x .place → x .place < to → Placed c (low ++ high) from to
+placed-wider low x high (inr (lo, hi)) l m n k = inr (omega arith, omega arith)
+placed-wider {c} low x high {a} {b} {from} {to} (inl (y, member, q)) l m n k = go (among low (x ∷ []) high member)
+  where
+    go : Mem y (low ++ high) ⊎ Mem y (x ∷ []) → Placed c (low ++ high) from to
+    go (inl r) = inl (y, r, q)
+    go (inr r) = let s = ap (λ (e : Entry). e .place) (List·Memᴰ·eq-of-singleton r) in inr (omega arith, omega arith)
+
+-- the chain is `low`, a gap, and `high`; with the gap filled it is a layout; the live chunks are those of `base`;
+-- the patrol's place is a chunk's, or lies in the gap
 pub record Gap (ws : List ℕ) (h : Heap) (base low : List Entry) (from to : ℕ) (high : List Entry) (d : Draft) : Type 0 where
   pub layout : Layout (h .bytes) (low ++ gapChunk from to ∷ [] ++ high)
   pub last : Entry
   pub opened : Opened ws h low (gapChunk from to) last high d
   pub alive : lives h (low ++ high) ≡ lives h base
+  pub patrol : Placed (h .patrol .0) (low ++ high) from to
 
 -- top and donor stay when an ordinary chunk leaves, which is neither
 pub posts-stay : (h : Heap) (low : List Entry) (x : Entry) (high : List Entry) → Laid (h .bytes) x → ordinary h x ≡ true
@@ -128,6 +145,9 @@ module _ {ws : List ℕ} {h : Heap} {base : List Entry} where
           last = g .last;
           opened = opened-left loose two two-laid (List·Memᴰ·head refl) o;
           alive = sym (lives-free h low x high free) ∙ g .alive;
+          patrol =
+              placed-wider low x high (g .patrol)
+              (let s = below-laid .some in omega arith) (omega arith) (omega arith) (let s = below-laid .some in omega (arith, f));
         }
 
   -- the free chunk x above the gap
@@ -175,6 +195,12 @@ module _ {ws : List ℕ} {h : Heap} {base : List Entry} where
             last = x;
             opened = o;
             alive = sym (lives-free h low x high free) ∙ ap (lives h) (sym gap-around) ∙ g .alive;
+            patrol =
+                let n = above-next in
+                let s = above-laid .some in
+                let b = gap-between in
+                placed-wider low x high (subst (λ (l : List Entry). Placed (h .patrol .0) l from to) gap-around (g .patrol))
+                (omega arith) (omega arith) (omega arith) (omega arith);
           }
 
       -- it joins: an ordinary chunk leaves its bin; the donor and the top are in none

@@ -14,7 +14,7 @@ use Rattle.lists.specs.Lists.{Mem, headOr}
 use Rattle.lists.proofs.SplitLaws.{outer-in}
 use Rattle.record.specs.declared.heap.Heap.{Heap}
 use Rattle.record.specs.declared.table.Binned.the-variants.{Bin}
-use Rattle.record.specs.Heap.{places, tableOf, withEnds, withDonor, withTop, withUsed}
+use Rattle.record.specs.Heap.{places, tableOf, withEnds, withDonor, withTop, withUsed, withPatrol}
 use Rattle.record.specs.Table.{binOf}
 use Rattle.region.specs.Words.{Store, written, nextInBin, previousInBin, bin}
 use Rattle.region.proofs.WordsLaws.{Off, off, length-written}
@@ -34,7 +34,9 @@ use Rattle.drafts.proofs.LinkLaws.{linkStores, relink-written, Linking,
 
 -- the record h with the fields of a draft's record that a call may change
 abbrev pub recordMidway : Heap → Draft → Heap
-recordMidway h d = withUsed (withTop (withDonor (withEnds h (d .heap .heads) (d .heap .tails)) (d .heap .donor .0)) (d .heap .top .0)) (d .heap .used)
+recordMidway h d =
+    withPatrol (withUsed (withTop (withDonor (withEnds h (d .heap .heads) (d .heap .tails)) (d .heap .donor .0)) (d .heap .top .0)) (d .heap .used))
+    (d .heap .patrol .0)
 
 -- only the bins' heads and tails have changed in the record, so every chunk is still of its kind
 abbrev pub EndsAlone : Heap → Draft → Type 0

@@ -1,11 +1,14 @@
 -- Joining (coalescing) by the kinds of a chunk's two neighbours; and the chunk of a live block between its neighbours. Assumes nothing.
 use mathlib.Core.Path.{_≡_, refl, sym, ap, _∙_}
 use mathlib.Core.Logic.{_⊎_, inl, inr}
-use mathlib.Core.Bool.{Bool, true, false, cond, _&&_, false≢true}
+use mathlib.Core.Bool.{Bool, true, false, cond, _&&_, false≢true, and-false}
 use mathlib.Core.List.{List, [], _∷_, _++_, append-assoc}
 use Prim.Native.Nat.{ℕ, _+_, _-_, _≤_, _<_}
+use native.Mathlib.Decide.{decLt}
 use native.Mathlib.Omega.{arith}
+use lib.Dec.{ltb}
 use lib.ListN.{drop}
+use borrow.Author.Tests.{lt-ltb, le-ltb}
 use Rattle.lists.specs.Lists.{Mem, headOr, lastOr, butLast}
 use Rattle.lists.proofs.SplitLaws.{in-split}
 use Rattle.record.specs.declared.heap.Heap.{Heap}
@@ -16,7 +19,7 @@ use Rattle.rules.specs.Shape.{Entry, entry, shape, binList, chunkEnd}
 use Rattle.rules.specs.Kinds.{kindOf, ordinaryKind, freeKind, ordinary, isFree, live, unused, outside}
 use Rattle.rules.specs.Check.{Passes}
 use Rattle.rules.specs.Draft.{Draft, relink, settle}
-use Rattle.rules.specs.Join.{Joined, joinedAs, joining, leaveBins}
+use Rattle.rules.specs.Join.{Joined, joinedAs, joining, leaveBins, movedDown, swallowing}
 use Rattle.rules.proofs.SpotLaws.{Between, Around, around, chunks-apart, one-chunk}
 use Rattle.rules.proofs.NamedLaws.{live-between, kind-free}
 use Rattle.books.proofs.BooksLaws.{Far}
@@ -79,7 +82,22 @@ sees-free false k e = absurd (false≢true e)
 
 -- the rest of the rule `release`, after joining
 abbrev pub givenBack : Joined → Draft → Draft
-givenBack j d = settle (j .becomes) (j .here) (relink (j .low) (j .here ∷ []) (j .high) (leaveBins (j .leaving) d))
+givenBack j d =
+    swallowing (j .here) (settle (j .becomes) (j .here) (relink (j .low) (j .here ∷ []) (j .high) (leaveBins (j .leaving) d)))
+
+-- a place in a chunk, its own included, moves down to it; any other stays
+pub inside-moves : (e : Entry) (c : ℕ) → e .place ≤ c → c < chunkEnd e → movedDown e c ≡ e .place
+unfolding movedDown
+inside-moves e c lo hi = go (decLt (e .place) c)
+  where
+    go : Dec (e .place < c) → cond (ltb (e .place) c && ltb c (chunkEnd e)) (e .place) c ≡ e .place
+    go (yes l) = rw (lt-ltb (e .place) c l, lt-ltb c (chunkEnd e) hi)
+    go (no n) = rw (le-ltb (e .place) c (omega arith)) (omega arith)
+
+pub outside-stays : (e : Entry) (c : ℕ) → (c ≤ e .place) ⊎ (chunkEnd e ≤ c) → movedDown e c ≡ c
+unfolding movedDown
+outside-stays e c (inl l) = rw (le-ltb (e .place) c l)
+outside-stays e c (inr l) = rw (le-ltb c (chunkEnd e) l, and-false (ltb (e .place) c))
 
 -- the joined chunk ends at `to`; y is the chunk above it, and `named` the place that the words give for it
 pub record Summit (es : List Entry) (e : Entry) (to named : ℕ) (y : Entry) : Type 0 where

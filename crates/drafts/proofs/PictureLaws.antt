@@ -1,5 +1,6 @@
 -- A draft that is a picture of the heap (`Pictured`): once its stores are written, the words pass the check with its record and are read
--- as its chain and lists. So it is if the invariant holds of all chunks, headers are right, and donor, top and used bytes are. Assumes nothing.
+-- as its chain and lists. So it is if the invariant holds of all chunks, headers are right, and so are donor, top, used bytes and the patrol's
+-- place. Assumes nothing.
 use mathlib.Core.Path.{_≡_, sym, ap, _∙_}
 use mathlib.Core.Bool.{false}
 use mathlib.Core.List.{List}
@@ -13,7 +14,7 @@ use Rattle.region.specs.Words.{written}
 use Rattle.region.proofs.WordsLaws.{length-written}
 use Rattle.rules.specs.Shape.{Entry, shape, members, binList}
 use Rattle.rules.specs.Kinds.{ordinaryKind, live, outside}
-use Rattle.rules.specs.Check.{Fits, Tabled, TopIs, DonorIs, Listed, usedBytes, Passes, PassesAs}
+use Rattle.rules.specs.Check.{Fits, Tabled, TopIs, DonorIs, Listed, usedBytes, IsChunk, Passes, PassesAs}
 use Rattle.rules.specs.Draft.{Draft}
 use Rattle.rules.proofs.ChainLaws.{places-fit}
 use Rattle.rules.proofs.KindsLaws.{kind-top, kind-donor}
@@ -33,7 +34,8 @@ pub record Pictured (ws : List ℕ) (d : Draft) : Type 0 where
   pub lists : (i : ℕ) → binList (written ws (d .stores)) (d .heap) i ≡ d .lists i
   pub allPut : d .noBinTakes ≡ false
 
--- a draft that is complete: all chunks es of its chain stay, in a layout, with right headers; donor, top and used bytes are right
+-- a draft that is complete: all chunks es of its chain stay, in a layout, with right headers; donor, top, used bytes and the patrol's place
+-- are right
 pub record Complete (ws : List ℕ) (h : Heap) (es : List Entry) (d : Draft) : Type 0 where
   pub halfway : Halfway ws h es d
   pub layout : Layout (h .bytes) es
@@ -41,6 +43,7 @@ pub record Complete (ws : List ℕ) (h : Heap) (es : List Entry) (d : Draft) : T
   pub posts : Posts (recordMidway h d) es
   pub chain : d .chain ≡ es
   pub used : d .heap .used ≡ usedBytes (recordMidway h d) es
+  pub patrol : IsChunk es (d .heap .patrol .0)
 
 module _ {ws : List ℕ} {h : Heap} (p : Passes ws h) {es : List Entry} {d : Draft} (complete : Complete ws h es d) where
   abbrev words : List ℕ
@@ -139,6 +142,7 @@ module _ {ws : List ℕ} {h : Heap} (p : Passes ws h) {es : List Entry} {d : Dra
         bins = listed-still;
         binned = λ e m o. let r = f .listed e m o in (r .bin, r .takes, (r .inside, rw (list-read (r .bin)) (r .member)));
         used = complete .used;
+        patrol = complete .patrol;
       }
 
   -- it is a picture

@@ -1,14 +1,14 @@
 -- Freeing a live block leaves a picture of the heap (`free-kept`): it passes and is read as the draft says. Every other live chunk stays, and no
 -- chunk becomes live. Assumes nothing.
 use mathlib.Core.Path.{_≡_, refl, sym, ap, subst, _∙_}
-use mathlib.Core.Logic.{_≢_, inl, inr}
+use mathlib.Core.Logic.{_≢_, _⊎_, inl, inr}
 use mathlib.Core.Bool.{true}
 use mathlib.Core.List.{List, [], _∷_, _++_, append-nil, List·Memᴰ·head, List·Memᴰ·eq-of-singleton}
-use Prim.Native.Nat.{ℕ, _+_, _-_, _≤_}
+use Prim.Native.Nat.{ℕ, _+_, _-_, _≤_, _<_}
 use native.Mathlib.Nat.{add-zero}
 use native.Mathlib.Omega.{arith}
 use Rattle.lists.specs.Lists.{Mem}
-use Rattle.lists.proofs.SplitLaws.{outer-in, middle-in}
+use Rattle.lists.proofs.SplitLaws.{among, outer-in, middle-in}
 use Rattle.record.specs.declared.heap.Heap.{Heap}
 use Rattle.rules.specs.Shape.{Entry, shape, chunkEnd}
 use Rattle.rules.specs.Kinds.{ordinaryKind, kindOf, live, blockOf, outside}
@@ -28,7 +28,7 @@ use Rattle.drafts.proofs.OpenLaws.{InnerChunk, whole, laid-out, beside,
 use Rattle.drafts.proofs.PictureLaws.{Pictured, pictured-live}
 use Rattle.drafts.proofs.JoinLaws.{LiveChunk, here, own}
 use Rattle.drafts.proofs.BlockLaws.{splits, live-chunk}
-use Rattle.drafts.proofs.GapLaws.{gapChunk, Gap}
+use Rattle.drafts.proofs.GapLaws.{gapChunk, Placed, Gap}
 use Rattle.drafts.proofs.GapKept.{GivenBack, gap-given}
 
 -- the chunk e of a live block; the chain is split there
@@ -84,7 +84,16 @@ module _ {ws : List ℕ} {h : Heap} {low : List Entry} {e : Entry} {high : List 
               same = opens .same;
             };
         alive = refl;
+        patrol = let (x, m, q) = well .patrol in placed x q (among low (e ∷ []) high (subst (λ (l : List Entry). Mem x l) (whole inner) m));
       }
+    where
+      placed : (x : Entry) → x .place ≡ h .patrol .0 → Mem x (low ++ high) ⊎ Mem x (e ∷ [])
+          → Placed (h .patrol .0) (low ++ high) (e .place) (chunkEnd e)
+      placed x q (inl k) = inl (x, k, q)
+      placed x q (inr k) =
+          let s = ap (λ (y : Entry). y .place) (List·Memᴰ·eq-of-singleton k) in
+          let b = inner .between in
+          inr (omega arith, omega arith)
 
   -- used bytes fall by its size
   fewer : h .used + 0 - e .size ≡ usedBytes h (low ++ high)

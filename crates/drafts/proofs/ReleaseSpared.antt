@@ -24,7 +24,7 @@ use Rattle.rules.proofs.SpotLaws.{one-chunk}
 use Rattle.rules.proofs.KindsLaws.{ordinary-free, live-used}
 use Rattle.drafts.proofs.LayoutLaws.{Layout}
 use Rattle.drafts.proofs.OpenLaws.{outer}
-use Rattle.drafts.proofs.SparedLaws.{Outside, link-word, free-word, Spared, read-spared, writes-spared, leave-spared, relink-spared, settle-spared, uses-spared, blocks-spared, heap-stores}
+use Rattle.drafts.proofs.SparedLaws.{Outside, link-word, free-word, Spared, read-spared, writes-spared, leave-spared, relink-spared, settle-spared, uses-spared, patrols-spared, blocks-spared, heap-stores}
 use Rattle.drafts.proofs.JoinLaws.{LiveChunk, sees, joinedBy, sees-ordinary, here, own, seen-free, summit}
 use Rattle.drafts.proofs.BlockLaws.{splits, live-chunk}
 use Rattle.drafts.proofs.ShrinkLaws.{keptChunk, tailChunk, splitDraft}
@@ -108,11 +108,12 @@ module _ {ws : List ℕ} {h : Heap} {low : List Entry} {e : Entry} {high : List 
   released-spared d heap s =
       let words = from-words (ordinaryKind (sees h below)) (sees-ordinary (h .merge) (kindOf h below)) in
       rw (release-is h lows part high d heap)
+      (patrols-spared Open _ _
       (settle-spared Open (joined .here) _
       (relink-spared Open (joined .low) (joined .here ∷ []) (joined .high) _ (leaves-spared Open (joined .leaving) d s)
       (λ x m. rw (List·Memᴰ·eq-of-singleton m) (words forward (omega arith), words backward (omega arith), λ f. words size (omega arith)))
       (end-link (freeKind (sees h (headOr outside high))) (seen-free chunk)))
-      (words nextInBin (omega arith), words previousInBin (omega arith), words bin (omega arith)) (joined .becomes))
+      (words nextInBin (omega arith), words previousInBin (omega arith), words bin (omega arith)) (joined .becomes)))
 
 -- the live block at b is freed
 module _ (ws : List ℕ) (h : Heap) (p : Passes ws h) (b : ℕ) (l : isLive (asRead ws h) b ≡ true) where

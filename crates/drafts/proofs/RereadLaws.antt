@@ -13,7 +13,7 @@ use Rattle.record.specs.Table.{binOf}
 use Rattle.region.specs.Words.{Store}
 use Rattle.rules.specs.Shape.{Entry, shape, binList}
 use Rattle.rules.specs.Draft.{Draft, asRead, alsoWrites, relist, leave, leaves, leaveBin, putBetween, isPut, putInBin, relink, settle, nowUses}
-use Rattle.rules.specs.Join.{joining, leaveBins, release}
+use Rattle.rules.specs.Join.{joining, leaveBins, release, swallowing}
 use Rattle.rules.specs.Free.{blockSpot, freeBlock}
 use Rattle.drafts.proofs.PutLaws.{put-between}
 
@@ -83,7 +83,7 @@ module _ (ss : List Store) where
         leave-bins-behind (j .leaving) d,
         relink-behind (j .low) (j .here ∷ []) (j .high) (leaveBins (j .leaving) d),
       )
-      (settle-behind (j .becomes) (j .here) (relink (j .low) (j .here ∷ []) (j .high) (leaveBins (j .leaving) d)))
+      (ap (swallowing (j .here)) (settle-behind (j .becomes) (j .here) (relink (j .low) (j .here ∷ []) (j .high) (leaveBins (j .leaving) d))))
 
   free-behind : (b : ℕ) (d : Draft) → freeBlock b (behind ss d) ≡ behind ss (freeBlock b d)
   unfolding freeBlock

@@ -14,7 +14,7 @@ use Rattle.region.specs.Words.{Store, put, written, forward, backward, size, ne
 use Rattle.region.proofs.WordsLaws.{Off, word-same, word-other}
 use Rattle.rules.specs.Shape.{Entry, entry, shape, chunkEnd}
 use Rattle.rules.specs.Kinds.{liveKind, live, used, blockOf, outside}
-use Rattle.rules.specs.Check.{usedBytes, Passes}
+use Rattle.rules.specs.Check.{usedBytes, IsChunk, Passes}
 use Rattle.rules.specs.Draft.{Draft, Spot, asRead, nowUses}
 use Rattle.rules.specs.Join.{release}
 use Rattle.rules.specs.Free.{isLive, blockSpot}
@@ -28,7 +28,7 @@ use Rattle.drafts.proofs.PostsLaws.{Posts, posts-in}
 use Rattle.drafts.proofs.LayoutLaws.{Beside, Laid, Layout, layout-replaced, laid-between}
 use Rattle.drafts.proofs.HeaderLaws.{Header, Headed, headed-below, headed-joined, headed-keeps, PassByHeader}
 use Rattle.drafts.proofs.HalfwayLaws.{Halfway, halfway-others, writes-halfway, Opened}
-use Rattle.drafts.proofs.OpenLaws.{laid-out, beside, lows, highs, headers-around}
+use Rattle.drafts.proofs.OpenLaws.{whole, laid-out, beside, lows, highs, headers-around}
 use Rattle.drafts.proofs.PictureLaws.{Pictured, pictured-live}
 use Rattle.drafts.proofs.JoinLaws.{LiveChunk, own}
 use Rattle.drafts.proofs.BlockLaws.{splits, live-chunk}
@@ -178,7 +178,20 @@ module _ {ws : List ℕ} {h : Heap} {low : List Entry} {e : Entry} {high : List 
       omega arith
 
   tail-gap : Gap ws h (low ++ kept ∷ [] ++ high) (low ++ kept ∷ []) (tail .place) (chunkEnd tail) high begun
-  tail-gap = record { layout = split-laid; last = e; opened = split-opened; alive = refl }
+  tail-gap =
+      record {
+        layout = split-laid;
+        last = e;
+        opened = split-opened;
+        alive = refl;
+        patrol = inl (let (x, m, q) = well .patrol in placed x q (among low (e ∷ []) high (subst (λ (l : List Entry). Mem x l) (whole (inner chunk)) m)));
+      }
+    where
+      -- where it is e's, the kept chunk is there
+      placed : (x : Entry) → x .place ≡ h .patrol .0 → Mem x (low ++ high) ⊎ Mem x (e ∷ []) → IsChunk (low ++ kept ∷ [] ++ high) (h .patrol .0)
+      placed x q (inl k) = (x, outer-in low (kept ∷ []) high k, q)
+      placed x q (inr k) =
+          (kept, middle-in low (kept ∷ []) high (List·Memᴰ·head refl), ap (λ (y : Entry). y .place) (sym (List·Memᴰ·eq-of-singleton k)) ∙ q)
 
   split-posts : Posts h (low ++ kept ∷ [] ++ high)
   split-posts = posts-in (λ x m. outer-in low (kept ∷ []) high m) (posts chunk)

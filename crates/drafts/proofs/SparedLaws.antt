@@ -26,7 +26,7 @@ use Rattle.region.proofs.WordsLaws.{Fall, fall-both, fall-so, Off}
 use Rattle.rules.specs.Shape.{Entry, shape, binList, chunkEnd}
 use Rattle.rules.specs.Kinds.{unused, blockOf, blockEnd, outside}
 use Rattle.rules.specs.Check.{Passes}
-use Rattle.rules.specs.Draft.{Draft, asRead, alsoWrites, nowUses, followedBy, precededBy, meet, relist, leave, leaves, leaveBin, putBetween, isPut, putInBin, sizeStores, headers, relink, settle}
+use Rattle.rules.specs.Draft.{Draft, asRead, alsoWrites, nowUses, patrolsAt, followedBy, precededBy, meet, relist, leave, leaves, leaveBin, putBetween, isPut, putInBin, sizeStores, headers, relink, settle}
 use Rattle.rules.proofs.KindsLaws.{Used, block-starts, block-ends}
 use Rattle.books.proofs.BooksLaws.{putStores}
 use Rattle.books.proofs.HeapBooks.{member-entry, list-none}
@@ -106,6 +106,9 @@ module _ (P : ℕ → Type 0) where
 
   pub uses-spared : (before after : ℕ) (d : Draft) → Spared d → Spared (nowUses before after d)
   uses-spared before after d s = record { stores = s .stores; members = s .members }
+
+  pub patrols-spared : (c : ℕ) (d : Draft) → Spared d → Spared (patrolsAt c d)
+  patrols-spared c d s = record { stores = s .stores; members = s .members }
 
   relist-spared : (i : ℕ) (cs : List ℕ) (ss : List Store) (d : Draft) → Spared d → MemberLinks cs → Fall P ss → Spared (relist i cs ss d)
   relist-spared i cs ss d s l f =

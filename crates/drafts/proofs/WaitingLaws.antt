@@ -14,8 +14,8 @@ use Rattle.record.specs.Heap.{withEnds, withDonor, withTop}
 use Rattle.region.specs.Words.{written}
 use Rattle.rules.specs.Shape.{Entry}
 use Rattle.rules.specs.Kinds.{ordinaryKind, kindAt, kindOf, ordinary, outside}
-use Rattle.rules.specs.Check.{usedBytes, Passes}
-use Rattle.rules.specs.Draft.{Draft, settle, nowUses}
+use Rattle.rules.specs.Check.{usedBytes, IsChunk, Passes}
+use Rattle.rules.specs.Draft.{Draft, settle, nowUses, patrolsAt}
 use Rattle.rules.proofs.KindsLaws.{Used, kind-top, kind-donor, kind-ordinary, donor-moved, top-moved}
 use Rattle.rules.proofs.SpotLaws.{Between, bounds}
 use Rattle.drafts.proofs.LivesLaws.{lives-same}
@@ -46,9 +46,10 @@ pub record Finished (ws : List ℕ) (es : List Entry) (d : Draft) : Type 0 where
   pub pictured : Pictured ws d
   pub chain : d .chain ≡ es
 
--- the invariant does not depend on used bytes
-uses-halfway : {ws : List ℕ} {h : Heap} {es : List Entry} {d : Draft} (gone new : ℕ) → Halfway ws h es d → Halfway ws h es (nowUses gone new d)
-uses-halfway gone new f =
+-- the invariant does not depend on used bytes, nor on the patrol's place
+uses-halfway : {ws : List ℕ} {h : Heap} {es : List Entry} {d : Draft} (c gone new : ℕ) → Halfway ws h es d
+    → Halfway ws h es (nowUses gone new (patrolsAt c d))
+uses-halfway c gone new f =
     record {
       heap = rw (f .heap);
       ends = f .ends;
@@ -173,7 +174,7 @@ module _ {ws : List ℕ} {h : Heap} (p : Passes ws h) where
         next (λ (k : Heap). withTop k (c .place)) s
         (s .heap ∙ ap (λ (k : Heap). withEnds (withTop k (c .place)) (settle Top c d .heap .heads) (settle Top c d .heap .tails)) (w .heap)) (w .bytes)
 
-  -- no chunk waits any more, and the used bytes are updated
+  -- no chunk waits any more; used bytes and the patrol's place, which may move, are updated
   module _ {g : Heap} {stay es : List Entry} {d : Draft} (w : Waiting ws h g stay [] es d) where
     all-belong : Halfway ws h es d
     all-belong = halfway-others (w .halfway) (λ x m o. w .stays x m) (λ x m. go x (w .others x m))
@@ -183,21 +184,25 @@ module _ {ws : List ℕ} {h : Heap} (p : Passes ws h) where
         go x (inr (inl m)) = absurd (List·Memᴰ·not-nil m)
         go x (inr (inr u)) = inr u
 
-    pub waiting-done : Posts g es → (gone new : ℕ) → g .used + new - gone ≡ usedBytes h es → Finished ws es (nowUses gone new d)
-    waiting-done posts gone new u =
+    pub waiting-done : Posts g es → (move : ℕ → ℕ) → IsChunk es (move (g .patrol .0)) → (gone new : ℕ) → g .used + new - gone ≡ usedBytes h es
+        → Finished ws es (nowUses gone new (patrolsAt (move (d .heap .patrol .0)) d))
+    waiting-done posts move place gone new u =
         let donorIs = ap (λ (k : Heap). k .donor .0) (w .heap) in
         let topIs = ap (λ (k : Heap). k .top .0) (w .heap) in
         let usedIs = ap (λ (k : Heap). k .used) (w .heap) in
+        let patrolIs = ap (λ (k : Heap). k .patrol .0) (w .heap) in
+        let after = nowUses gone new (patrolsAt (move (d .heap .patrol .0)) d) in
         record {
           pictured =
               pictured p
               (record {
-                halfway = uses-halfway gone new all-belong;
+                halfway = uses-halfway (move (d .heap .patrol .0)) gone new all-belong;
                 layout = w .layout;
                 headed = w .headed;
                 posts = record { top = rw (topIs, ← w .bytes) (posts .top); donor = rw (donorIs, topIs) (posts .donor) };
                 chain = w .chain;
-                used = rw usedIs (u ∙ ap (total (λ (e : Entry). e .size)) (sym (lives-same (recordMidway h (nowUses gone new d)) h refl es)));
+                used = rw usedIs (u ∙ ap (total (λ (e : Entry). e .size)) (sym (lives-same (recordMidway h after) h refl es)));
+                patrol = rw patrolIs place;
               });
           chain = w .chain;
         }

@@ -191,12 +191,12 @@ usedBytes h es = total (λ e. e .size) (keep (live h) es)
 abbrev pub freeBytes : Heap → List Entry → ℕ
 freeBytes h es = total (λ e. e .size) (keep (isFree h) es)
 
--- The patrol's place is that of a chunk of the chain; start and end count (document 02, request Two).
-abbrev pub PatrolIs : Heap → List Entry → Type 0
-PatrolIs h es = (e : Entry) × Mem e es × (e .place ≡ h .patrol .0)
+-- A chunk of the chain is at c; start and end count. The patrol's place has to be such a place (document 02, request Two).
+abbrev pub IsChunk : List Entry → ℕ → Type 0
+IsChunk es c = (e : Entry) × Mem e es × (e .place ≡ c)
 
-abbrev pub patrolIs : Heap → List Entry → Bool
-patrolIs h es = any (λ e. eqb (e .place) (h .patrol .0)) es
+abbrev pub isChunk : List Entry → ℕ → Bool
+isChunk es c = any (λ e. eqb (e .place) c) es
 
 -- The heap passes the check with the chain es.
 pub record PassesAs (ws : List ℕ) (h : Heap) (es : List Entry) : Type 0 where
@@ -211,7 +211,7 @@ pub record PassesAs (ws : List ℕ) (h : Heap) (es : List Entry) : Type 0 where
   pub bins : (i : ℕ) → i < h .bins → Listed ws h es i (binList ws h i)
   pub binned : (e : Entry) → Mem e es → ordinary h e ≡ true → InItsBin ws h e
   pub used : h .used ≡ usedBytes h es
-  pub patrol : PatrolIs h es
+  pub patrol : IsChunk es (h .patrol .0)
 
 -- The heap passes, with the chain as it is read.
 abbrev pub Passes : List ℕ → Heap → Type 0
@@ -226,7 +226,7 @@ passesAs ws h es =
     && every (λ i. listed ws h es i (binList ws h i)) (numbersFrom 0 (h .bins))
     && every (λ e. not (ordinary h e) || inItsBin ws h e) es
     && eqb (h .used) (usedBytes h es)
-    && patrolIs h es
+    && isChunk es (h .patrol .0)
 
 unfoldable pub passes : List ℕ → Heap → Bool
 passes ws h = passesAs ws h (shape ws (h .bytes))

@@ -9,7 +9,7 @@ use Rattle.lists.specs.Lists.{headOr, lastOr, keep, upTo, past}
 use Rattle.record.specs.declared.heap.Heap.{Heap}
 use Rattle.record.specs.declared.table.Binned.{Binned}
 use Rattle.record.specs.declared.table.Binned.the-variants.{Bin, NoBin}
-use Rattle.record.specs.Heap.{tableOf, withEnds, withDonor, withTop, withUsed}
+use Rattle.record.specs.Heap.{tableOf, withEnds, withDonor, withTop, withUsed, withPatrol}
 use Rattle.record.specs.Table.{smallBins, binOf}
 use Rattle.region.specs.Words.{Store, put, forward, backward, size, nextInBin, previousInBin, bin}
 use Rattle.record.specs.declared.kinds.Kind.{Kind}
@@ -56,6 +56,10 @@ withHeap h d =
 -- used bytes when a chunk in use of `before` bytes becomes one of `after`; 0 stands for no chunk
 abbrev pub nowUses : ℕ → ℕ → Draft → Draft
 nowUses before after d = withHeap (withUsed (d .heap) (d .heap .used + after - before)) d
+
+-- another place of the patrol
+abbrev pub patrolsAt : ℕ → Draft → Draft
+patrolsAt c d = withHeap (withPatrol (d .heap) c) d
 
 -- the bin links where xs and ys meet in one list: the forward link of the last of xs and the backward link of the first of ys.
 -- An empty part has no link to write; head and tail are `relist`'s

@@ -6,12 +6,11 @@ use lib.Dec.{ltb}
 use lib.ListN.{drop}
 use Rattle.lists.specs.Lists.{headOr, lastOr, butLast}
 use Rattle.record.specs.declared.heap.Heap.{Heap}
-use Rattle.record.specs.Heap.{withPatrol}
 use Rattle.record.specs.declared.kinds.Kind.{Kind}
 use Rattle.record.specs.declared.kinds.Kind.the-variants.{Start, InUse, Ordinary, Donor, Top, End}
 use Rattle.rules.specs.Shape.{Entry, entry, chunkEnd}
 use Rattle.rules.specs.Kinds.{kindOf, ordinaryKind, freeKind, unused, outside}
-use Rattle.rules.specs.Draft.{Draft, withHeap, leaveBin, relink, settle}
+use Rattle.rules.specs.Draft.{Draft, patrolsAt, leaveBin, relink, settle}
 
 -- what joining gives: the chain below the joined chunk, that chunk and its kind, the chain above it,
 -- and the ordinary chunks that it contains, which have to leave their bins, the lower one first
@@ -60,7 +59,7 @@ movedDown e c = cond (ltb (e .place) c && ltb c (chunkEnd e)) (e .place) c
 
 -- the patrol's place where the chunk e joined others (document 02, request Two)
 abbrev pub swallowing : Entry → Draft → Draft
-swallowing e d = withHeap (withPatrol (d .heap) (movedDown e (d .heap .patrol .0))) d
+swallowing e d = patrolsAt (movedDown e (d .heap .patrol .0)) d
 
 -- the chunk e between `low` and `high` is given back: the chunks that it joins leave their bins; the result is linked
 -- into the chain and settles as donor, as top or in its bin; it may have swallowed the patrol's place. Headers inside the result
