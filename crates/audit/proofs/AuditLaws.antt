@@ -89,28 +89,36 @@ module _ (bins : ℕ) (sizes heads tails : List ℕ) where
         unfolding isTabledM
         by-tails h ew = hold (hold (hold (hold long (held et ht)) (held eu hu)) (held ev h)) ew
 
--- the tally: the chain reaches the end, and top and donor were met
+-- the tally: the chain reaches the end, and top, patrol's place and donor were met
 module _ (t : Tally) (s : Summary) where
   pub no-end : (t .end + 8 ≡ s .bytes → ⊥) → false ≡ isSettledM t s
   unfolding isSettledM
-  no-end n = still _ (still _ (sym (ne-eqb (t .end + 8) (s .bytes) n)))
+  no-end n = still _ (still _ (still _ (sym (ne-eqb (t .end + 8) (s .bytes) n))))
 
   module _ (end : t .end + 8 ≡ s .bytes) where
     pub no-top : t .tops ≡ 0 → false ≡ isSettledM t s
     unfolding isSettledM
-    no-top e = still _ (hold (sym (eq-eqb (t .end + 8) (s .bytes) end)) (rw (eq-eqb (t .tops) 0 e)))
+    no-top e = still _ (still _ (hold (sym (eq-eqb (t .end + 8) (s .bytes) end)) (rw (eq-eqb (t .tops) 0 e))))
 
     module _ (top : t .tops ≡ 0 → ⊥) where
       ended : true ≡ (eqb (t .end + 8) (s .bytes) && not (eqb (t .tops) 0))
       ended = hold (sym (eq-eqb (t .end + 8) (s .bytes) end)) (rw (ne-eqb (t .tops) 0 top))
 
-      pub no-donor : s .donor .0 ≡ 0 → true ≡ isSettledM t s
+      pub no-patrol : t .patrols ≡ 0 → false ≡ isSettledM t s
       unfolding isSettledM
-      no-donor e = hold ended (rw (eq-eqb (s .donor .0) 0 e))
+      no-patrol e = still _ (hold ended (rw (eq-eqb (t .patrols) 0 e)))
 
-      pub by-donors : (s .donor .0 ≡ 0 → ⊥) → not (eqb (t .donors) 0) ≡ isSettledM t s
-      unfolding isSettledM
-      by-donors n = hold ended (rw (ne-eqb (s .donor .0) 0 n))
+      module _ (patrol : t .patrols ≡ 0 → ⊥) where
+        placed : true ≡ (eqb (t .end + 8) (s .bytes) && not (eqb (t .tops) 0) && not (eqb (t .patrols) 0))
+        placed = hold ended (rw (ne-eqb (t .patrols) 0 patrol))
+
+        pub no-donor : s .donor .0 ≡ 0 → true ≡ isSettledM t s
+        unfolding isSettledM
+        no-donor e = hold placed (rw (eq-eqb (s .donor .0) 0 e))
+
+        pub by-donors : (s .donor .0 ≡ 0 → ⊥) → not (eqb (t .donors) 0) ≡ isSettledM t s
+        unfolding isSettledM
+        by-donors n = hold placed (rw (ne-eqb (s .donor .0) 0 n))
 
 -- what both walks come to, r. It is a record, so that the checker finds by itself what was lent to them
 pub record Walked (ws table heads tails : List ℕ) (s : Summary) (r : Audit) : Type 0 where

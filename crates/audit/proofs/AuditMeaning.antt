@@ -100,6 +100,7 @@ module _ (ws : List ℕ) (h : Heap) where
                   chunks = q .chunks;
                   top = q .top;
                   donor = q .donor;
+                  patrol = q .patrol;
                 };
             bins = q .bins;
             binned = q .binned;
@@ -121,6 +122,7 @@ module _ (ws : List ℕ) (h : Heap) where
             bins = r .bins;
             binned = r .binned;
             used = r .used;
+            patrol = r .chain .patrol;
           })
 
       -- the counts over the even part are those over the region

@@ -1,11 +1,13 @@
--- The walk of the chain and three tests after it find exactly the check's facts about the chain (`found-facts`, `facts-found`),
+-- The walk of the chain and four tests after it find exactly the check's facts about the chain (`found-facts`, `facts-found`),
 -- and its counts are the check's counts. Assumes nothing.
 use mathlib.Core.Path.{_≡_, refl, sym, _∙_}
-use mathlib.Core.Bool.{true, cond}
+use mathlib.Core.Bool.{Bool, true, false, cond}
 use mathlib.Core.List.{List, [], _∷_, List·Memᴰ·head, List·Memᴰ·tail, List·Memᴰ·not-nil}
 use Prim.Native.Nat.{ℕ, _+_, _-_, _%_, _≤_, _<_}
 use native.Mathlib.Omega.{arith}
+use lib.Dec.{eqb}
 use lib.ListN.{length}
+use borrow.Author.Tests.{eq-eqb, eqb-true}
 use Rattle.lists.specs.Lists.{Mem, headOr, lastOr, keep}
 use Rattle.lists.proofs.ListsLaws.{Decides, number-is, at-most, less, meaning, both, each-cons}
 use Rattle.lists.proofs.TotalLaws.{total-ones, some-of-total, total-of-some, total-kept}
@@ -16,12 +18,12 @@ use Rattle.record.specs.Heap.{summaryOf}
 use Rattle.region.specs.Words.{word, forward, backward, size, nextInBin, previousInBin, bin}
 use Rattle.rules.specs.Shape.{Entry, flagsAt, shape}
 use Rattle.rules.specs.Kinds.{kindOf, ordinary, isFree, live, ordinaryKind, freeKind, liveKind, outside}
-use Rattle.rules.specs.Check.{Chained, Ended, Backed, Sound, Unbinned, Reserved, TopIs, DonorIs, usedBytes, freeBytes}
+use Rattle.rules.specs.Check.{Chained, Ended, Backed, Sound, Unbinned, Reserved, TopIs, DonorIs, usedBytes, freeBytes, IsChunk}
 use Rattle.rules.proofs.ChainLaws.{same-place, Chain, shape-chain}
 use Rattle.rules.proofs.KindsLaws.{Being, being, kind-start, kind-end, kind-top, kind-donor}
 use Rattle.survey.specs.declared.Tally.{Tally}
 use Rattle.survey.specs.Chunks.{isBackedM, isSizedM, isStartM, isEndM, isReservedM, isDonorM, isTopM, isSoundM, soundAt}
-use Rattle.survey.specs.Survey.{shareOf, allSound, tallyOf}
+use Rattle.survey.specs.Survey.{shareOf, atPatrolM, allSound, tallyOf}
 
 -- the facts of a heap that passes which speak of the chain alone
 pub record ChainFacts (ws : List ℕ) (h : Heap) (es : List Entry) : Type 0 where
@@ -31,6 +33,7 @@ pub record ChainFacts (ws : List ℕ) (h : Heap) (es : List Entry) : Type 0 wher
   pub chunks : (e : Entry) → Mem e es → Sound ws h e
   pub top : (e : Entry) × Mem e es × TopIs ws h e
   pub donor : 0 < h .donor .0 → (e : Entry) × Mem e es × DonorIs ws h e
+  pub patrol : IsChunk es (h .patrol .0)
 
 -- the tally of a list of chunks, with the record's bytes, donor and top
 abbrev pub tallyFor : Heap → List Entry → Tally
@@ -42,6 +45,7 @@ pub record Found (ws : List ℕ) (h : Heap) : Type 0 where
   pub end : tallyFor h (shape ws (h .bytes)) .end + 8 ≡ h .bytes
   pub top : 0 < tallyFor h (shape ws (h .bytes)) .tops
   pub donor : 0 < h .donor .0 → 0 < tallyFor h (shape ws (h .bytes)) .donors
+  pub patrol : 0 < tallyFor h (shape ws (h .bytes)) .patrols
 
 -- only a top chunk counts as one, and only a donor
 counted-as : (k : Kind) (s : ℕ) → (0 < shareOf k s .tops → Top ≡ k) × (0 < shareOf k s .donors → Donor ≡ k)
@@ -51,6 +55,14 @@ counted-as Ordinary s = (λ l. absurd (omega arith), λ l. absurd (omega arith))
 counted-as Donor s = (λ l. absurd (omega arith), λ l. refl)
 counted-as Top s = (λ l. refl, λ l. absurd (omega arith))
 counted-as End s = (λ l. absurd (omega arith), λ l. absurd (omega arith))
+
+-- a chunk that is counted at a place is there
+counted-at : (patrol c : ℕ) → 0 < atPatrolM patrol c → c ≡ patrol
+counted-at patrol c l = go (eqb c patrol) refl l
+  where
+    go : (t : Bool) → eqb c patrol ≡ t → 0 < cond t 1 0 → c ≡ patrol
+    go true q l = eqb-true c patrol q
+    go false q l = absurd (omega arith)
 
 module _ (ws : List ℕ) (h : Heap) where
   -- the size is enough, and the size word says it
@@ -178,6 +190,7 @@ module _ (ws : List ℕ) (h : Heap) where
         donor = λ some.
             let (e, m, counted) = some-of-total _ es (f .donor some) in
             (e, m, donor-is e (seen e m) (counted-as _ _ .1 counted));
+        patrol = let (e, m, counted) = some-of-total _ es (f .patrol) in (e, m, counted-at (h .patrol .0) (e .place) counted);
       }
 
   -- the other way round: each chunk is as its kind asks
@@ -248,6 +261,7 @@ module _ (ws : List ℕ) (h : Heap) where
           end = facts .chain .reachesEnd;
           top = let (e, m, top) = facts .top in counts-top e m top;
           donor = λ some. let (e, m, donor) = facts .donor some in counts-donor e m donor;
+          patrol = let (e, m, q) = facts .patrol in total-of-some _ m (rw (eq-eqb (e .place) (h .patrol .0) q) (omega arith));
         }
 
 -- what a chunk of each kind counts for

@@ -52,14 +52,14 @@ marked-long ms k c = go (ordinaryKind k)
 
 -- the tests after the walk of the chain
 settled-iff : (t : Tally) (s : Summary)
-    → Decides (isSettledM t s) ((t .end + 8 ≡ s .bytes) × (0 < t .tops) × (0 < s .donor .0 → 0 < t .donors))
+    → Decides (isSettledM t s) ((t .end + 8 ≡ s .bytes) × (0 < t .tops) × (0 < t .patrols) × (0 < s .donor .0 → 0 < t .donors))
 unfolding isSettledM
 settled-iff t s =
     meaning
-    (both (both (number-is (t .end + 8) (s .bytes)) (denied (number-is (t .tops) 0)))
+    (both (both (both (number-is (t .end + 8) (s .bytes)) (denied (number-is (t .tops) 0))) (denied (number-is (t .patrols) 0)))
     (or-else (number-is (s .donor .0) 0) (denied (number-is (t .donors) 0))))
-    (λ ((end, tops), donor). (end, omega arith, λ l. donors donor l))
-    (λ (end, top, donor). ((end, λ e. omega arith), back donor (ℕ-discrete (s .donor .0) 0)))
+    (λ (((end, tops), patrols), donor). (end, omega arith, omega arith, λ l. donors donor l))
+    (λ (end, top, patrol, donor). (((end, λ e. omega arith), λ e. omega arith), back donor (ℕ-discrete (s .donor .0) 0)))
   where
     donors : (s .donor .0 ≡ 0) ⊎ (t .donors ≡ 0 → ⊥) → 0 < s .donor .0 → 0 < t .donors
     donors (inl e) l = absurd (omega arith)
@@ -225,13 +225,13 @@ module _ (ws : List ℕ) (h : Heap) (big : 40 ≤ h .bytes) (small : h .bytes �
       (number-is (tallyFor h es .used) (h .used)))
       (itself (allWhole ws (tableOf h) (h .heads) (h .tails) (h .bytes) markedAll (numbersFrom 0 (length (tableOf h))))))
       (number-is (metAll ws (tableOf h) (h .heads) (h .tails) (summaryOf h)) (tallyFor h es .ordinary)))
-      (λ ((((sound, (end, top, donor)), used), whole), count).
-      rest (found-facts ws h big (record { sound = sound; end = end; top = top; donor = donor }))
+      (λ ((((sound, (end, top, patrol, donor)), used), whole), count).
+      rest (found-facts ws h big (record { sound = sound; end = end; top = top; donor = donor; patrol = patrol }))
       whole (count ∙ tally-ordinary h es) used)
       (λ r.
       let f = facts-found ws h big (r .chain) in
       let c = combs r in (
-        (((f .sound, (f .end, f .top, f .donor)), tally-used h es ∙ sym (r .used)), subst (λ (n : ℕ). allWhole ws (tableOf h) (h .heads) (h .tails) (h .bytes) markedAll (numbersFrom 0 n) ≡ true) (sym (table-bins h table)) (c .whole)),
+        (((f .sound, (f .end, f .top, f .patrol, f .donor)), tally-used h es ∙ sym (r .used)), subst (λ (n : ℕ). allWhole ws (tableOf h) (h .heads) (h .tails) (h .bytes) markedAll (numbersFrom 0 n) ≡ true) (sym (table-bins h table)) (c .whole)),
         subst (λ (n : ℕ). total (λ i. length (listAt ws (tableOf h) (h .heads) (h .tails) (h .bytes) i)) (numbersFrom 0 n) % 2 ^ 32 ≡ length all) (sym (table-bins h table)) (c .count)
             ∙ length-map (keep (ordinary h) es) (λ (d : Entry). d .place) ∙ sym (tally-ordinary h es),
       ))

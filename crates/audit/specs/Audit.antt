@@ -30,7 +30,8 @@ isTabledM bins sizes heads tails =
 
 unfoldable pub isSettledM : Tally → Summary → Bool
 isSettledM t s =
-    eqb (t .end + 8) (s .bytes) && not (eqb (t .tops) 0) && (eqb (s .donor .0) 0 || not (eqb (t .donors) 0))
+    eqb (t .end + 8) (s .bytes) && not (eqb (t .tops) 0) && not (eqb (t .patrols) 0)
+    && (eqb (s .donor .0) 0 || not (eqb (t .donors) 0))
 
 -- no chunk is marked
 abbrev pub noMarks : List ℕ

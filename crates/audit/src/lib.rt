@@ -74,7 +74,7 @@ pub fn is_tabled<'a>(bins: usize, sizes: &[u32], heads: &'a [u32], tails: &'a [u
     is_unused(tails, bins)
 }
 
-// What the walk of the chain must have come to: the end chunk, a top, and a donor if the record names one.
+// What the walk of the chain must have come to: the end chunk, a top, a chunk at the patrol's place, and a donor if the record names one.
 pub fn is_settled(tally: Tally, summary: Summary) -> bool
     ensures { λ r. ⌜ r ≡ isSettledM tally summary ⌝ }
 {
@@ -82,6 +82,9 @@ pub fn is_settled(tally: Tally, summary: Summary) -> bool
         return false;
     }
     if tally.tops == 0 {
+        return false;
+    }
+    if tally.patrols == 0 {
         return false;
     }
     if summary.donor.0 == 0 {

@@ -30,6 +30,7 @@ freshM bytes t donor top merge =
       top = at top;
       merge = merge;
       used = 0;
+      patrol = at 0;
     }
 
 unfoldable pub startWords : List Store

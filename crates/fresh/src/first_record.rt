@@ -1,4 +1,4 @@
-// The record of a fresh heap: the table with zeros after it, empty bins, and the places of donor and top.
+// The record of a fresh heap: the table with zeros after it, empty bins, the places of donor and top, and the patrol at the start.
 // No word of the region is read or written here.
 ghost use mathlib.Core.Path.{_≡_};
 ghost use Prim.Native.Nat.{min};
@@ -62,5 +62,6 @@ pub fn fresh(bytes: u32, table: &[u32], donor: u32, top: Chunk, merge: bool) -> 
         top,
         merge,
         used: 0,
+        patrol: Chunk(0),
     }
 }

@@ -15,9 +15,9 @@ use Rattle.rules.specs.Draft.{Draft, asRead}
 use Rattle.rules.specs.Free.{isLive, blockSpot, freeBlock}
 use Rattle.rules.specs.Reallocate.{shrunk}
 use Rattle.rules.specs.Shape.{Entry, chunkEnd}
-use Rattle.settling.specs.Settling.{settledM}
 use Rattle.settling.proofs.SettledLaws.{settled-keeps}
 use Rattle.release.specs.declared.Union.{Union}
+use Rattle.release.specs.Release.{settledIn}
 use Rattle.release.specs.Give.{state, giveUpM, givenUpM}
 use Rattle.release.proofs.ReleaseMeaning.{freeAfter, joined, released}
 use Rattle.release.proofs.FindLaws.{placeOf}
@@ -36,7 +36,7 @@ fewer-used h {heads = heads} {tails} {s} gone before left u e q =
     rw (e, u) (ap (λ (n : ℕ). withEnds (withSummary h (usedNow s n)) heads tails) (omega arith))
 
 -- what giving back leaves of the summary's used bytes
-same-used : (h : Heap) (u : Union) → settledM (summaryOf h) (u .becomes) (u .chunk .0) .used ≡ h .used
+same-used : (h : Heap) (u : Union) → settledIn (summaryOf h) u .used ≡ h .used
 same-used h u = settled-keeps (summaryOf h) (u .becomes) (u .chunk .0) .used
 
 -- the chunk of the live block at b

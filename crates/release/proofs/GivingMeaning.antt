@@ -8,23 +8,25 @@ use Prim.Native.Nat.{ℕ, _+_, _-_, _%_, _≤_, _<_}
 use native.Mathlib.Omega.{arith}
 use Rattle.lists.specs.Lists.{Mem, headOr}
 use Rattle.record.specs.declared.heap.Heap.{Heap}
-use Rattle.record.specs.Heap.{tableOf, summaryOf, withSummary, withEnds}
+use Rattle.record.specs.Heap.{tableOf, summaryOf, withSummary, withEnds, withPatrol}
+use Rattle.region.specs.declared.Chunk.{Chunk}
 use Rattle.rules.specs.Shape.{Entry, entry, shape, binList}
 use Rattle.rules.specs.Kinds.{ordinary, unused, outside}
 use Rattle.rules.specs.Check.{Passes}
 use Rattle.rules.specs.Draft.{Draft, leaveBin, relink, settle}
-use Rattle.rules.specs.Join.{Joined, joinedAs, leaveBins}
+use Rattle.rules.specs.Join.{Joined, joinedAs, leaveBins, movedDown, swallowing}
 use Rattle.rules.proofs.SpotLaws.{bounds, inside}
 use Rattle.books.specs.Books.{Books, booksOf}
 use Rattle.bins.specs.Bins.{leaveM}
 use Rattle.books.proofs.BooksLaws.{Far}
 use Rattle.books.proofs.HeapBooks.{member-below, ordinary-listed}
 use Rattle.settling.specs.Settling.{arrival, leaveBinM, settleM, settledM}
+use Rattle.settling.proofs.SettledLaws.{settled-keeps}
 use Rattle.settling.proofs.DraftLaws.{Follows, LeavesBin, Settled, leave-step, link-step, link-follows, settle-step}
 use Rattle.drafts.proofs.JoinLaws.{givenBack}
 use Rattle.seek.specs.declared.Place.{Place}
 use Rattle.release.specs.declared.Union.{Union}
-use Rattle.release.specs.Release.{giveBackM}
+use Rattle.release.specs.Release.{movedM, settledIn, giveBackM}
 use Rattle.release.proofs.JoinMeaning.{Agrees, UnionLies}
 
 -- the books b are those of the draft d, in which no chunk of a bin is near c
@@ -36,7 +38,7 @@ record Out (ws : List ℕ) (h : Heap) (c : ℕ) (b : Books) (d : Draft) : Type 0
 -- giving back makes of the books b what the rules say, and the summary is known from what was joined
 pub record Released (ws : List ℕ) (h : Heap) (b : Books) (p : Place) (u : Union) (after : Draft) : Type 0 where
   pub is : giveBackM b (tableOf h) p u ≡ booksOf ws after
-  pub heap : after .heap ≡ withEnds (withSummary h (settledM (summaryOf h) (u .becomes) (u .chunk .0))) (after .heap .heads) (after .heap .tails)
+  pub heap : after .heap ≡ withEnds (withSummary h (settledIn (summaryOf h) u)) (after .heap .heads) (after .heap .tails)
 
 -- the bottom of the result, at b: no header of a chunk in a bin reaches up to it, nor does it lie above c
 record Bottom (ws : List ℕ) (h : Heap) (c b : ℕ) : Type 0 where
@@ -156,6 +158,9 @@ module _ {ws : List ℕ} {h : Heap} (p : Passes ws h) {d : Draft} (follows : Fol
         (record { eight = o .eight; some = o .some; fits = omega (arith, lies .large) })
         (gone .far) (lies .becomes .0)
 
+    settles-so : Settled ws h (booksOf ws afterLinking) (u .becomes) from (u .end - from) (settle (u .becomes) new afterLinking)
+    settles-so = rw (lies .becomes .1) settles
+
     -- the code's calls, one after the other
     gives : (place : Place) → place .before .0 ≡ lower .place → place .end ≡ upper .place
         → giveBackM (booksOf ws d) (tableOf h) place u ≡ settleM (booksOf ws afterLinking) (tableOf h) (arrival (u .becomes) from (u .end - from))
@@ -170,11 +175,26 @@ module _ {ws : List ℕ} {h : Heap} (p : Passes ws h) {d : Draft} (follows : Fol
           link-step ws h afterLeaving (gone .follows) (j .low) (j .high) from (u .end) rises (sym (agrees .above)) small,
         )
 
-    given-is : givenBack j d ≡ settle (u .becomes) new afterLinking
+    given-is : givenBack j d ≡ swallowing new (settle (u .becomes) new afterLinking)
     given-is = rw (agrees .here, agrees .becomes, agrees .leaving)
+
+    -- a place that the result swallowed moves down to it
+    moves : (c : ℕ) → movedDown new c ≡ movedM u c
+    unfolding movedDown movedM
+    moves c =
+        let r = rises in
+        let end : from + (u .end - from) ≡ u .end = omega arith in
+        rw end
+
+    recorded : {after : Heap} → after ≡ withEnds (withSummary h (settledM (summaryOf h) (u .becomes) from)) (after .heads) (after .tails)
+        → withPatrol after (movedDown new (after .patrol .0)) ≡ withEnds (withSummary h (settledIn (summaryOf h) u)) (after .heads) (after .tails)
+    recorded {after} e =
+        let kept = settled-keeps (summaryOf h) (u .becomes) from .patrol in
+        let place : after .patrol .0 ≡ h .patrol .0 = ap (λ (g : Heap). g .patrol .0) e ∙ ap (λ (c : Chunk). c .0) kept in
+        rw (place, moves (h .patrol .0)) (ap (λ (g : Heap). withPatrol g (movedM u (h .patrol .0))) e)
 
     -- the neighbours of the place that is given back are `lower` and `upper`
     pub given-back : (place : Place) → place .before .0 ≡ lower .place → place .end ≡ upper .place → Released ws h (booksOf ws d) place u (givenBack j d)
     given-back place below above =
         rw given-is
-        (record { is = gives place below above ∙ rw (lies .becomes .1) (settles .is); heap = rw (lies .becomes .1) (settles .heap) })
+        (record { is = gives place below above ∙ settles-so .is; heap = recorded (settles-so .heap) })

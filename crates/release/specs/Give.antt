@@ -5,13 +5,11 @@ use Prim.Native.Nat.{ℕ, _-_}
 use Rattle.books.specs.Books.{Books, books}
 use Rattle.record.specs.declared.heap.Heap.{Heap}
 use Rattle.record.specs.declared.heap.Summary.{Summary}
-use Rattle.record.specs.declared.kinds.Kind.{Kind}
 use Rattle.record.specs.Heap.{summaryOf, usedNow, withSummary, withEnds}
 use Rattle.release.specs.declared.Union.{Union}
-use Rattle.release.specs.Release.{joinM, giveBackM}
+use Rattle.release.specs.Release.{joinM, settledIn, giveBackM}
 use Rattle.rules.specs.Calls.{State}
 use Rattle.seek.specs.declared.Place.{Place}
-use Rattle.settling.specs.Settling.{settledM}
 
 -- the books, with the summary that the code hands back
 pub record GivenUp : Type 0 where
@@ -21,14 +19,14 @@ pub record GivenUp : Type 0 where
 abbrev pub givenUp : Books → Summary → GivenUp
 givenUp b s = record { books = b; summary = s }
 
--- the summary once a chunk of m bytes is given up, which with what it joins becomes this kind, at c
-abbrev pub givenUpIn : Summary → Kind → ℕ → ℕ → Summary
-givenUpIn s kind c m = usedNow (settledM s kind c) (s .used - m)
+-- the summary once a chunk of m bytes is given up, with what it joins
+abbrev pub givenUpIn : Summary → Union → ℕ → Summary
+givenUpIn s u m = usedNow (settledIn s u) (s .used - m)
 
 unfoldable pub giveUpM : Books → List ℕ → Summary → Place → GivenUp
 giveUpM b table s p =
     let u : Union = joinM (b .words) s p in
-    givenUp (giveBackM b table p u) (givenUpIn s (u .becomes) (u .chunk .0) (p .end - p .chunk .0))
+    givenUp (giveBackM b table p u) (givenUpIn s u (p .end - p .chunk .0))
 
 -- the words, with the record that the callers make of it
 abbrev pub state : List ℕ → Heap → State

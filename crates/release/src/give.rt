@@ -5,6 +5,7 @@ ghost use Rattle.books.specs.Books.{books};
 ghost use Rattle.release.specs.Give.{givenUp, giveUpM};
 use crate::give_back;
 use crate::join;
+use crate::moved_down;
 use headers::distance;
 use record::heap::Summary;
 use seek::Place;
@@ -23,8 +24,11 @@ pub fn give_up(
     let joined = join(region, summary, place);
     let becomes = joined.becomes;
     let chunk = joined.chunk;
+    let patrol = moved_down(joined, summary.patrol);
     give_back(region, heads, tails, table, place, joined);
     let size = distance(place.chunk.0, place.end);
     let used = distance(size, summary.used);
-    settled(summary, becomes, chunk).with_used(used)
+    settled(summary, becomes, chunk)
+        .with_patrol(patrol)
+        .with_used(used)
 }

@@ -4,7 +4,7 @@ ghost use mathlib.Core.Path.{_≡_};
 ghost use mathlib.Core.Bool.{cond};
 ghost use Rattle.books.specs.Books.{books};
 ghost use Rattle.region.specs.Words.{word, backward, forward};
-ghost use Rattle.release.specs.Release.{giveBackM, joinM, neighbourM};
+ghost use Rattle.release.specs.Release.{giveBackM, joinM, movedM, neighbourM};
 ghost use Rattle.rules.specs.Join.{joinedAs};
 ghost use Rattle.rules.specs.Kinds.{freeKind};
 use chain::is_free;
@@ -109,6 +109,19 @@ pub fn join(region: &[u32], summary: Summary, place: Place) -> Union
         lower: lower,
         upper: is_ordinary(above),
     }
+}
+
+// Where the patrol goes on: a place inside the result was swallowed, and moves down to it.
+pub fn moved_down(joined: Union, patrol: Chunk) -> Chunk
+    ensures { λ r. ⌜ r .0 ≡ movedM joined (patrol .0) ⌝ }
+{
+    if patrol.0 <= joined.chunk.0 {
+        return patrol;
+    }
+    if joined.end <= patrol.0 {
+        return patrol;
+    }
+    Chunk(joined.chunk.0)
 }
 
 // The writes. The neighbours of the place that joined leave their bins, the lower one first.

@@ -13,14 +13,15 @@ use Rattle.settling.specs.Settling.{settledM}
 pub record KeptBySettling (s after : Summary) : Type 0 where
   pub bins : after .bins ≡ s .bins
   pub used : after .used ≡ s .used
+  pub patrol : after .patrol ≡ s .patrol
 
 pub settled-keeps : (s : Summary) (k : Kind) (c : ℕ) → KeptBySettling s (settledM s k c)
-settled-keeps s Start c = record { bins = refl; used = refl }
-settled-keeps s InUse c = record { bins = refl; used = refl }
-settled-keeps s Ordinary c = record { bins = refl; used = refl }
-settled-keeps s Donor c = record { bins = refl; used = refl }
-settled-keeps s Top c = record { bins = refl; used = refl }
-settled-keeps s End c = record { bins = refl; used = refl }
+settled-keeps s Start c = record { bins = refl; used = refl; patrol = refl }
+settled-keeps s InUse c = record { bins = refl; used = refl; patrol = refl }
+settled-keeps s Ordinary c = record { bins = refl; used = refl; patrol = refl }
+settled-keeps s Donor c = record { bins = refl; used = refl; patrol = refl }
+settled-keeps s Top c = record { bins = refl; used = refl; patrol = refl }
+settled-keeps s End c = record { bins = refl; used = refl; patrol = refl }
 
 pub settled-ordinary : (s : Summary) (k : Kind) (c : ℕ) → ordinaryKind k ≡ true → settledM s k c ≡ s
 settled-ordinary s k c o = rw (ordinary-kind k o)

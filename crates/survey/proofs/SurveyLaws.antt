@@ -6,6 +6,7 @@ use Prim.Native.Nat.{ℕ, suc, _+_, _-_, _%_, _^_, _≤_, _<_, max}
 use native.Mathlib.Decide.{ℕ-discrete}
 use native.Mathlib.Nat.{zero-add, add-zero, add-assoc}
 use native.Mathlib.Omega.{arith}
+use lib.Dec.{eqb}
 use lib.ListN.{length}
 use Rattle.lists.specs.Lists.{lastOr, total}
 use Rattle.lists.proofs.TotalLaws.{total-le, total-one}
@@ -24,7 +25,7 @@ use Rattle.survey.specs.declared.Share.{Share}
 use Rattle.survey.specs.declared.Survey.the-variants.{Surveyed}
 use Rattle.survey.specs.declared.Tally.{Tally}
 use Rattle.survey.specs.Chunks.{visited, soundAt, examineM}
-use Rattle.survey.specs.Survey.{shareOf, addedM, markM, shareAt, allSound, markAll, tallyOf, SurveyIs}
+use Rattle.survey.specs.Survey.{shareOf, atPatrolM, addedM, markM, shareAt, allSound, markAll, tallyOf, SurveyIs}
 
 -- no share is larger than the chunk, and none counts more than one
 share-small : (k : Kind) (s : ℕ)
@@ -36,6 +37,14 @@ share-small Ordinary s = omega arith
 share-small Donor s = omega arith
 share-small Top s = omega arith
 share-small End s = omega arith
+
+-- the patrol's place counts a chunk no more than once
+at-most-one : (patrol c : ℕ) → atPatrolM patrol c ≤ 1
+at-most-one patrol c = go (eqb c patrol)
+  where
+    go : (t : Bool) → cond t 1 0 ≤ 1
+    go true = omega arith
+    go false = omega arith
 
 module _ (ws : List ℕ) (bytes : ℕ) where
   -- the sizes of the chain come to what is left of the heap, and there are no more chunks than that
@@ -65,6 +74,10 @@ module _ (ws : List ℕ) (s : Summary) where
   abbrev end : ℕ → ℕ
   end c = endAt ws (s .bytes) c
 
+  -- whether the patrol's place is here, as a count
+  abbrev here-too : Entry → ℕ
+  here-too e = atPatrolM (s .patrol .0) (e .place)
+
   -- what is counted already, and what is left
   abbrev counted : Tally → List Entry → Tally
   counted t es =
@@ -75,6 +88,7 @@ module _ (ws : List ℕ) (s : Summary) where
         tops = t .tops + total (λ e. shareAt s e .tops) es;
         used = t .used + total (λ e. shareAt s e .used) es;
         free = t .free + total (λ e. shareAt s e .free) es;
+        patrols = t .patrols + total here-too es;
         end = lastOr outside es .place;
       }
 
@@ -88,6 +102,7 @@ module _ (ws : List ℕ) (s : Summary) where
         tops = t .tops + shareAt s e .tops;
         used = t .used + shareAt s e .used;
         free = t .free + shareAt s e .free;
+        patrols = t .patrols + here-too e;
         end = c;
       }
 
@@ -103,6 +118,7 @@ module _ (ws : List ℕ) (s : Summary) where
         tops = add-assoc (t .tops) (shareAt s e .tops) (total (λ d. shareAt s d .tops) es) i;
         used = add-assoc (t .used) (shareAt s e .used) (total (λ d. shareAt s d .used) es) i;
         free = add-assoc (t .free) (shareAt s e .free) (total (λ d. shareAt s d .free) es) i;
+        patrols = add-assoc (t .patrols) (here-too e) (total here-too es) i;
         end = q i .place;
       }
     where
@@ -135,7 +151,7 @@ module _ (ws : List ℕ) (s : Summary) where
         omega arith
 
     -- the chunk e, and what comes after it, are left at c
-    module _ (t : Tally) (c : ℕ) (e : Entry) (es : List Entry) (here : chain c ≡ e ∷ es)
+    module _ (t : Tally) (c : ℕ) (e : Entry) (es : List Entry) (here : chain c ≡ e ∷ es) (place : e .place ≡ c)
         (left : counted t (chain c) ≡ tallyOf s (chain 0)) where
       -- counting it wraps nothing
       summed : (g : Entry → ℕ) (n : ℕ) → n + total g (chain c) ≡ total g (chain 0)
@@ -158,15 +174,17 @@ module _ (ws : List ℕ) (s : Summary) where
       small d = share-small (kindM s d) (d .size)
 
       -- the counts with this chunk, as numbers that have not wrapped
-      unwrapped : addedM t (shareAt s e) c ≡ plainly t e c
+      unwrapped : addedM (s .patrol .0) t (shareAt s e) c ≡ plainly t e c
       unwrapped =
           rw (
+            ← place,
             chunk-more,
             summed (λ d. share d .ordinary) (t .ordinary) (ap (λ (u : Tally). u .ordinary) left) (fit-count _ (λ d. small d .2)),
             summed (λ d. share d .donors) (t .donors) (ap (λ (u : Tally). u .donors) left) (fit-count _ (λ d. small d .3)),
             summed (λ d. share d .tops) (t .tops) (ap (λ (u : Tally). u .tops) left) (fit-count _ (λ d. small d .4)),
             summed (λ d. share d .used) (t .used) (ap (λ (u : Tally). u .used) left) (fit-size _ (λ d. small d .0)),
             summed (λ d. share d .free) (t .free) (ap (λ (u : Tally). u .free) left) (fit-size _ (λ d. small d .1)),
+            summed here-too (t .patrols) (ap (λ (u : Tally). u .patrols) left) (fit-count _ (λ d. at-most-one (s .patrol .0) (d .place))),
           )
 
   -- the three ways on from a chunk: it is not sound; it is the last; the walk goes on behind it
@@ -181,18 +199,18 @@ module _ (ws : List ℕ) (s : Summary) where
     module _ (k : Kind) (kind : k ≡ kindM s (chunk c))
         (h : soundAt ws s p (chunk c) ≡ true) where
       ends : end c ≡ s .bytes
-          → SurveyIs ws s ms₀ (markM ms k c) (Surveyed (addedM t (shareOf k (end c - c)) c))
+          → SurveyIs ws s ms₀ (markM ms k c) (Surveyed (addedM (s .patrol .0) t (shareOf k (end c - c)) c))
       ends e =
           let here = chain-here ws (s .bytes) c e in
           let all = shape-is ws (s .bytes) in
           record {
             sound = rw all (sym (o .sound) ∙ rw (here, h));
-            tally = rw (all, kind) (unwrapped fits t c (chunk c) [] here (o .tally) ∙ all-counted t (chunk c) ∙ (rw here at (o .tally)));
+            tally = rw (all, kind) (unwrapped fits t c (chunk c) [] here refl (o .tally) ∙ all-counted t (chunk c) ∙ (rw here at (o .tally)));
             marks = rw (all, kind) (rw here at (o .marks));
           }
 
       goes-on : (end c ≡ s .bytes → ⊥)
-          → Onward ms₀ (markM ms k c) (addedM t (shareOf k (end c - c)) c) c (end c)
+          → Onward ms₀ (markM ms k c) (addedM (s .patrol .0) t (shareOf k (end c - c)) c) c (end c)
       goes-on n =
           let (up, inside, further) = chain-next ws (s .bytes) c n in
           rw kind
@@ -201,19 +219,19 @@ module _ (ws : List ℕ) (s : Summary) where
             sound = rw (further, h) at (o .sound);
             marks = rw further at (o .marks);
             tally =
-                ap (λ (u : Tally). counted u (chain (end c))) (unwrapped fits t c _ _ further (o .tally))
+                ap (λ (u : Tally). counted u (chain (end c))) (unwrapped fits t c _ _ further refl (o .tally))
                 ∙ recounted t (chunk c) c (chain (end c)) (chain-last ws (s .bytes) outside (chunk c) (end c))
                 ∙ (rw further at (o .tally));
           })
 
 -- at the start everything is left
 pub survey-begins : {ws : List ℕ} {s : Summary} {ms : List ℕ}
-    → Onward ws s ms ms (record { chunks = 0; ordinary = 0; donors = 0; tops = 0; used = 0; free = 0; end = 0 }) 0 0
+    → Onward ws s ms ms (record { chunks = 0; ordinary = 0; donors = 0; tops = 0; used = 0; free = 0; patrols = 0; end = 0 }) 0 0
 survey-begins = record { inside = omega arith; sound = refl; marks = refl; tally = simp zero-add }
 
 -- a share is added, whatever it is called
-pub tallies : (t : Tally) (c : ℕ) {s s′ : Share} {t′ : Tally} → s ≡ s′ → t′ ≡ addedM t s c → t′ ≡ addedM t s′ c
-tallies t c q e = e ∙ ap (λ (x : Share). addedM t x c) q
+pub tallies : (patrol : ℕ) (t : Tally) (c : ℕ) {s s′ : Share} {t′ : Tally} → s ≡ s′ → t′ ≡ addedM patrol t s c → t′ ≡ addedM patrol t s′ c
+tallies patrol t c q e = e ∙ ap (λ (x : Share). addedM patrol t x c) q
 
 -- what the code holds when it has looked at the chunk at c: its forward link n, its second word, its end e, and what was seen
 module _ {ws : List ℕ} {s : Summary} {ms₀ ms : List ℕ} {t : Tally} {p c : ℕ} (o : Onward ws s ms₀ ms t p c)
@@ -253,7 +271,7 @@ module _ {ws : List ℕ} {s : Summary} {ms₀ ms : List ℕ} {t : Tally} {p c : 
   walk-breaks u = breaks ws s fits ms₀ ms t p c o (told-unsound u)
 
   module _ {k : Kind} (ek : seen ≡ Sound k) {share : Share} (sh : share ≡ shareOf k (e - c))
-      {t′ : Tally} (et : t′ ≡ addedM t share c) {ms′ : List ℕ} (em : ms′ ≡ markM ms k c) where
+      {t′ : Tally} (et : t′ ≡ addedM (s .patrol .0) t share c) {ms′ : List ℕ} (em : ms′ ≡ markM ms k c) where
     pub walk-ends : e ≡ s .bytes → SurveyIs ws s ms₀ ms′ (Surveyed t′)
     walk-ends q =
         let (kind, sound) = told-sound k ek in

@@ -4,6 +4,7 @@ use mathlib.Core.Path.{_≡_}
 use mathlib.Core.Bool.{Bool, true, false, cond, _&&_}
 use mathlib.Core.List.{List, [], _∷_}
 use Prim.Native.Nat.{ℕ, _+_, _%_, _^_}
+use lib.Dec.{eqb}
 use lib.ListN.{length}
 use Rattle.lists.specs.Lists.{lastOr, total}
 use Rattle.marks.specs.Marks.{flipped}
@@ -33,8 +34,12 @@ shareOf End s = sharesM 0 0 0 0 0
 abbrev pub wrapped : ℕ → ℕ → ℕ
 wrapped a b = (a + b) % 2 ^ 32
 
-abbrev pub addedM : Tally → Share → ℕ → Tally
-addedM t s c =
+-- one for a chunk at c that is the patrol's place
+abbrev pub atPatrolM : ℕ → ℕ → ℕ
+atPatrolM patrol c = cond (eqb c patrol) 1 0
+
+abbrev pub addedM : ℕ → Tally → Share → ℕ → Tally
+addedM patrol t s c =
     record {
       chunks = wrapped (t .chunks) 1;
       ordinary = wrapped (t .ordinary) (s .ordinary);
@@ -42,6 +47,7 @@ addedM t s c =
       tops = wrapped (t .tops) (s .tops);
       used = wrapped (t .used) (s .used);
       free = wrapped (t .free) (s .free);
+      patrols = wrapped (t .patrols) (atPatrolM patrol c);
       end = c;
     }
 
@@ -65,6 +71,7 @@ module _ (s : Summary) where
         tops = total (λ e. shareAt e .tops) es;
         used = total (λ e. shareAt e .used) es;
         free = total (λ e. shareAt e .free) es;
+        patrols = total (λ e. atPatrolM (s .patrol .0) (e .place)) es;
         end = lastOr outside es .place;
       }
 

@@ -1,7 +1,7 @@
 // The walk of the chain: every chunk is examined, counted and, if it is ordinary, marked.
 // The lists of the bins are walked afterwards, in the crate `sweep`.
 ghost use mathlib.Core.Path.{_≡_};
-ghost use Rattle.survey.specs.Survey.{sharesM, shareOf, markM, addedM, SurveyIs};
+ghost use Rattle.survey.specs.Survey.{sharesM, shareOf, markM, atPatrolM, addedM, SurveyIs};
 use crate::chunks::Seen;
 use crate::chunks::Visit;
 use crate::chunks::examine;
@@ -24,7 +24,7 @@ pub struct Share {
     pub free: u32,
 }
 
-// The counts, and the place of the last chunk.
+// The counts, with how many chunks are at the patrol's place, and the place of the last chunk.
 pub struct Tally {
     pub chunks: u32,
     pub ordinary: u32,
@@ -32,6 +32,7 @@ pub struct Tally {
     pub tops: u32,
     pub used: u32,
     pub free: u32,
+    pub patrols: u32,
     pub end: u32,
 }
 
@@ -52,9 +53,16 @@ fn shares(ordinary: u32, donors: u32, tops: u32, used: u32, free: u32) -> Share
     }
 }
 
+// One for a chunk at the patrol's place.
+fn at_patrol(chunk: Chunk, patrol: Chunk) -> u32
+    ensures { λ r. ⌜ r ≡ atPatrolM (patrol .0) (chunk .0) ⌝ }
+{
+    if chunk.0 == patrol.0 { 1 } else { 0 }
+}
+
 // The sums never wrap: all sizes together are the heap bytes.
-pub fn added(tally: Tally, share: Share, chunk: Chunk) -> Tally
-    ensures { λ r. ⌜ r ≡ addedM tally share (chunk .0) ⌝ }
+pub fn added(tally: Tally, share: Share, chunk: Chunk, patrol: Chunk) -> Tally
+    ensures { λ r. ⌜ r ≡ addedM (patrol .0) tally share (chunk .0) ⌝ }
 {
     Tally {
         chunks: std::num::wrapping_add_u32(tally.chunks, 1),
@@ -63,21 +71,22 @@ pub fn added(tally: Tally, share: Share, chunk: Chunk) -> Tally
         tops: std::num::wrapping_add_u32(tally.tops, share.tops),
         used: std::num::wrapping_add_u32(tally.used, share.used),
         free: std::num::wrapping_add_u32(tally.free, share.free),
+        patrols: std::num::wrapping_add_u32(tally.patrols, at_patrol(chunk, patrol)),
         end: chunk.0,
     }
 }
 
 // Each arm adds a share that is a constant but for the size, so that a chunk costs only the counts that it changes.
-pub fn tallied(tally: Tally, kind: Kind, size: u32, chunk: Chunk) -> Tally
-    ensures { λ r. ⌜ r ≡ addedM tally (shareOf kind size) (chunk .0) ⌝ }
+pub fn tallied(tally: Tally, kind: Kind, size: u32, chunk: Chunk, patrol: Chunk) -> Tally
+    ensures { λ r. ⌜ r ≡ addedM (patrol .0) tally (shareOf kind size) (chunk .0) ⌝ }
 {
     match kind {
-        Kind::Start => added(tally, shares(0, 0, 0, 0, 0), chunk),
-        Kind::InUse => added(tally, shares(0, 0, 0, size, 0), chunk),
-        Kind::Ordinary => added(tally, shares(1, 0, 0, 0, size), chunk),
-        Kind::Donor => added(tally, shares(0, 1, 0, 0, size), chunk),
-        Kind::Top => added(tally, shares(0, 0, 1, 0, size), chunk),
-        Kind::End => added(tally, shares(0, 0, 0, 0, 0), chunk),
+        Kind::Start => added(tally, shares(0, 0, 0, 0, 0), chunk, patrol),
+        Kind::InUse => added(tally, shares(0, 0, 0, size, 0), chunk, patrol),
+        Kind::Ordinary => added(tally, shares(1, 0, 0, 0, size), chunk, patrol),
+        Kind::Donor => added(tally, shares(0, 1, 0, 0, size), chunk, patrol),
+        Kind::Top => added(tally, shares(0, 0, 1, 0, size), chunk, patrol),
+        Kind::End => added(tally, shares(0, 0, 0, 0, 0), chunk, patrol),
     }
 }
 
@@ -99,6 +108,7 @@ pub fn walk(region: &[u32], summary: Summary, marks: &mut [u32]) -> Survey
         tops: 0,
         used: 0,
         free: 0,
+        patrols: 0,
         end: 0,
     };
     let mut before = 0;
@@ -121,7 +131,7 @@ pub fn walk(region: &[u32], summary: Summary, marks: &mut [u32]) -> Survey
             return Survey::Broken;
         };
         mark(marks, kind, chunk);
-        tally = tallied(tally, kind, size, chunk);
+        tally = tallied(tally, kind, size, chunk, summary.patrol);
         if end == summary.bytes {
             return Survey::Surveyed(tally);
         }

@@ -5,11 +5,14 @@ use Rattle.survey.proofs.added.Tie as tie
 
 returns : tie.Need-returns
 returns c =
-    let tops = c .before .before in
+    let free = c .before .before in
+    let tops = free .before .before in
     let ordinary = tops .before .before in
     rw (
-      c .wrapping-add-u326 .ensures,
-      c .before .wrapping-add-u325 .ensures,
+      c .wrapping-add-u327 .ensures,
+      c .before .at-patrol .ensures,
+      free .wrapping-add-u326 .ensures,
+      free .before .wrapping-add-u325 .ensures,
       tops .wrapping-add-u324 .ensures,
       tops .before .wrapping-add-u323 .ensures,
       ordinary .wrapping-add-u322 .ensures,
@@ -20,6 +23,8 @@ pub added-spec : {M : Type 1} → statement M
 added-spec =
     tie.close
     (tie.spec
+    (λ c κs. search needs)
+    (λ c κs. search needs)
     (λ c κs. search needs)
     (λ c κs. search needs)
     (λ c κs. search needs)
