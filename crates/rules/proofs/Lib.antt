@@ -11,3 +11,8 @@ pub mod EvenLaws
 pub mod AskLaws
 pub mod CasesLaws
 pub mod SetupLaws
+pub mod PatrolSeek
+pub mod PatrolNext
+pub mod PatrolMends
+pub mod PatrolAgree
+pub mod PatrolRun
