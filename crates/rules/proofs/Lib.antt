@@ -16,3 +16,4 @@ pub mod PatrolNext
 pub mod PatrolMends
 pub mod PatrolAgree
 pub mod PatrolRun
+pub mod PatrolParts

@@ -1,15 +1,17 @@
 -- A run of the patrol, chunk by chunk (`run-ends`, `run-lost`, `run-on`), and its plan: the same run on words that it does not write.
--- A run is its plan (`plan-is`): all that it decides, and every store, it finds on the words as they came. Assumes nothing.
+-- A run is its plan (`plan-is`): all that it decides, and every store, it finds on the words as they came; and words above the end
+-- chunk's make no difference (`run-alike`). Assumes nothing.
 use mathlib.Core.Path.{_≡_, refl, sym, ap, ap₂, _∙_}
 use mathlib.Core.Bool.{true, false}
 use mathlib.Core.List.{List, [], _∷_, _++_}
 use mathlib.Core.Option.{Option, some, none}
-use Prim.Native.Nat.{ℕ, zero, suc, _+_, _%_, _≤_, _<_}
+use Prim.Native.Nat.{ℕ, zero, suc, _+_, _/_, _%_, _≤_, _<_}
 use native.Mathlib.Decide.{ℕ-discrete}
 use native.Mathlib.Omega.{arith}
 use lib.Dec.{eqb}
+use lib.ListN.{getD}
 use borrow.Author.Tests.{eq-eqb, ne-eqb}
-use Rattle.region.specs.Words.{Store, written}
+use Rattle.region.specs.Words.{Store, written, word, forward, backward}
 use Rattle.rules.specs.Patrol.{nextOf, mends, Patrolled, patrolled, goesOn, patrolFrom}
 use Rattle.rules.proofs.PatrolSeek.{NextPlace}
 use Rattle.rules.proofs.PatrolNext.{next-place}
@@ -83,3 +85,18 @@ module _ (end : ℕ) (last : end % 8 ≡ 0) where
 
   pub plan-is : (f c : ℕ) (ws : List ℕ) → c % 8 ≡ 0 → c ≤ end → patrolFrom f ws end c ≡ plan f ws end c
   plan-is f c ws e l = plan-agrees f c ws ws e l (agree-same end c ws)
+
+-- words above the end chunk's make no difference
+module _ (end : ℕ) (last : end % 8 ≡ 0) (us vs : List ℕ) (same : (i : ℕ) → i < end / 4 + 2 → getD vs i 0 ≡ getD us i 0) where
+  alike : (c : ℕ) → c ≤ end → Agree end c us vs
+  unfolding word
+  alike c l =
+      record {
+        link = same (c / 4 + forward) (omega arith);
+        flags = ap (λ (w : ℕ). w % 8) (same (c / 4 + backward) (omega arith));
+        start = λ z. same (c / 4 + backward) (omega arith);
+        upper = λ i lo hi. same i hi;
+      }
+
+  pub run-alike : (f c : ℕ) → c % 8 ≡ 0 → c ≤ end → patrolFrom f vs end c ≡ patrolFrom f us end c
+  run-alike f c e l = plan-agrees end last f c us vs e l (alike c l) ∙ sym (plan-is end last f c us e l)
