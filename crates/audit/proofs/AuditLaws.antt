@@ -21,7 +21,7 @@ use Rattle.sweep.specs.declared.Sweep.the-variants.{Clean, Dirty}
 use Rattle.sweep.specs.Sweep.{allWhole, CleanIs, SweepIs}
 use Rattle.audit.specs.declared.Audit.{Audit}
 use Rattle.audit.specs.declared.Audit.the-variants.{Passes, Fails}
-use Rattle.audit.specs.Audit.{fitsLengthM, isTabledM, isSettledM, noMarks, tally, marksOf, walksWell, WalkedIs}
+use Rattle.audit.specs.Audit.{isTabledM, isSettledM, noMarks, tally, marksOf, walksWell, WalkedIs}
 
 -- a conjunction of many parts: a part fails, and the rest does not matter; a part holds, and the next decides
 still : (b : Bool) {a : Bool} → false ≡ a → false ≡ (a && b)
@@ -36,21 +36,6 @@ failed {t} e h = sym (not-true t h) ∙ e
 
 pub held : {t a : Bool} → t ≡ a → not t ≡ false → true ≡ a
 held {t} e h = sym (not-false t h) ∙ e
-
--- the region's length
-module _ (words bytes : ℕ) where
-  pub too-few : words < 10 → false ≡ fitsLengthM words bytes
-  unfolding fitsLengthM
-  too-few h = rw (lt-leb 10 words h)
-
-  module _ (enough : 10 ≤ words) where
-    pub too-many : 16384 < words → false ≡ fitsLengthM words bytes
-    unfolding fitsLengthM
-    too-many h = rw (le-leb 10 words enough, lt-leb words 16384 h)
-
-    pub by-bytes : words ≤ 16384 → eqb (words / 2 * 8) bytes ≡ fitsLengthM words bytes
-    unfolding fitsLengthM
-    by-bytes h = rw (le-leb 10 words enough, le-leb words 16384 h)
 
 -- the rest of an array is unused, one place after the other
 module _ (l : List ℕ) (i : ℕ) where

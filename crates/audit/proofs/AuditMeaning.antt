@@ -14,6 +14,8 @@ use Rattle.record.specs.declared.heap.Heap.{Heap}
 use Rattle.record.specs.Heap.{tableOf, summaryOf}
 use Rattle.record.specs.Table.{validTable}
 use Rattle.record.proofs.TableLaws.{valid-iff}
+use Rattle.chain.specs.Length.{fitsLengthM}
+use Rattle.chain.proofs.LengthLaws.{length-iff}
 use Rattle.rules.specs.Check.{Tabled, unusedFrom, countsOf, passes, Passes, Fits}
 use Rattle.rules.specs.Merge.{checked}
 use Rattle.rules.specs.Shape.{Entry, shape}
@@ -21,7 +23,7 @@ use Rattle.rules.proofs.CheckLaws.{passes-iff}
 use Rattle.rules.proofs.EvenLaws.{evenPart, even-passes, even-fits, even-agrees, same-shape}
 use Rattle.audit.specs.declared.Audit.{Audit}
 use Rattle.audit.specs.declared.Audit.the-variants as found
-use Rattle.audit.specs.Audit.{fitsLengthM, isTabledM, countsIn, walksWell, WalkedIs, AuditIs}
+use Rattle.audit.specs.Audit.{isTabledM, countsIn, walksWell, WalkedIs, AuditIs}
 use Rattle.audit.proofs.SurveyMeaning.{tally-ordinary, tally-used, tally-free, tallyFor}
 use Rattle.audit.proofs.WalksMeaning.{Rest, well-iff}
 
@@ -31,14 +33,7 @@ pub record Places (h : Heap) : Type 0 where
   pub heads : length (h .heads) ≡ 32
   pub tails : length (h .tails) ≡ 32
 
--- the test of the length, and the test of the table
-length-iff : (ws : List ℕ) (h : Heap) → Decides (fitsLengthM (length ws) (h .bytes)) (Fits ws h)
-unfolding fitsLengthM
-length-iff ws h =
-    meaning (both (both (at-most 10 (length ws)) (at-most (length ws) 16384)) (number-is (length ws / 2 * 8) (h .bytes)))
-    (λ ((enough, most), bytes). record { enough = enough; notTooMany = most; bytes = omega (arith, bytes) })
-    (λ f. ((f .enough, f .notTooMany), omega (arith, f .bytes)))
-
+-- the test of the table
 tabled-iff : (h : Heap) → Places h → Decides (isTabledM (h .bins) (h .sizes) (h .heads) (h .tails)) (Tabled h)
 unfolding isTabledM
 tabled-iff h p =
@@ -150,12 +145,6 @@ module _ (ws : List ℕ) (h : Heap) where
           (passes-iff ws h .1 p, counts ∙ counts-are p)
 
 -- what the code lends on is there
-pub lent-words : (words bytes : ℕ) → fitsLengthM words bytes ≡ true → bytes / 4 ≤ words
-unfolding fitsLengthM
-lent-words words bytes e =
-    let (range, fits) = both (both (at-most 10 words) (at-most words 16384)) (number-is (words / 2 * 8) bytes) .0 e in
-    omega arith
-
 pub lent-sizes : (bins : ℕ) (sizes heads tails : List ℕ) → isTabledM bins sizes heads tails ≡ true → bins ≤ length sizes
 unfolding isTabledM
 lent-sizes bins sizes heads tails e =

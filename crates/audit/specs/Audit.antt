@@ -20,9 +20,6 @@ use Rattle.sweep.specs.Sweep.{listAt, allWhole}
 use Rattle.audit.specs.declared.Audit.{Audit}
 use Rattle.audit.specs.declared.Audit.the-variants.{Passes, Fails}
 
-unfoldable pub fitsLengthM : ℕ → ℕ → Bool
-fitsLengthM words bytes = leb 10 words && leb words 16384 && eqb (words / 2 * 8) bytes
-
 unfoldable pub isTabledM : ℕ → List ℕ → List ℕ → List ℕ → Bool
 isTabledM bins sizes heads tails =
     leb bins (length sizes) && validTable (take bins sizes) && unusedFrom bins sizes && unusedFrom bins heads

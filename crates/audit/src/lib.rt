@@ -1,9 +1,10 @@
 // The check, in time linear in the chunks: one walk of the chain that marks each ordinary chunk, one walk of each
 // bin's list that clears the marks. Nothing is written into the region.
 ghost use mathlib.Core.Path.{_≡_};
-ghost use Rattle.audit.specs.Audit.{fitsLengthM, isSettledM, isTabledM, WalkedIs, LookIs};
+ghost use Rattle.audit.specs.Audit.{isSettledM, isTabledM, WalkedIs, LookIs};
 ghost use Rattle.rules.specs.Check.{passes, unusedFrom};
 ghost use Rattle.rules.specs.Merge.{checked};
+use chain::length::fits_length;
 use marks::MARK_WORDS;
 use record::answers::Answer;
 use record::answers::Counts;
@@ -11,35 +12,16 @@ use record::answers::Refusal;
 use record::heap::Heap;
 use record::heap::Summary;
 use record::table::valid;
-use region::ALIGNMENT;
 use region::END_SIZE;
-use region::FEWEST_WORDS;
-use region::MOST_WORDS;
 use survey::Survey;
 use survey::Tally;
 use survey::walk;
 use sweep::Sweep;
 use sweep::sweep_bins;
 
-// A heap has whole pairs of words, so that it ends at a multiple of 8.
-const PAIR_BYTES: usize = ALIGNMENT as usize;
-
 pub enum Audit {
     Passes(Counts),
     Fails,
-}
-
-// The region has a permitted number of words, and the heap bytes are all of them but an odd last one.
-pub fn fits_length(words: usize, bytes: u32) -> bool
-    ensures { λ r. ⌜ r ≡ fitsLengthM words bytes ⌝ }
-{
-    if words < FEWEST_WORDS {
-        return false;
-    }
-    if MOST_WORDS < words {
-        return false;
-    }
-    words / 2 * PAIR_BYTES == bytes as usize
 }
 
 // From a place of an array on there is nothing but 0. The loop has no early exit, so that the compiler can test several places at a time.

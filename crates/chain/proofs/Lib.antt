@@ -1,1 +1,2 @@
 pub mod EndLaws
+pub mod LengthLaws

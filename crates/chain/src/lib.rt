@@ -1,4 +1,4 @@
-// Reading the chain: the kind of a chunk, and where it ends.
+// Reading the chain: the kind of a chunk, and where it ends. That the region is as long as it should be is in `length`.
 // Nothing is written here, and no bin is looked at.
 ghost use Prim.Native.Nat.{ℕ};
 ghost use mathlib.Core.Path.{_≡_};
@@ -9,6 +9,8 @@ use record::heap::Summary;
 use record::kinds::Kind;
 use region::Chunk;
 use region::END_SIZE;
+
+pub mod length;
 
 // A chunk's size says nothing of its kind, so that the answer is right for every size.
 pub fn kind_of(summary: Summary, chunk: Chunk, flags: u32) -> Kind

@@ -5,8 +5,10 @@ use lib.ListN.{length}
 use lib.Seq.{length-take-le}
 use borrow.Author.Needs.{needs}
 use borrow.Author.Tests.{not-true, not-false}
-use Rattle.audit.specs.Audit.{fitsLengthM, isTabledM}
-use Rattle.audit.proofs.AuditMeaning.{audit-short, audit-untabled, audit-walked, lent-words, lent-sizes}
+use Rattle.chain.specs.Length.{fitsLengthM}
+use Rattle.chain.proofs.LengthLaws.{lent-words}
+use Rattle.audit.specs.Audit.{isTabledM}
+use Rattle.audit.proofs.AuditMeaning.{audit-short, audit-untabled, audit-walked, lent-sizes}
 use Rattle.audit.proofs.look.Statement.{statement}
 use Rattle.audit.proofs.look.Tie as tie
 

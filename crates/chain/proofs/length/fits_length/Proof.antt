@@ -1,9 +1,9 @@
--- `audit::fits_length` tests the length, then the bytes. Assumes nothing.
+-- `length::fits_length` tests the length, then the bytes. Assumes nothing.
 use native.Mathlib.Omega.{arith}
 use borrow.Author.Needs.{needs}
-use Rattle.audit.proofs.AuditLaws.{too-few, too-many, by-bytes}
-use Rattle.audit.proofs.fits_length.Statement.{statement}
-use Rattle.audit.proofs.fits_length.Tie as tie
+use Rattle.chain.proofs.LengthLaws.{too-few, too-many, by-bytes}
+use Rattle.chain.proofs.length.fits_length.Statement.{statement}
+use Rattle.chain.proofs.length.fits_length.Tie as tie
 
 returns : tie.Need-returns
 returns c = too-few _ _ (c .if1 .taken)

@@ -1,0 +1,4 @@
+pub mod Mends
+pub mod Skim
+pub mod Walks
+pub mod Tours
