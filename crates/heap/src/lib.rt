@@ -1,12 +1,13 @@
 // The public calls: each takes the region and the record, and hands the record back beside its answer.
-// Each asks the check first; setup needs none. How chunks are found, joined and written is in the layers below.
+// Each asks the check first; setup and the patrol do not. How chunks are found, joined and written is in the layers below.
 ghost use Rattle.rules.specs.Allocate.{allocateWith};
-ghost use Rattle.rules.specs.Statements.{Allocates, AllocatesCleared, AsksBin, AsksChunk, Checks, Frees, Meets, Reallocates, SetsMerge, SetsUp};
+ghost use Rattle.rules.specs.Statements.{Allocates, AllocatesCleared, AsksBin, AsksChunk, Checks, Frees, Meets, Patrols, Reallocates, SetsMerge, SetsUp};
 ghost use Rattle.supply.specs.Supply.{fillStores};
 use audit::passes;
 use audit::verdict;
 use grant::need::is_permitted;
 use grant::need::need_of;
+use patrol::tour;
 use reclaim::reclaim;
 use record::answers::Answer;
 use record::answers::Refusal;
@@ -185,4 +186,16 @@ pub fn reallocate(region: &mut [u32], heap: Heap, block: Block, z: u32) -> Reply
     let sizes = heap.sizes;
     let need = need_of(z);
     resize(region, &sizes[..bins], heap, place, need)
+}
+
+// The check is not asked: the patrol is for heaps that fail it.
+pub fn patrol(region: &mut [u32], heap: Heap, chunks: u32) -> Reply
+    ensures { λ r. ⌜ Patrols (now (region .entry)) heap chunks r (now (region .exit)) ⌝ }
+{
+    let toured = tour(region, heap.bytes, heap.patrol, chunks);
+    let answer = toured.answer;
+    Reply {
+        answer: answer,
+        heap: heap.with_patrol(toured.place),
+    }
 }

@@ -1,3 +1,4 @@
+pub mod Links
 pub mod Mends
 pub mod Skim
 pub mod Walks

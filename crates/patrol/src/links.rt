@@ -2,6 +2,7 @@
 ghost use mathlib.Core.Path.{_≡_};
 ghost use Prim.Native.Nat.{_+_};
 ghost use lib.Dec.{ltb};
+ghost use Rattle.patrol.specs.Links.{canFollowM};
 ghost use Rattle.rules.specs.Patrol.{backOffset, broken, leastSize, skips};
 use region::ALIGNMENT;
 use region::BACKWARD;
@@ -47,16 +48,23 @@ fn is_skip(region: &[u32], chunk: Chunk, link: u32) -> bool
     word(region, Chunk(between), FORWARD) == link
 }
 
+// The link stays in the heap, leads to a multiple of 8, and goes up by no less than a chunk is long.
+pub fn can_follow(end: u32, chunk: Chunk, link: u32) -> bool
+    ensures { λ r. ⌜ r ≡ canFollowM end (chunk .0) link ⌝ }
+{
+    if end < link {
+        return false;
+    }
+    if link % ALIGNMENT != 0 {
+        return false;
+    }
+    !is_near(chunk.0, link)
+}
+
 pub fn is_broken(region: &[u32], end: u32, chunk: Chunk, link: u32) -> bool
     ensures { λ r. ⌜ r ≡ broken (now (region .entry)) end (chunk .0) link ⌝ }
 {
-    if end < link {
-        return true;
-    }
-    if link % ALIGNMENT != 0 {
-        return true;
-    }
-    if is_near(chunk.0, link) {
+    if !can_follow(end, chunk, link) {
         return true;
     }
     is_skip(region, chunk, link)

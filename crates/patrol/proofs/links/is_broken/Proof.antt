@@ -1,35 +1,17 @@
+-- `links::is_broken` decides what the rule says of a link. Assumes nothing.
+use mathlib.Core.Path.{_∙_, sym}
 use borrow.Author.Needs.{needs}
+use borrow.Author.Tests.{not-true, not-false}
+use Rattle.patrol.proofs.LinksLaws.{broken-is}
 use Rattle.patrol.proofs.links.is_broken.Statement.{statement}
 use Rattle.patrol.proofs.links.is_broken.Tie as tie
-use Rattle.patrol.proofs.links.is_broken.Reads as reads
-use Rattle.patrol.proofs.links.is_broken.Lts as lts
-use Rattle.patrol.proofs.links.is_near.Reads as is-near-reads
-use Rattle.patrol.proofs.links.is_skip.Reads as is-skip-reads
 
--- src/links.rt:54:9
 returns : tie.Need-returns
-returns c = ?
+returns c = rw (← broken-is, sym (c .before .can-follow .ensures) ∙ not-true _ (c .if1 .taken))
 
--- src/links.rt:57:9
 returns-2 : tie.Need-returns-2
-returns-2 c = ?
-
--- src/links.rt:59:8
-is-near-requires : tie.Need-is-near-requires
-is-near-requires c κs = search needs
-
--- src/links.rt:60:9
-returns-3 : tie.Need-returns-3
-returns-3 c = ?
-
--- src/links.rt:62:5
-is-skip-requires : tie.Need-is-skip-requires
-is-skip-requires c κs = search needs
-
--- src/links.rt:50:1
-returns-4 : tie.Need-returns-4
-returns-4 c = ?
+returns-2 c =
+    rw (c .is-skip .ensures, ← broken-is, sym (c .before .before .can-follow .ensures) ∙ not-false _ (c .before .if1 .left))
 
 pub is-broken-spec : {M : Type 1} → statement M
-is-broken-spec =
-    tie.close (tie.spec returns returns-2 is-near-requires returns-3 is-skip-requires returns-4)
+is-broken-spec = tie.close (tie.spec (λ c κs. search needs) returns (λ c κs. search needs) returns-2)

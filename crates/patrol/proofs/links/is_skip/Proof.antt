@@ -1,30 +1,24 @@
+-- `links::is_skip` finds the sign of a skipped chunk. Assumes nothing.
 use borrow.Author.Needs.{needs}
+use borrow.Author.Tests.{lt-ltb, le-ltb}
+use Rattle.rules.specs.Patrol.{skips}
 use Rattle.patrol.proofs.links.is_skip.Statement.{statement}
 use Rattle.patrol.proofs.links.is_skip.Tie as tie
-use Rattle.patrol.proofs.links.is_skip.Reads as reads
-use Rattle.patrol.proofs.links.is_skip.Lts as lts
-use Rattle.patrol.proofs.links.back_of.Reads as back-of-reads
-use Rattle.region.proofs.word.Reads as word-reads
 
--- src/links.rt:40:9
-back-of-requires : tie.Need-back-of-requires
-back-of-requires c κs = search needs
-
--- src/links.rt:42:9
 returns : tie.Need-returns
-returns c = ?
+unfolding skips
+returns c = rw (← c .before .before .back-of .ensures, le-ltb _ _ (c .if1 .taken))
 
--- src/links.rt:45:9
 returns-2 : tie.Need-returns-2
-returns-2 c = ?
+unfolding skips
+returns-2 c =
+    rw (← c .before .before .before .back-of .ensures, lt-ltb _ _ (c .before .if1 .left), le-ltb _ _ (c .if2 .taken))
 
--- src/links.rt:47:5
-word-requires : tie.Need-word-requires
-word-requires c κs = search needs
-
--- src/links.rt:37:1
 returns-3 : tie.Need-returns-3
-returns-3 c = ?
+unfolding skips
+returns-3 c =
+    let found = c .before .before .before .before in
+    rw (← found .back-of .ensures, lt-ltb _ _ (c .before .before .if1 .left), lt-ltb _ _ (c .before .if2 .left), ← c .word .ensures)
 
 pub is-skip-spec : {M : Type 1} → statement M
-is-skip-spec = tie.close (tie.spec back-of-requires returns returns-2 word-requires returns-3)
+is-skip-spec = tie.close (tie.spec (λ c κs. search needs) returns returns-2 (λ c κs. search needs) returns-3)

@@ -1,43 +1,30 @@
+-- `mend::handle` mends all words of a chunk, or none where the run only decides. Assumes nothing.
 use borrow.Author.Needs.{needs}
+use borrow.Author.Tests.{not-true, not-false}
+use Rattle.patrol.specs.Mends.{handleM}
+use Rattle.patrol.proofs.MendsLaws.{handles}
 use Rattle.patrol.proofs.mend.handle.Statement.{statement}
 use Rattle.patrol.proofs.mend.handle.Tie as tie
-use Rattle.patrol.proofs.mend.handle.Reads as reads
-use Rattle.patrol.proofs.mend.handle.Lts as lts
-use Rattle.patrol.proofs.mend.mend_back.Reads as mend-back-reads
-use Rattle.patrol.proofs.mend.mend_own.Reads as mend-own-reads
-use Rattle.patrol.proofs.mend.mend_word.Reads as mend-word-reads
 
--- src/mend.rt:52:9
 returns : tie.Need-returns
-returns c = ?
+unfolding handleM
+returns c = rw (not-true (c .before .before .args .writes) (c .if1 .taken))
 
--- src/mend.rt:54:5
-mend-word-requires : tie.Need-mend-word-requires
-mend-word-requires c κs = search needs
+-- behind the last store: the backward link was mended, and before that the forward link
+module _ (done : tie.After-slice-known4) where
+  abbrev backed : tie.After-mend-back
+  backed = done .before .before .before .before .before .before
 
--- src/mend.rt:55:5
-mend-back-requires : tie.Need-mend-back-requires
-mend-back-requires c κs = search needs
+  abbrev linked : tie.After-mend-word
+  linked = backed .before .before .before .before
 
--- src/mend.rt:56:5
-mend-own-requires : tie.Need-mend-own-requires
-mend-own-requires c κs = search needs
-
--- src/mend.rt:48:1
-same-length : tie.Need-same-length
-same-length c = search needs
-
--- src/mend.rt:48:1
 returns-2 : tie.Need-returns-2
-returns-2 c = ?
+returns-2 c =
+    let start = linked c .before .before .before .before in
+    handles _ _ _ (not-false (start .args .writes) (linked c .before .before .if1 .left)) (linked c .mend-word .ensures) (backed c .mend-back .ensures)
+    (c .before .before .mend-own .ensures)
 
 pub handle-spec : {M : Type 1} → statement M
 handle-spec =
     tie.close
-    (tie.spec
-    returns
-    mend-word-requires
-    mend-back-requires
-    mend-own-requires
-    same-length
-    returns-2)
+    (tie.spec returns (λ c κs. search needs) (λ c κs. search needs) (λ c κs. search needs) (λ c. search needs) returns-2)

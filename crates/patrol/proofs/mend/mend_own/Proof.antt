@@ -1,64 +1,41 @@
+-- `mend::mend_own` mends the start's backward link, or a free chunk's size. Assumes nothing.
 use borrow.Author.Needs.{needs}
+use borrow.Author.Tests.{eq-eqb, ne-eqb}
+use Rattle.patrol.specs.Mends.{mendOwnM}
 use Rattle.patrol.proofs.mend.mend_own.Statement.{statement}
 use Rattle.patrol.proofs.mend.mend_own.Tie as tie
-use Rattle.patrol.proofs.mend.mend_own.Reads as reads
-use Rattle.patrol.proofs.mend.mend_own.Lts as lts
-use Rattle.headers.proofs.distance.Reads as distance-reads
-use Rattle.patrol.proofs.mend.mend_back.Reads as mend-back-reads
-use Rattle.patrol.proofs.mend.mend_word.Reads as mend-word-reads
-use Rattle.region.proofs.word.Reads as word-reads
 
--- src/mend.rt:38:9
-mend-back-requires : tie.Need-mend-back-requires
-mend-back-requires c κs = search needs
-
--- src/mend.rt:39:9
-same-length : tie.Need-same-length
-same-length c = search needs
-
--- src/mend.rt:39:9
 returns : tie.Need-returns
-returns c = ?
+unfolding mendOwnM
+returns c = rw (c .before .before .mend-back .ensures, eq-eqb _ _ (c .before .before .before .before .if1 .taken))
 
--- src/mend.rt:41:8
-word-requires : tie.Need-word-requires
-word-requires c κs = search needs
-
--- src/mend.rt:42:9
-same-length-2 : tie.Need-same-length-2
-same-length-2 c = search needs
-
--- src/mend.rt:42:9
 returns-2 : tie.Need-returns-2
-returns-2 c = ?
+unfolding mendOwnM
+returns-2 c = rw (ne-eqb _ _ (c .before .before .before .if1 .left), ← c .before .word .ensures, eq-eqb _ _ (c .if2 .taken))
 
--- src/mend.rt:44:36
-distance-requires : tie.Need-distance-requires
-distance-requires c κs = search needs
-
--- src/mend.rt:44:5
-mend-word-requires : tie.Need-mend-word-requires
-mend-word-requires c κs = search needs
-
--- src/mend.rt:34:1
-same-length-3 : tie.Need-same-length-3
-same-length-3 c = search needs
-
--- src/mend.rt:34:1
 returns-3 : tie.Need-returns-3
-returns-3 c = ?
+unfolding mendOwnM
+returns-3 c =
+    let read = c .before .before .before .before .before .before in
+    rw (
+      c .before .before .mend-word .ensures,
+      c .before .before .before .distance .ensures,
+      ne-eqb _ _ (read .before .before .if1 .left),
+      ← read .word .ensures,
+      ne-eqb _ _ (c .before .before .before .before .before .if2 .left),
+    )
 
 pub mend-own-spec : {M : Type 1} → statement M
 mend-own-spec =
     tie.close
     (tie.spec
-    mend-back-requires
-    same-length
+    (λ c κs. search needs)
+    (λ c. search needs)
     returns
-    word-requires
-    same-length-2
+    (λ c κs. search needs)
+    (λ c. search needs)
     returns-2
-    distance-requires
-    mend-word-requires
-    same-length-3
+    (λ c κs. search needs)
+    (λ c κs. search needs)
+    (λ c. search needs)
     returns-3)

@@ -1,68 +1,30 @@
+-- `skim::is_whole` tests the forward link, the backward link above, and what else the chunk says. Assumes nothing.
+use mathlib.Core.Path.{_∙_, sym}
 use borrow.Author.Needs.{needs}
+use borrow.Author.Tests.{not-true, not-false, eq-eqb, ne-eqb}
+use Rattle.patrol.specs.Skim.{isWholeM}
 use Rattle.patrol.proofs.skim.is_whole.Statement.{statement}
 use Rattle.patrol.proofs.skim.is_whole.Tie as tie
-use Rattle.patrol.proofs.skim.is_whole.Reads as reads
-use Rattle.patrol.proofs.skim.is_whole.Lts as lts
-use Rattle.headers.proofs.distance.Reads as distance-reads
-use Rattle.patrol.proofs.links.is_near.Reads as is-near-reads
-use Rattle.region.proofs.word.Reads as word-reads
 
--- src/skim.rt:24:9
 returns : tie.Need-returns
-returns c = ?
+unfolding isWholeM
+returns c = rw (sym (c .before .can-follow .ensures) ∙ not-true _ (c .if1 .taken))
 
--- src/skim.rt:27:9
 returns-2 : tie.Need-returns-2
-returns-2 c = ?
+unfolding isWholeM
+returns-2 c =
+    rw (sym (c .before .before .before .can-follow .ensures) ∙ not-false _ (c .before .before .if1 .left), ne-eqb _ _ (c .if2 .taken))
 
--- src/skim.rt:29:8
-is-near-requires : tie.Need-is-near-requires
-is-near-requires c κs = search needs
-
--- src/skim.rt:30:9
 returns-3 : tie.Need-returns-3
-returns-3 c = ?
-
--- src/skim.rt:32:8
-sub-if4 : tie.Need-sub-if4
-sub-if4 c = search needs
-
--- src/skim.rt:33:9
-returns-4 : tie.Need-returns-4
-returns-4 c = ?
-
--- src/skim.rt:36:9
-returns-5 : tie.Need-returns-5
-returns-5 c = ?
-
--- src/skim.rt:39:9
-returns-6 : tie.Need-returns-6
-returns-6 c = ?
-
--- src/skim.rt:41:5
-word-requires : tie.Need-word-requires
-word-requires c κs = search needs
-
--- src/skim.rt:41:34
-distance-requires : tie.Need-distance-requires
-distance-requires c κs = search needs
-
--- src/skim.rt:20:1
-returns-7 : tie.Need-returns-7
-returns-7 c = ?
+unfolding isWholeM
+returns-3 c =
+    let follows = c .before .before .before .before in
+    rw (
+      sym (follows .can-follow .ensures) ∙ not-false _ (c .before .before .before .if1 .left),
+      eq-eqb _ _ (c .before .if2 .left),
+      c .is-right .ensures,
+    )
 
 pub is-whole-spec : {M : Type 1} → statement M
 is-whole-spec =
-    tie.close
-    (tie.spec
-    returns
-    returns-2
-    is-near-requires
-    returns-3
-    sub-if4
-    returns-4
-    returns-5
-    returns-6
-    word-requires
-    distance-requires
-    returns-7)
+    tie.close (tie.spec (λ c κs. search needs) returns (λ c. search needs) returns-2 (λ c κs. search needs) returns-3)
