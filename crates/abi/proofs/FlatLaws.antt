@@ -36,11 +36,12 @@ part-goes-on n m to from there after size inside (whole, begins) e =
     let fits : n + length from ≤ length to = omega arith in
     (ap length e ∙ length-paste to n from (length from) fits (omega arith) ∙ whole, rw (e, sym size) (take-paste to n from (length from) (omega arith) (omega arith) ∙ rw (begins, take-length from) refl))
 
--- the four parts of the record, one after the other
-pub four-parts : (after first sizes heads tails : List ℕ) → BeginsWith recordWords (((first ++ sizes) ++ heads) ++ tails) after
-    → after ≡ first ++ (sizes ++ (heads ++ tails))
-four-parts after first sizes heads tails (whole, begins) =
-    sym (take-all recordWords after (omega arith)) ∙ begins ∙ append-assoc (first ++ sizes) heads tails ∙ append-assoc first sizes (heads ++ tails)
+-- the five parts of the record, one after the other
+pub five-parts : (after first sizes heads tails last : List ℕ) → BeginsWith recordWords ((((first ++ sizes) ++ heads) ++ tails) ++ last) after
+    → after ≡ first ++ (sizes ++ (heads ++ (tails ++ last)))
+five-parts after first sizes heads tails last (whole, begins) =
+    sym (take-all recordWords after (omega arith)) ∙ begins ∙ append-assoc ((first ++ sizes) ++ heads) tails last
+    ∙ append-assoc (first ++ sizes) heads (tails ++ last) ∙ append-assoc first sizes (heads ++ (tails ++ last))
 
 -- a Boolean as the machine's byte, and as the word of the record
 pub merge-word : (on : Bool) → boolByte on ≡ cond on 1 0

@@ -4,7 +4,7 @@ use mathlib.Core.Bool.{Bool, true, false, cond}
 use mathlib.Core.List.{List}
 use Prim.Native.Nat.{ℕ, _<_, _≤_}
 use lib.Dec.{eqb, ltb}
-use lib.ListN.{length, getD}
+use lib.ListN.{length, getD, set}
 use borrow.Author.Tests.{eq-eqb, ne-eqb, le-leb, lt-leb}
 use Rattle.record.specs.declared.answers.Answer.{Answer}
 use Rattle.record.specs.declared.answers.Answer.the-variants.{Done, Granted, Returned, Told, Counted, Refused}
@@ -15,10 +15,12 @@ use Rattle.rules.specs.Ask.{chunkAnswers, binAnswers, askedSpot, isThere, askRe
 use Rattle.rules.specs.Draft.{asRead}
 use Rattle.rules.specs.Merge.{check}
 use Rattle.rules.specs.Outcome.{Outcome, Refusals, judged, heapFails}
-use Rattle.rules.specs.Statements.{Left, Meets}
+use Rattle.rules.specs.Statements.{Left, leftBy, Meets}
+use Rattle.patrol.specs.declared.Toured.{Toured}
+use Rattle.patrol.specs.Tours.{leaving}
 use Rattle.rules.proofs.OutcomeLaws.{judged-so}
-use Rattle.abi.specs.Flat.{mergePlace, recordWords, recordIn, recordOut, answerOut, refusalOut}
-use Rattle.abi.specs.Handed.{handed, handedBy, openedBy, flatAfter}
+use Rattle.abi.specs.Flat.{mergePlace, patrolPlace, recordWords, recordIn, recordOut, answerOut, refusalOut}
+use Rattle.abi.specs.Handed.{handed, handedBy, openedBy, patrolledBy, flatAfter}
 use Rattle.abi.proofs.BackLaws.{back-and-flat}
 
 -- the first word is what the call returns
@@ -111,3 +113,11 @@ pub opens : (ws : List ℕ) (o : Outcome) (reply : Reply) {after five state : Li
 unfolding openedBy
 opens ws o reply m e p =
     rw (sym (ap (λ (x : Left). x .answer) m), sym (ap (λ (x : Left). x .heap) m), sym (ap (λ (x : Left). x .words) m), e, p, refusal-first (reply .answer)) refl
+
+-- the patrol hands back its place in the record's words
+pub patrols : (ws rs : List ℕ) (o : Outcome) (h : Heap) {t : Toured} {after five : List ℕ} {r : ℕ} → leaving h t after ≡ leftBy ws o
+    → (r ≡ refusalOut (t .answer)) × (five ≡ answerOut (t .answer))
+    → handed r five (set rs patrolPlace (t .place .0)) after ≡ patrolledBy ws rs o
+unfolding patrolledBy
+patrols ws rs o h m (n, e) =
+    rw (sym (ap (λ (x : Left). x .answer) m), sym (ap (λ (x : Left). x .heap .patrol .0) m), sym (ap (λ (x : Left). x .words) m), n, e) refl

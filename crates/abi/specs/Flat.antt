@@ -11,7 +11,7 @@ use Rattle.record.specs.declared.answers.Answer.{Answer}
 use Rattle.record.specs.declared.answers.Answer.the-variants.{Done, Granted, Returned, Told, Counted, Refused}
 use Rattle.record.specs.declared.heap.Heap.{Heap}
 
--- where the merge word stands, and where the bins' sizes, heads and tails begin
+-- where the merge word stands, where the bins' sizes, heads and tails begin, and where the patrol's place stands
 abbrev pub mergePlace : ℕ
 mergePlace = 4
 
@@ -24,9 +24,12 @@ headsFrom = sizesFrom + places
 abbrev pub tailsFrom : ℕ
 tailsFrom = headsFrom + places
 
+abbrev pub patrolPlace : ℕ
+patrolPlace = tailsFrom + places
+
 -- the words of a record
 abbrev pub recordWords : ℕ
-recordWords = tailsFrom + places
+recordWords = patrolPlace + 1
 
 -- the record that so many words say; a merge word of 1 is on
 unfoldable pub recordIn : List ℕ → Heap
@@ -41,13 +44,14 @@ recordIn rs =
       top = at (getD rs 3 0);
       merge = eqb (getD rs mergePlace 0) 1;
       used = getD rs 5 0;
+      patrol = at (getD rs patrolPlace 0);
     }
 
 -- the words that say a record
 unfoldable pub recordOut : Heap → List ℕ
 recordOut h =
     h .bytes ∷ h .bins ∷ h .donor .0 ∷ h .top .0 ∷ cond (h .merge) 1 0 ∷ h .used
-    ∷ (h .sizes ++ (h .heads ++ h .tails))
+    ∷ (h .sizes ++ (h .heads ++ (h .tails ++ (h .patrol .0 ∷ []))))
 
 -- a signed number in two's complement of 32 bits: modulo 2 ^ 32
 unfoldable pub complement : ℤ → ℕ

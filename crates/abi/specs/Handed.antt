@@ -3,14 +3,14 @@ use Prim.Native.Nat.{ℕ}
 use mathlib.Core.Bool.{cond}
 use mathlib.Core.List.{List}
 use lib.Dec.{eqb, leb}
-use lib.ListN.{getD}
+use lib.ListN.{getD, set}
 use Rattle.record.specs.declared.answers.Answer.{Answer}
 use Rattle.record.specs.declared.answers.Answer.the-variants.{Refused}
 use Rattle.record.specs.declared.answers.Refusal.the-variants.{HeapFails}
 use Rattle.record.specs.declared.heap.Heap.{Heap}
 use Rattle.rules.specs.Outcome.{Outcome}
 use Rattle.rules.specs.Statements.{Left, leftBy}
-use Rattle.abi.specs.Flat.{mergePlace, recordOut, answerOut, refusalOut}
+use Rattle.abi.specs.Flat.{mergePlace, patrolPlace, recordOut, answerOut, refusalOut}
 
 pub record Handed : Type 0 where
   pub refusal : ℕ
@@ -41,3 +41,9 @@ handedBy ws rs o =
 -- an outcome of setup, which reads no record and always leaves one
 unfoldable pub openedBy : List ℕ → Outcome → Handed
 openedBy ws o = let l : Left = leftBy ws o in answering (l .answer) (recordOut (l .heap)) (l .words)
+
+-- an outcome of the patrol, which looks at no merge word; of the record's words its place alone changes
+unfoldable pub patrolledBy : List ℕ → List ℕ → Outcome → Handed
+patrolledBy ws rs o =
+    let l : Left = leftBy ws o in
+    answering (l .answer) (set rs patrolPlace (l .heap .patrol .0)) (l .words)

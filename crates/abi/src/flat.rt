@@ -18,8 +18,9 @@ use record::heap::Heap;
 use record::heap::PLACES;
 use region::Chunk;
 
-// Where the parts of the record stand: its scalars one after the other, then the sizes, heads and tails of the bins.
-const BYTES: usize = 0;
+// Where the parts of the record stand: its scalars one after the other, then the sizes, heads and tails of the bins, and last the
+// patrol's place.
+pub const BYTES: usize = 0;
 
 const BINS: usize = 1;
 
@@ -35,7 +36,9 @@ const SIZES: usize = 6;
 
 const HEADS: usize = SIZES + PLACES;
 
-pub const TAILS: usize = HEADS + PLACES;
+const TAILS: usize = HEADS + PLACES;
+
+pub const PATROL: usize = TAILS + PLACES;
 
 // A word holds numbers below this.
 const WORD: i64 = 4294967296;
@@ -61,7 +64,7 @@ pub fn unpack(words: [u32; RECORD_WORDS]) -> Heap
     let mut tails = [0; PLACES];
     copy(&mut sizes, 0, &words[SIZES..HEADS]);
     copy(&mut heads, 0, &words[HEADS..TAILS]);
-    copy(&mut tails, 0, &words[TAILS..RECORD_WORDS]);
+    copy(&mut tails, 0, &words[TAILS..PATROL]);
     Heap {
         bytes: words[BYTES],
         bins: words[BINS],
@@ -72,6 +75,7 @@ pub fn unpack(words: [u32; RECORD_WORDS]) -> Heap
         top: Chunk(words[TOP]),
         merge: words[MERGE] == 1,
         used: words[USED],
+        patrol: Chunk(words[PATROL]),
     }
 }
 
@@ -89,11 +93,13 @@ pub fn pack(heap: Heap) -> [u32; RECORD_WORDS]
     let sizes = heap.sizes;
     let heads = heap.heads;
     let tails = heap.tails;
+    let last = [heap.patrol.0];
     let mut words = [0; RECORD_WORDS];
     copy(&mut words, 0, &first);
     copy(&mut words, SIZES, &sizes);
     copy(&mut words, HEADS, &heads);
     copy(&mut words, TAILS, &tails);
+    copy(&mut words, PATROL, &last);
     words
 }
 

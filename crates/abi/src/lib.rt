@@ -3,29 +3,32 @@
 // `record` is a word of the language of the proofs.
 ghost use mathlib.Core.Path.{_≡_};
 ghost use Rattle.abi.specs.Flat.{recordIn};
-ghost use Rattle.abi.specs.Handed.{handed, handedBy, openedBy};
+ghost use Rattle.abi.specs.Handed.{handed, handedBy, openedBy, patrolledBy};
 ghost use Rattle.rules.specs.Allocate.{allocate, allocateCleared};
 ghost use Rattle.rules.specs.Ask.{askBin, askChunk};
 ghost use Rattle.rules.specs.Free.{free};
 ghost use Rattle.rules.specs.Merge.{check, setMerge};
+ghost use Rattle.rules.specs.Patrol.{patrol};
 ghost use Rattle.rules.specs.Reallocate.{reallocate};
 ghost use Rattle.rules.specs.Setup.{setup};
+use crate::flat::BYTES;
 use crate::flat::MERGE;
-use crate::flat::TAILS;
+use crate::flat::PATROL;
 use crate::flat::answer_words;
 use crate::flat::hand_back;
 use crate::flat::pack;
 use crate::flat::refuse_record;
 use crate::flat::tell;
 use crate::flat::unpack;
-use record::heap::PLACES;
+use patrol::tour;
 use region::Block;
+use region::Chunk;
 
 mod flat;
 
 // The number of words of a flat record and of a flat answer. The header for C and the wrapper for Rust have constants of their own,
 // since a constant of Rattle is not part of the archive.
-pub const RECORD_WORDS: usize = TAILS + PLACES;
+pub const RECORD_WORDS: usize = PATROL + 1;
 
 pub const ANSWER_WORDS: usize = 5;
 
@@ -189,5 +192,21 @@ pub extern "C" fn kz_ask_bin(
     let heap = unpack(*state);
     let reply = heap::ask_bin(region, heap, question, bin);
     let said = reply.answer;
+    tell(said, answer)
+}
+
+// Of the record the patrol reads the heap bytes and its own place, and writes its place: no other word decides or changes.
+#[no_mangle]
+pub extern "C" fn kz_patrol(
+    region: &mut [u32],
+    state: &mut [u32; RECORD_WORDS],
+    chunks: u32,
+    answer: &mut [u32; ANSWER_WORDS],
+) -> u32
+    ensures { λ r. ⌜ handed r (now (answer .exit)) (now (state .exit)) (now (region .exit)) ≡ patrolledBy (now (region .entry)) (now (state .entry)) (patrol (now (region .entry)) (recordIn (now (state .entry))) chunks) ⌝ }
+{
+    let toured = tour(region, state[BYTES], Chunk(state[PATROL]), chunks);
+    let said = toured.answer;
+    state[PATROL] = toured.place.0;
     tell(said, answer)
 }

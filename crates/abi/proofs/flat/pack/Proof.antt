@@ -1,4 +1,4 @@
--- `flat::pack` puts the record's four parts one after the other. Assumes nothing.
+-- `flat::pack` puts the record's five parts one after the other. Assumes nothing.
 use Prim.Native.Nat.{ℕ}
 use native.Mathlib.Omega.{arith}
 use mathlib.Core.Path.{_≡_, refl, _∙_}
@@ -8,8 +8,8 @@ use borrow.Author.Needs.{needs, length-unmapped}
 use mir.Val.{boolByte}
 use Rattle.record.specs.Heap.{places}
 use Rattle.record.specs.declared.heap.Heap.{Heap}
-use Rattle.abi.specs.Flat.{sizesFrom, headsFrom, tailsFrom, recordWords, recordOut}
-use Rattle.abi.proofs.FlatLaws.{BeginsWith, part-goes-on, four-parts, merge-word}
+use Rattle.abi.specs.Flat.{sizesFrom, headsFrom, tailsFrom, patrolPlace, recordWords, recordOut}
+use Rattle.abi.proofs.FlatLaws.{BeginsWith, part-goes-on, five-parts, merge-word}
 use Rattle.abi.proofs.flat.pack.Statement.{statement}
 use Rattle.abi.proofs.flat.pack.Tie as tie
 
@@ -39,6 +39,9 @@ sizes-put c = c .before .before .before .before
 abbrev heads-put : tie.After-copy4 → tie.After-copy3
 heads-put c = c .before .before .before .before
 
+abbrev tails-put : tie.After-copy5 → tie.After-copy4
+tails-put c = c .before .before .before .before
+
 with-first : (c : tie.After-copy) → BeginsWith sizesFrom (scalarsOf (start c .args .heap)) (c .copy .last .0)
 with-first c =
     part-goes-on 0 sizesFrom (replicate recordWords 0) (scalarsOf (start c .args .heap)) [] (c .copy .last .0) refl (omega arith) (refl, refl) (c .copy .ensures)
@@ -60,18 +63,27 @@ with-heads c =
 
 with-tails : (c : tie.After-copy4)
     → let h = start (first-put (sizes-put (heads-put c))) .args .heap in
-    BeginsWith recordWords (((scalarsOf h ++ h .sizes) ++ h .heads) ++ h .tails) (c .copy4 .last .0)
+    BeginsWith patrolPlace (((scalarsOf h ++ h .sizes) ++ h .heads) ++ h .tails) (c .copy4 .last .0)
 with-tails c =
     let heads = heads-put c in
     let s = start (first-put (sizes-put heads)) in
     part-goes-on tailsFrom places (heads .copy3 .last .0) (s .args .heap .tails) _ (c .copy4 .last .0) (tails-32 s) (omega arith) (with-heads heads)
     (c .copy4 .ensures)
 
+with-last : (c : tie.After-copy5)
+    → let h = start (first-put (sizes-put (heads-put (tails-put c)))) .args .heap in
+    BeginsWith recordWords ((((scalarsOf h ++ h .sizes) ++ h .heads) ++ h .tails) ++ (h .patrol .0 ∷ [])) (c .copy5 .last .0)
+with-last c =
+    let tails = tails-put c in
+    let s = start (first-put (sizes-put (heads-put tails))) in
+    part-goes-on patrolPlace 1 (tails .copy4 .last .0) (s .args .heap .patrol .0 ∷ []) _ (c .copy5 .last .0) refl (omega arith) (with-tails tails)
+    (c .copy5 .ensures)
+
 returns : tie.Need-returns
 unfolding recordOut
 returns c =
-    let h = start (first-put (sizes-put (heads-put (c .before)))) .args .heap in
-    four-parts _ (scalarsOf h) (h .sizes) (h .heads) (h .tails) (with-tails (c .before)) ∙ rw (merge-word (h .merge)) refl
+    let h = start (first-put (sizes-put (heads-put (tails-put (c .before))))) .args .heap in
+    five-parts _ (scalarsOf h) (h .sizes) (h .heads) (h .tails) (h .patrol .0 ∷ []) (with-last (c .before)) ∙ rw (merge-word (h .merge)) refl
 
 sizes-fit : tie.Need-copy-requires-2
 sizes-fit c κs =
@@ -87,6 +99,11 @@ tails-fit : tie.Need-copy-requires-4
 tails-fit c κs =
     let heads = c .before .before .before in
     omega (arith, with-heads heads .0, tails-32 (start (first-put (sizes-put heads))))
+
+last-fits : tie.Need-copy-requires-5
+last-fits c κs =
+    let tails = c .before .before .before in
+    omega (arith, with-tails tails .0)
 
 pub pack-spec : {M : Type 1} → statement M
 pack-spec =
@@ -105,4 +122,7 @@ pack-spec =
     (λ c. search needs)
     (λ c. search needs)
     tails-fit
+    (λ c. search needs)
+    (λ c. search needs)
+    last-fits
     returns)
