@@ -4,16 +4,16 @@
 ghost use mathlib.Core.Path.{_≡_};
 ghost use Rattle.patrol.specs.Tours.{canBeginM, refusedTour, Tours};
 ghost use Rattle.patrol.specs.Walks.{runM, walked};
+use crate::skim::skim;
+use crate::walks::Verdict;
+use crate::walks::forward;
+use crate::walks::is_lost;
 use chain::length::fits_length;
 use record::answers::Answer;
 use record::answers::Refusal;
 use region::ALIGNMENT;
 use region::Chunk;
 use region::END_SIZE;
-use crate::skim::skim;
-use crate::walks::Verdict;
-use crate::walks::forward;
-use crate::walks::is_lost;
 
 pub mod links;
 pub mod mend;

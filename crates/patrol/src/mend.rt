@@ -27,7 +27,12 @@ fn mend_back(region: &mut [u32], chunk: Chunk, below: Chunk)
     ensures { λ _. ⌜ now (region .exit) ≡ mendBackM (now (region .entry)) (chunk .0) (below .0) ⌝ }
 {
     let flags = word(region, chunk, BACKWARD) % ALIGNMENT;
-    mend_word(region, chunk, BACKWARD, below.0 - below.0 % ALIGNMENT + flags);
+    mend_word(
+        region,
+        chunk,
+        BACKWARD,
+        below.0 - below.0 % ALIGNMENT + flags,
+    );
 }
 
 // The start has a backward link to nothing and no size; a chunk in use has no size word either.

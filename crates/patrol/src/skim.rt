@@ -1,6 +1,7 @@
 // The chunks at which there is nothing to mend: a run passes them without a second look. On a whole heap that is all of them.
 ghost use mathlib.Core.Path.{_≡_};
 ghost use Rattle.patrol.specs.Skim.{isRightM, isWholeM, skimM};
+use crate::links::can_follow;
 use headers::distance;
 use region::ALIGNMENT;
 use region::Chunk;
@@ -8,7 +9,6 @@ use region::Links;
 use region::SIZE;
 use region::links_of;
 use region::word;
-use crate::links::can_follow;
 
 // Where a run goes on, and how many of its chunks remain.
 pub struct Skimmed {

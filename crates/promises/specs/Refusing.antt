@@ -134,7 +134,6 @@ pub data Because (ws : List ℕ) (h : Heap) : Call → Refusal → Type 0 where
   reallocateBin : {b z : ℕ} → 0 < b
       → resized ws (blockSpot (asRead ws h) b) (need overhead z) (asRead ws h) .draft .noBinTakes ≡ true
       → Because ws h (Reallocate b z) NoBinTakes
-
   -- 10, 12
   patrolNone : {f : ℕ} → f ≡ 0 → Because ws h (Patrol f) RunSize
   patrolLost : {f : ℕ} → Lost ws (h .bytes - endSize) f (h .patrol .0) → Because ws h (Patrol f) BeyondMending

@@ -90,9 +90,9 @@ patrolFrom (suc chunks) ws end c =
     elim (eqb c end) [
       | true ↦ some (patrolled 0 true [])
       | false ↦ elim (nextOf ws end c) [
-          | none ↦ none
-          | some v ↦ goesOn (mends ws c v) (patrolFrom chunks (written ws (mends ws c v)) end v)
-        ]
+        | none ↦ none
+        | some v ↦ goesOn (mends ws c v) (patrolFrom chunks (written ws (mends ws c v)) end v)
+      ]
     ]
 
 -- the patrol's place is a multiple of 8 from 0 to the end chunk

@@ -1,4 +1,4 @@
-// The nine calls as an action makes them: the record's words are lent, and the answer's are given back.
+// The ten calls as an action makes them: the record's words are lent, and the answer's are given back.
 // An answer starts as zeros, so that nothing of an earlier call is left in it.
 use crate::script::MOST_ARGS;
 use crate::words::smaller;
@@ -90,7 +90,13 @@ fn ask_bin(
     answer
 }
 
-// The answer to the call that `op` names, from 1 to 9.
+fn patrol(region: &mut [u32], state: &mut [u32; RECORD_WORDS], chunks: u32) -> [u32; ANSWER_WORDS] {
+    let mut answer = [0; ANSWER_WORDS];
+    abi::kz_patrol(region, state, chunks, &mut answer);
+    answer
+}
+
+// The answer to the call that `op` names: from 1 to 9, and the patrol, which came after two actions that are no calls.
 pub fn call(
     op: u32,
     args: [u32; MOST_ARGS],
@@ -106,6 +112,7 @@ pub fn call(
         6 => set_merge(region, state, args[0] != 0),
         7 => check(region, state),
         8 => ask_chunk(region, state, args[0], args[1]),
-        _ => ask_bin(region, state, args[0], args[1]),
+        9 => ask_bin(region, state, args[0], args[1]),
+        _ => patrol(region, state, args[0]),
     }
 }

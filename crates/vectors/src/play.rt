@@ -16,12 +16,14 @@ use abi::RECORD_WORDS;
 use io::print_decimal;
 use io::write_all;
 
-// What an action asks for; from 1 to 9 it is a call.
+// What an action asks for; any other number is a call's.
 const REGION: u32 = 0;
 
 const WRITE: u32 = 10;
 
 const RECORD: u32 = 11;
+
+const PATROL: u32 = 12;
 
 // More words than the largest region has, so that regions that are too large are played too.
 const SPACE_WORDS: usize = 16400;
@@ -59,7 +61,7 @@ fn apply(op: u32, args: [u32; MOST_ARGS], region: &mut [u32], state: &mut [u32; 
         set_word(state, args[0], args[1]);
         return;
     }
-    if op > RECORD {
+    if op > PATROL {
         write_all(1, b"unknown\n");
         return;
     }
