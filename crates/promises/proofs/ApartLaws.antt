@@ -14,7 +14,7 @@ use Rattle.record.specs.declared.answers.Answer.{Answer}
 use Rattle.record.specs.declared.answers.Answer.the-variants.{Done, Granted, Returned}
 use Rattle.record.specs.declared.heap.Heap.{Heap}
 use Rattle.record.specs.Answers.{figuresOf}
-use Rattle.record.specs.Heap.{withMerge}
+use Rattle.record.specs.Heap.{withMerge, withPatrol}
 use Rattle.region.specs.declared.Block.{Block}
 use Rattle.region.specs.Words.{Store, written}
 use Rattle.region.proofs.WordsLaws.{off}
@@ -35,11 +35,13 @@ use Rattle.rules.specs.Free.{isLive, blockSpot, freeBlock, free}
 use Rattle.rules.specs.Reallocate.{shrunk, moved, resized, resize, reallocate, resizeRefusals}
 use Rattle.rules.specs.Merge.{setMerge, check}
 use Rattle.rules.specs.Ask.{askChunk, askBin}
+use Rattle.rules.specs.Patrol.{patrol}
 use Rattle.rules.specs.Statements.{Left, leftBy}
-use Rattle.rules.specs.Calls.{Call, Setup, Allocate, AllocateCleared, Free, Reallocate, SetMerge, Check, AskChunk, AskBin, step}
+use Rattle.rules.specs.Calls.{Call, Setup, Allocate, AllocateCleared, Free, Reallocate, SetMerge, Check, AskChunk, AskBin, Patrol, step}
 use Rattle.rules.proofs.CheckLaws.{passes-iff}
 use Rattle.rules.proofs.SpotLaws.{inside}
 use Rattle.rules.proofs.OutcomeLaws.{Failed, judged-so}
+use Rattle.rules.proofs.PatrolSound.{patrol-so}
 use Rattle.drafts.proofs.FillLaws.{Within}
 use Rattle.promises.specs.Ways.{ours}
 use Rattle.promises.specs.Room.{OnChain, HoldsBlock}
@@ -259,6 +261,12 @@ still : (ws : List ℕ) (h : Heap) → KeepsAll ws h (leftBy ws (unchanged h Don
 still ws h = (kept-still ws h, λ e m l. (m, l))
 
 module _ (ws : List ℕ) (h : Heap) (p : Passes ws h) where
+  -- a run of the patrol moves its place alone
+  patrol-looks : (f : ℕ) → KeepsAll ws h (leftBy ws (patrol ws h f)) × NoneNew ws h (leftBy ws (patrol ws h f))
+  patrol-looks f =
+      patrol-so ws h p (λ o. KeepsAll ws h (leftBy ws o) × NoneNew ws h (leftBy ws o)) (λ r. still ws h)
+      (λ c t there. still ws (withPatrol h c)) f
+
   look : (call : Call) → onlyLooks call ≡ true → KeepsAll ws h (ours call ws h) × NoneNew ws h (ours call ws h)
   unfolding ours step setMerge check askChunk askBin free asRead
   look (Setup table donor merge) q = absurd (false≢true q)
@@ -270,6 +278,7 @@ module _ (ws : List ℕ) (h : Heap) (p : Passes ws h) where
   look Check q = still ws h
   look (AskChunk question place) q = rw (unchanged-judged h _ _) (still ws h)
   look (AskBin question i) q = rw (unchanged-judged h _ _) (still ws h)
+  look (Patrol f) q = patrol-looks f
 
 -- a refused call gives the record as it came
 came : (call : Call) (h : Heap) → isSetup call ≡ false → refusedRecord call h ≡ h
@@ -282,6 +291,7 @@ came (SetMerge on) h q = refl
 came Check h q = refl
 came (AskChunk question place) h q = refl
 came (AskBin question i) h q = refl
+came (Patrol f) h q = refl
 
 module _ {ws : List ℕ} {h : Heap} (p : Passes ws h) {block : Block} {change : ℤ} where
   allocated : (z : ℕ) → ours (Allocate z) ws h .answer ≡ Granted block change

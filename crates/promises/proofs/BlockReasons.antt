@@ -26,7 +26,7 @@ use Rattle.rules.specs.Free.{isLive, blockSpot, freeBlock, free, freeRefusals, 
 use Rattle.rules.specs.Reallocate.{resized, resize, reallocate, resizeRefusals, resizedTo}
 use Rattle.rules.specs.Calls.{Call, Allocate, AllocateCleared, Free, Reallocate, step}
 use Rattle.promises.specs.Room.{HoldsBlock, NoneServes}
-use Rattle.promises.specs.Refusing.{WrongSize, Because, fails, allocateSize, clearedSize, reallocateSize, freeNotLive, reallocateNotLive, allocateRoom, clearedRoom, reallocateRoom, allocateBin, clearedBin, freeBin, reallocateNewBin, reallocateBin, isSetup, refusedRecord}
+use Rattle.promises.specs.Refusing.{WrongSize, Because, fails, allocateSize, clearedSize, reallocateSize, freeNotLive, reallocateNotLive, allocateRoom, clearedRoom, reallocateRoom, allocateBin, clearedBin, freeBin, reallocateNewBin, reallocateBin, asksCheck, refusedRecord}
 use Rattle.promises.proofs.ServeLaws.{room-iff}
 use Rattle.promises.proofs.JudgedLaws.{accepts, first, second, third, fourth, fifth, Judging, fails-iff, well}
 use Rattle.promises.proofs.ReasonLaws.{range-iff, live-iff, outgrown-iff}
@@ -37,7 +37,7 @@ allocating ws h z = allocateRefusals (heapFails ws h) (asRead ws h) z
 
 -- the three reasons of such a call, besides that of a heap that fails
 record Asking (ws : List ℕ) (h : Heap) (call : Call) (z : ℕ) : Type 0 where
-  other : isSetup call ≡ false
+  other : asksCheck call ≡ true
   size : WrongSize z ↔ Because ws h call BlockSize
   room : NoneServes ws h (need overhead z) ↔ Because ws h call NoRoom
   bin : (grant (need overhead z) (asRead ws h) .draft .noBinTakes ≡ true) ↔ Because ws h call NoBinTakes

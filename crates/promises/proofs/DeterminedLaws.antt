@@ -11,7 +11,8 @@ use Rattle.rules.specs.Free.{free}
 use Rattle.rules.specs.Reallocate.{reallocate}
 use Rattle.rules.specs.Merge.{setMerge, check}
 use Rattle.rules.specs.Ask.{askChunk, askBin}
-use Rattle.rules.specs.Statements.{Left, Meets, SetsUp, Allocates, AllocatesCleared, Frees, Reallocates, SetsMerge, Checks, AsksChunk, AsksBin}
+use Rattle.rules.specs.Patrol.{patrol}
+use Rattle.rules.specs.Statements.{Left, Meets, SetsUp, Allocates, AllocatesCleared, Frees, Reallocates, SetsMerge, Checks, AsksChunk, AsksBin, Patrols}
 use Rattle.promises.specs.Determined.{Determined}
 
 -- for any outcome
@@ -48,3 +49,6 @@ module _ (ws : List ℕ) where
 
     pub bin-determined : (question bin : ℕ) → Determined (AsksBin ws h question bin)
     bin-determined question bin = determined ws (askBin ws h question bin)
+
+    pub patrol-determined : (chunks : ℕ) → Determined (Patrols ws h chunks)
+    patrol-determined chunks = determined ws (patrol ws h chunks)

@@ -42,6 +42,11 @@ none-used : (h : Heap) (es : List Entry) → ((e : Entry) → Mem e es → live 
 none-used h [] f = refl
 none-used h (e ∷ es) f = rw (f e (List·Memᴰ·head refl)) (none-used h es (λ d m. f d (List·Memᴰ·tail m)))
 
+-- the patrol's place, 0, is the first chunk's
+start-there : (bytes : ℕ) (es : List Entry) → Tiled 0 es bytes → 0 < bytes → (e : Entry) × Mem e es × (e .place ≡ 0)
+start-there bytes [] t l = absurd (omega arith)
+start-there bytes (e ∷ es) (here, _, _) l = (e, List·Memᴰ·head refl, here)
+
 module _ (ws table : List ℕ) (merge : Bool) (valid : ValidTable table) (enough : 10 ≤ length ws) (few : length ws ≤ 16384) where
   abbrev bytes : ℕ
   bytes = heapBytes (length ws)
@@ -109,6 +114,7 @@ module _ (ws table : List ℕ) (merge : Bool) (valid : ValidTable table) (enough
           bins = λ i l. listed i;
           binned = λ e m o. absurd (false≢true (sym (none e m .0) ∙ o));
           used = sym (none-used (opened donor) es (λ e m. none e m .1));
+          patrol = start-there bytes es (y .tiled) (omega arith);
         }
 
     passes : Passes (words donor) (opened donor)

@@ -30,11 +30,12 @@ use Rattle.rules.specs.Outcome.{Outcome, Refusals, judged, heapFails, unchanged
 use Rattle.rules.specs.Setup.{setup, donorFits, setupRefusals, opened}
 use Rattle.rules.specs.Merge.{setMerge, check}
 use Rattle.rules.specs.Ask.{askChunk, askBin, chunkAnswers, askedSpot, isAsked, isThere, answerTo, binAnswers}
-use Rattle.rules.specs.Calls.{Call, Setup, Allocate, AllocateCleared, Free, Reallocate, SetMerge, Check, AskChunk, AskBin, step}
+use Rattle.rules.specs.Calls.{Call, Setup, Allocate, AllocateCleared, Free, Reallocate, SetMerge, Check, AskChunk, AskBin, Patrol, step}
 use Rattle.rules.proofs.CheckLaws.{passes-iff}
 use Rattle.rules.proofs.SpotLaws.{inside}
 use Rattle.rules.proofs.OutcomeLaws.{Failed, judged-so}
 use Rattle.rules.proofs.SetupLaws.{first-below}
+use Rattle.rules.proofs.PatrolReady.{patrol-below}
 use Rattle.drafts.proofs.FillLaws.{Within, fillFrom, filled-within}
 use Rattle.drafts.proofs.SourceLaws.{Grantable, need-grantable}
 use Rattle.drafts.proofs.GrantedChunk.{grantedWords, granted-pictured, new-there}
@@ -206,3 +207,4 @@ module _ (ws : List ℕ) (h : Heap) where
   stores-below (AskBin q i) =
       let answers = binAnswers (asRead ws h .lists i) in
       question-below (Told (answerTo q answers)) (not (isAsked q answers) || not (ltb i (h .bins)))
+  stores-below (Patrol f) = patrol-below ws h f

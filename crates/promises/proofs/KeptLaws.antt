@@ -10,10 +10,11 @@ use lib.ListN.{length}
 use borrow.Author.Tests.{lt-ltb, not-false}
 use Rattle.drafts.proofs.SourceLaws.{need-grantable}
 use Rattle.drafts.proofs.GrantedChunk.{granted-filled}
+use Rattle.lists.specs.Lists.{Mem}
 use Rattle.record.specs.declared.answers.Answer.{Answer}
 use Rattle.record.specs.declared.answers.Answer.the-variants.{Done, Granted, Returned, Told, Counted, Refused}
 use Rattle.record.specs.declared.heap.Heap.{Heap}
-use Rattle.record.specs.Heap.{empty, withMerge}
+use Rattle.record.specs.Heap.{empty, withMerge, withPatrol}
 use Rattle.record.specs.Table.{validTable}
 use Rattle.record.proofs.TableLaws.{valid-iff}
 use Rattle.region.specs.Words.{Store, written}
@@ -33,8 +34,10 @@ use Rattle.rules.specs.Free.{isLive, blockSpot, freeBlock, free, freeRefusals, 
 use Rattle.rules.specs.Reallocate.{moved, resized, resize, reallocate, resizeRefusals, resizedTo}
 use Rattle.rules.specs.Merge.{setMerge, checked, check}
 use Rattle.rules.specs.Ask.{askChunk, askBin, chunkAnswers, askedSpot, isThere, binAnswers, askRefusals, asked}
-use Rattle.rules.specs.Calls.{Call, Setup, Allocate, AllocateCleared, Free, Reallocate, SetMerge, Check, AskChunk, AskBin, State, recordAfter, step}
+use Rattle.rules.specs.Patrol.{patrol}
+use Rattle.rules.specs.Calls.{Call, Setup, Allocate, AllocateCleared, Free, Reallocate, SetMerge, Check, AskChunk, AskBin, Patrol, State, recordAfter, step}
 use Rattle.rules.proofs.OutcomeLaws.{Failed, judged-so}
+use Rattle.rules.proofs.PatrolSound.{patrol-so}
 use Rattle.drafts.proofs.FillLaws.{Within, written-inside}
 use Rattle.promises.specs.Ways.{ours}
 use Rattle.promises.specs.Kept.{Passing, Accepted, OnLiveBlocks, afterStores, Kept}
@@ -142,9 +145,9 @@ module _ (ws : List ℕ) (h : Heap) (p : Passes ws h) where
       go true = allocate-passes z
       go false = resize-passes b z
 
-  -- the check does not read the merge setting
-  merged : (on : Bool) → Passes ws (withMerge h on)
-  merged on =
+  -- the check does not read the merge setting, and asks of the patrol's place only that it be a chunk's
+  set-otherwise : (on : Bool) (c : ℕ) → ((e : Entry) × Mem e (shape ws (h .bytes)) × (e .place ≡ c)) → Passes ws (withPatrol (withMerge h on) c)
+  set-otherwise on c there =
       let t = p .table in
       let c = p .chain in
       record {
@@ -171,11 +174,16 @@ module _ (ws : List ℕ) (h : Heap) (p : Passes ws h) where
             record { tail = b .tail; links = b .links; once = b .once; chunks = b .chunks; words = b .words };
         binned = p .binned;
         used = p .used;
+        patrol = there;
       }
 
   merge-passes : (on : Bool) → Passing (stateLeft ws h (setMerge ws h on))
   unfolding setMerge
-  merge-passes on = judged-passes h (unchanged (withMerge h on) Done) (heapFails ws h ∷ []) (λ _. merged on)
+  merge-passes on = judged-passes h (unchanged (withMerge h on) Done) (heapFails ws h ∷ []) (λ _. set-otherwise on (h .patrol .0) (p .patrol))
+
+  -- a run of the patrol writes nothing, and its place is a chunk's again
+  patrol-passes : (f : ℕ) → Passing (stateLeft ws h (patrol ws h f))
+  patrol-passes f = patrol-so ws h p (λ o. Passing (stateLeft ws h o)) (λ r. p) (λ c t there. set-otherwise (h .merge) c there) f
 
   -- a call that changes nothing
   told-passes : (a : Answer) → Passing (stateLeft ws h (unchanged h a))
@@ -200,6 +208,7 @@ module _ (ws : List ℕ) (h : Heap) (p : Passes ws h) where
   step-passes (AskBin q i) =
       let answers = binAnswers (asRead ws h .lists i) in
       judged-passes h (asked h q answers) (askRefusals (heapFails ws h) q answers (ltb i (h .bins))) (λ _. p)
+  step-passes (Patrol f) = patrol-passes f
 
 -- after a store into a live block the heap is read as before, so the next store is into a live block too
 stores-pass : (ss : List Store) (s : State) → Passing s → OnLiveBlocks s ss → Passing (afterStores ss s)

@@ -2,6 +2,7 @@ pub mod ServeLaws
 pub mod ReasonLaws
 pub mod JudgedLaws
 pub mod BlockReasons
+pub mod PatrolReasons
 pub mod RefusingLaws
 pub mod ResizedLaws
 pub mod RoomLaws

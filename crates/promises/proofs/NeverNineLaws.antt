@@ -8,7 +8,6 @@ use native.Mathlib.Omega.{arith}
 use Rattle.record.specs.declared.answers.Refusal.{Refusal}
 use Rattle.record.specs.declared.answers.Refusal.the-variants.{HeapFails, NotLive, NoRoom, NoBinTakes}
 use Rattle.record.specs.declared.heap.Heap.{Heap}
-use Rattle.record.specs.Answers.{numberOf}
 use Rattle.rules.specs.Allocate.{sourceOf, grant}
 use Rattle.rules.specs.Calls.{Call, Allocate, AllocateCleared, Free, Reallocate}
 use Rattle.rules.specs.Check.{Passes}
@@ -28,16 +27,16 @@ use Rattle.drafts.proofs.MovedLaws.{move-all-put}
 use Rattle.promises.specs.Ways.{ours}
 use Rattle.promises.specs.Room.{HoldsBlock, NoneServes}
 use Rattle.promises.specs.NeverNine.{NeverNine}
-use Rattle.promises.specs.Refusing.{NoBlock, Because, freeNotLive, reallocateNotLive, allocateRoom, clearedRoom, reallocateRoom, allocateBin, clearedBin, freeBin, reallocateNewBin, reallocateBin, isSetup}
+use Rattle.promises.specs.Refusing.{NoBlock, Because, freeNotLive, reallocateNotLive, allocateRoom, clearedRoom, reallocateRoom, allocateBin, clearedBin, freeBin, reallocateNewBin, reallocateBin, asksCheck, orderOf}
 use Rattle.promises.proofs.ServeLaws.{room-iff}
 use Rattle.promises.proofs.RefusingLaws.{refusing}
 use Rattle.promises.proofs.ReasonLaws.{live-iff, one-block, live-holds}
 use Rattle.promises.proofs.JudgedLaws.{well}
 use Rattle.promises.proofs.ResizedLaws.{resized-so}
 
--- no reason of a number below 9 holds
+-- no reason of a number before 9 in the order holds
 abbrev NoneBefore : List ℕ → Heap → Call → Type 0
-NoneBefore ws h call = (q : Refusal) → numberOf q < 9 → Because ws h call q → ⊥
+NoneBefore ws h call = (q : Refusal) → orderOf q < 9 → Because ws h call q → ⊥
 
 module _ (ws : List ℕ) (h : Heap) (p : Passes ws h) where
   abbrev before : Draft
@@ -81,7 +80,7 @@ module _ (ws : List ℕ) (h : Heap) (p : Passes ws h) where
 
 module _ (ws : List ℕ) (h : Heap) where
   -- the heap passes, since refusal 4 has no reason
-  passing : (call : Call) → isSetup call ≡ false → NoneBefore ws h call → Passes ws h
+  passing : (call : Call) → asksCheck call ≡ true → NoneBefore ws h call → Passes ws h
   passing call s u = well ws h call s (u HeapFails (omega arith))
 
   -- so the reason of refusal 9 does not hold

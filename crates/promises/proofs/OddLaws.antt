@@ -1,8 +1,9 @@
 -- No call reads or writes an odd last word of the region (`odd`). Assumes nothing.
 use mathlib.Core.Path.{_≡_, refl, sym, ap, ap₂, _∙_}
-use mathlib.Core.Bool.{Bool, true, false, not, cond}
+use mathlib.Core.Bool.{Bool, true, false, not, cond, _&&_}
 use mathlib.Core.List.{List, [], _∷_, List·Memᴰ·head}
-use Prim.Native.Nat.{ℕ, zero, suc, _+_, _*_, _/_, _≤_, _<_}
+use mathlib.Core.Option.{Option}
+use Prim.Native.Nat.{ℕ, zero, suc, _+_, _-_, _*_, _/_, _≤_, _<_}
 use native.Mathlib.Omega.{arith}
 use lib.Dec.{eqb, ltb}
 use lib.ListN.{length, getD, take, drop}
@@ -11,7 +12,7 @@ use Rattle.lists.specs.Lists.{headOr, keep}
 use Rattle.lists.proofs.ListsLaws.{Decides}
 use Rattle.lists.proofs.MembersLaws.{kept-from}
 use Rattle.record.specs.declared.answers.Answer.the-variants.{Done, Counted, Refused}
-use Rattle.record.specs.declared.answers.Refusal.the-variants.{HeapFails}
+use Rattle.record.specs.declared.answers.Refusal.the-variants.{HeapFails, RunSize, BeyondMending}
 use Rattle.record.specs.declared.heap.Heap.{Heap}
 use Rattle.record.specs.Heap.{withMerge}
 use Rattle.region.specs.Words.{Store, put, word, written}
@@ -19,7 +20,7 @@ use Rattle.region.proofs.WordsLaws.{length-written}
 use Rattle.region.proofs.PrefixLaws.{Below, written-prefix}
 use Rattle.rules.specs.Shape.{Entry, shape, chunkEnd}
 use Rattle.rules.specs.Kinds.{overhead, blockOf, blockWords, outside, holdsBlock}
-use Rattle.rules.specs.Check.{Fits, Passes, passes, countsOf}
+use Rattle.rules.specs.Check.{Fits, fits, Passes, passes, countsOf}
 use Rattle.rules.specs.Draft.{Draft, asRead}
 use Rattle.rules.specs.Serve.{need}
 use Rattle.rules.specs.Outcome.{Outcome, judged, unchanged}
@@ -29,10 +30,13 @@ use Rattle.rules.specs.Free.{blockSpot, free, freeRefusals, freed}
 use Rattle.rules.specs.Reallocate.{copied, resized, resize, reallocate, resizeRefusals, resizedTo}
 use Rattle.rules.specs.Merge.{setMerge, checked, check}
 use Rattle.rules.specs.Ask.{askChunk, askBin, chunkAnswers, askedSpot, isThere, binAnswers, askRefusals, asked}
-use Rattle.rules.specs.Calls.{Call, Setup, Allocate, AllocateCleared, Free, Reallocate, SetMerge, Check, AskChunk, AskBin, step}
+use Rattle.rules.specs.Patrol.{Patrolled, placed, patrolRun, isLost, ran, patrol}
+use Rattle.rules.specs.Calls.{Call, Setup, Allocate, AllocateCleared, Free, Reallocate, SetMerge, Check, AskChunk, AskBin, Patrol, step}
 use Rattle.rules.proofs.CheckLaws.{passes-iff}
 use Rattle.rules.proofs.EvenLaws.{Agree, same-passes, same-read}
 use Rattle.rules.proofs.SpotLaws.{inside}
+use Rattle.rules.proofs.PatrolRun.{run-alike}
+use Rattle.rules.proofs.PatrolReady.{Ready, ready-iff, end-is}
 use Rattle.drafts.proofs.FillLaws.{fillFrom}
 use Rattle.promises.specs.Ways.{ours}
 use Rattle.promises.specs.Odd.{evenWords, oddWord, AlikeButOdd, Odd}
@@ -175,6 +179,25 @@ module _ (us vs : List ℕ) (h : Heap) (a : AlikeButOdd us vs) where
   unfolding setup
   setup-same table donor merge = rw (a .length)
 
+  -- a run of the patrol that can be made looks at words of the heap bytes alone
+  run-same : Ready us h → (f : ℕ) → patrolRun us h f ≡ patrolRun vs h f
+  unfolding patrolRun
+  run-same r f =
+      let e = end-is us h (r .fits) in
+      run-alike (h .bytes - 8) (e .eights) vs us (λ i l. agrees us vs h a (r .fits) i (omega arith)) f (h .patrol .0) (r .eights) (omega arith)
+
+  patrol-same : (f : ℕ) → patrol us h f ≡ patrol vs h f
+  unfolding patrol
+  patrol-same f = rw (← a .length) (go (fits us h && placed h) refl)
+    where
+      by : Bool → Option Patrolled → Outcome
+      by t o = judged h ((eqb f 0, RunSize) ∷ (not t, HeapFails) ∷ (isLost o, BeyondMending) ∷ []) (ran h o)
+
+      go : (t : Bool) → (fits us h && placed h) ≡ t
+          → by (fits us h && placed h) (patrolRun us h f) ≡ by (fits us h && placed h) (patrolRun vs h f)
+      go true q = rw (run-same (ready-iff us h .0 q) f)
+      go false q = rw q
+
   step-same : (call : Call) → step call us h ≡ step call vs h
   unfolding step
   step-same (Setup table donor merge) = setup-same table donor merge
@@ -186,6 +209,7 @@ module _ (us vs : List ℕ) (h : Heap) (a : AlikeButOdd us vs) where
   step-same Check = check-same
   step-same (AskChunk q p) = chunk-same q p
   step-same (AskBin q i) = bin-same q i
+  step-same (Patrol f) = patrol-same f
 
 -- a region after stores below its odd last word
 module _ (ws : List ℕ) (ss : List Store) (b : Below (length ws / 2 * 2) ss) where

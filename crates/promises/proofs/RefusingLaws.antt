@@ -1,8 +1,8 @@
 -- Every call is refused exactly with the first number whose reason holds, and a refused call changes nothing (`refusing`).
--- The tests of the calls about blocks are in `BlockReasons`. Assumes nothing.
+-- The tests of the calls about blocks are in `BlockReasons`, those of the patrol in `PatrolReasons`. Assumes nothing.
 use mathlib.Core.Path.{_≡_, refl, sym, ap, _∙_}
 use mathlib.Core.Logic.{_↔_}
-use mathlib.Core.Bool.{Bool, true, false, not, cond, _&&_, _||_, true≢false}
+use mathlib.Core.Bool.{Bool, true, false, not, cond, _&&_, _||_, false≢true}
 use mathlib.Core.List.{List, [], _∷_}
 use mathlib.Core.Option.{Option}
 use Prim.Native.Nat.{ℕ}
@@ -27,11 +27,12 @@ use Rattle.rules.specs.Outcome.{Outcome, unchanged, judged, heapFails}
 use Rattle.rules.specs.Setup.{setup, donorFits, setupRefusals, opened}
 use Rattle.rules.specs.Merge.{setMerge, checked, check}
 use Rattle.rules.specs.Ask.{askChunk, askBin, chunkAnswers, askedSpot, isThere, isAsked, binAnswers, askRefusals, asked}
-use Rattle.rules.specs.Calls.{Call, Setup, Allocate, AllocateCleared, Free, Reallocate, SetMerge, Check, AskChunk, AskBin, step}
+use Rattle.rules.specs.Calls.{Call, Setup, Allocate, AllocateCleared, Free, Reallocate, SetMerge, Check, AskChunk, AskBin, Patrol, step}
 use Rattle.promises.specs.Ways.{ours}
-use Rattle.promises.specs.Refusing.{Because, setupLength, setupTable, setupDonor, fails, askNoChunk, askNoBin, isSetup, First, refusedRecord, Refusing}
+use Rattle.promises.specs.Refusing.{Because, setupLength, setupTable, setupDonor, fails, askNoChunk, askNoBin, asksCheck, First, refusedRecord, Refusing}
 use Rattle.promises.proofs.JudgedLaws.{accepts, judged-first, judged-keeps, first, second, third, Judging, fails-iff}
 use Rattle.promises.proofs.ReasonLaws.{range-iff, there-iff, donor-iff}
+use Rattle.promises.proofs.PatrolReasons.{patrol-judged}
 use Rattle.promises.proofs.BlockReasons.{allocate-judged, cleared-judged, free-judged, reallocate-judged}
 
 module _ (ws : List ℕ) (h : Heap) where
@@ -74,7 +75,7 @@ module _ (ws : List ℕ) (h : Heap) where
       stands r (fails s n) = first
 
   -- a question q with these answers; `there` says whether what it is about exists
-  question-judged : (call : Call) (q : ℕ) (answers : List (Option ℕ)) (there : Bool) → isSetup call ≡ false
+  question-judged : (call : Call) (q : ℕ) (answers : List (Option ℕ)) (there : Bool) → asksCheck call ≡ true
       → step call ws h ≡ judged (refusedRecord call h) (askRefusals (heapFails ws h) q answers there) (asked h q answers)
       → Decides (not (isAsked q answers) || not there) (Because ws h call NotThere)
       → ((r : Refusal) → Because ws h call r → Mem r (HeapFails ∷ NotThere ∷ [])) → Judging call ws h
@@ -142,7 +143,7 @@ module _ (ws : List ℕ) (h : Heap) where
       donors = meaning (donor-iff ws donor) (λ w. setupDonor w) (λ k. elim k [ setupDonor w ↦ w ])
 
       stands : (r : Refusal) → Because ws h (Setup table donor merge) r → Mem r (RegionLength ∷ BadTable ∷ DonorSize ∷ [])
-      stands r (fails s n) = absurd (true≢false s)
+      stands r (fails s n) = absurd (false≢true s)
       stands r (setupLength w) = first
       stands r (setupTable w) = second
       stands r (setupDonor w) = third
@@ -158,6 +159,7 @@ module _ (ws : List ℕ) (h : Heap) where
   judging Check = check-judged
   judging (AskChunk q p) = chunk-judged q p
   judging (AskBin q i) = bin-judged q i
+  judging (Patrol f) = patrol-judged ws h f
 
 -- the refusal that is given is the first whose reason holds
 ours-first : (call : Call) (ws : List ℕ) (h : Heap) (r : Refusal) → (ours call ws h .answer ≡ Refused r) ↔ First ws h call r

@@ -11,7 +11,6 @@ use Rattle.record.specs.declared.answers.Answer.the-variants.{Refused}
 use Rattle.record.specs.declared.answers.Refusal.{Refusal}
 use Rattle.record.specs.declared.answers.Refusal.the-variants.{NoRoom}
 use Rattle.record.specs.declared.heap.Heap.{Heap}
-use Rattle.record.specs.Answers.{numberOf}
 use Rattle.rules.specs.Shape.{Entry}
 use Rattle.rules.specs.Kinds.{overhead}
 use Rattle.rules.specs.Check.{Passes}
@@ -19,7 +18,7 @@ use Rattle.rules.specs.Serve.{mostBytes, need, permitted}
 use Rattle.rules.specs.Calls.{Allocate, AllocateCleared, Reallocate}
 use Rattle.promises.specs.Ways.{Way, ours}
 use Rattle.promises.specs.Room.{HoldsBlock, OnlyForRoom, Room}
-use Rattle.promises.specs.Refusing.{WrongSize, NoBlock, NoPlace, Because, fails, allocateSize, clearedSize, reallocateSize, reallocateNotLive, allocateRoom, clearedRoom, reallocateRoom, allocateBin, clearedBin, reallocateNewBin, reallocateBin, Refusing}
+use Rattle.promises.specs.Refusing.{WrongSize, NoBlock, NoPlace, Because, fails, allocateSize, clearedSize, reallocateSize, reallocateNotLive, allocateRoom, clearedRoom, reallocateRoom, allocateBin, clearedBin, reallocateNewBin, reallocateBin, orderOf, Refusing}
 use Rattle.promises.proofs.RefusingLaws.{refusing}
 use Rattle.promises.proofs.ReasonLaws.{one-block}
 
@@ -38,7 +37,7 @@ module _ (way : Way) (refuses : Refusing way) (ws : List ℕ) (h : Heap) (p : Pa
     λ none. refuses .exactly (Allocate z) ws h NoRoom .1 (record { because = allocateRoom none; before = before }),
   )
     where
-      before : (q : Refusal) → numberOf q < numberOf NoRoom → Because ws h (Allocate z) q → ⊥
+      before : (q : Refusal) → orderOf q < orderOf NoRoom → Because ws h (Allocate z) q → ⊥
       before q l (fails s n) = n p
       before q l (allocateSize w) = not-wrong z t w
       before q l (allocateRoom w) = omega arith
@@ -50,7 +49,7 @@ module _ (way : Way) (refuses : Refusing way) (ws : List ℕ) (h : Heap) (p : Pa
     λ none. refuses .exactly (AllocateCleared count size) ws h NoRoom .1 (record { because = clearedRoom none; before = before }),
   )
     where
-      before : (q : Refusal) → numberOf q < numberOf NoRoom → Because ws h (AllocateCleared count size) q → ⊥
+      before : (q : Refusal) → orderOf q < orderOf NoRoom → Because ws h (AllocateCleared count size) q → ⊥
       before q l (fails s n) = n p
       before q l (clearedSize w) = not-wrong (count * size) t w
       before q l (clearedRoom w) = omega arith
@@ -67,7 +66,7 @@ module _ (way : Way) (refuses : Refusing way) (ws : List ℕ) (h : Heap) (p : Pa
     λ none. refuses .exactly (Reallocate b z) ws h NoRoom .1 (record { because = reallocateRoom (grows, none); before = before }),
   )
     where
-      before : (q : Refusal) → numberOf q < numberOf NoRoom → Because ws h (Reallocate b z) q → ⊥
+      before : (q : Refusal) → orderOf q < orderOf NoRoom → Because ws h (Reallocate b z) q → ⊥
       before q l (fails s n) = n p
       before q l (reallocateSize w) = not-wrong z t w
       before q l (reallocateNotLive w) = there w

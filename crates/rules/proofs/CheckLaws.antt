@@ -24,7 +24,7 @@ pub table-bins : (h : Heap) → Tabled h → length (tableOf h) ≡ h .bins
 table-bins h t = length-take-le (h .bins) (h .sizes) (omega arith)
 
 module _ (ws : List ℕ) (h : Heap) where
-  fits-iff : Decides (fits ws h) (Fits ws h)
+  pub fits-iff : Decides (fits ws h) (Fits ws h)
   fits-iff =
       meaning (both (both (at-most 10 (length ws)) (at-most (length ws) 16384)) (number-is (h .bytes) (heapBytes (length ws))))
       (λ ((enough, most), bytes). record { enough = enough; notTooMany = most; bytes = bytes })

@@ -17,3 +17,5 @@ pub mod PatrolMends
 pub mod PatrolAgree
 pub mod PatrolRun
 pub mod PatrolParts
+pub mod PatrolReady
+pub mod PatrolSound
