@@ -16,4 +16,8 @@ pub mod KeptLaws
 pub mod ApartLaws
 pub mod NeverNineLaws
 pub mod RunsLaws
+pub mod PatrolLaws
+pub mod FullPatrolLaws
+pub mod RoundsLaws
+pub mod SinglyLaws
 pub mod WrongLaws

@@ -3,7 +3,7 @@
 -- (`run-fall`), and a run over links that are right, which writes nothing (`run-right`). Assumes nothing.
 use mathlib.Core.Path.{_≡_, refl, sym, ap, ap₂, _∙_}
 use mathlib.Core.Logic.{_≢_}
-use mathlib.Core.Bool.{Bool, true, false}
+use mathlib.Core.Bool.{Bool, true, false, false≢true}
 use mathlib.Core.List.{List, [], _∷_, _++_, append-assoc}
 use mathlib.Core.Option.{Option, some, none, Option·some-injective, Option·none-ne-some}
 use Prim.Native.Nat.{ℕ, zero, suc, _+_, _-_, _/_, _%_, _≤_, _<_}
@@ -16,7 +16,7 @@ use Rattle.rules.specs.Patrol.{backOffset, nextOf, mends, Patrolled, pat
 use Rattle.rules.proofs.PatrolSeek.{NextPlace, next-above, next-far}
 use Rattle.rules.proofs.PatrolNext.{no-skip, believed, next-believed, next-place}
 use Rattle.rules.proofs.PatrolMends.{handled, Right, mends-none, mends-fall}
-use Rattle.rules.proofs.PatrolRun.{run-ends, run-lost, run-on, Handling, ends, lost, on, handling}
+use Rattle.rules.proofs.PatrolRun.{run-ends, run-lost, run-on, Handling, ends, lost, on, handling, run-by}
 
 -- a run goes on with g chunks more, unless it handled the end chunk
 abbrev pub onward : ℕ → List ℕ → ℕ → Option Patrolled → Option Patrolled
@@ -32,6 +32,17 @@ goes-on-none (some r) = refl
 goes-on-both : (ss ts : List Store) (o : Option Patrolled) → goesOn (ss ++ ts) o ≡ goesOn ss (goesOn ts o)
 goes-on-both ss ts none = refl
 goes-on-both ss ts (some r) = ap (λ (us : List Store). some (patrolled (r .place) (r .ended) us)) (append-assoc ss ts (r .stores))
+
+-- what a run came to, where it had these stores before the rest
+pub went-on : (ss : List Store) (o : Option Patrolled) (c : ℕ) (t : Bool) (us : List Store) → goesOn ss o ≡ some (patrolled c t us)
+    → (ts : List Store) × (o ≡ some (patrolled c t ts)) × (us ≡ ss ++ ts)
+went-on ss none c t us q = absurd (Option·none-ne-some _ q)
+went-on ss (some r) c t us q =
+    let e = Option·some-injective _ _ q in (
+      r .stores,
+      ap₂ (λ (d : ℕ) (u : Bool). some (patrolled d u (r .stores))) (ap (λ (x : Patrolled). x .place) e) (ap (λ (x : Patrolled). x .ended) e),
+      sym (ap (λ (x : Patrolled). x .stores) e),
+    )
 
 -- what goes on after stores goes on on the words that they leave
 onward-after : (ss : List Store) (g : ℕ) (ws : List ℕ) (end : ℕ) (o : Option Patrolled)
@@ -59,6 +70,11 @@ run-parts (suc f) g ws end c = rw (suc-add f g) (go (handling ws end c) (λ v. r
         ∙ sym (onward-after (mends ws c v) g ws end (patrolFrom f (handled ws c v) end v))
         ∙ ap (onward g ws end) (sym (run-on ws end c f n v q))
 
+-- a run that did not handle the end chunk, and one after it
+pub run-then : (f g : ℕ) (ws : List ℕ) (end c d : ℕ) (ss : List Store) → patrolFrom f ws end c ≡ some (patrolled d false ss)
+    → patrolFrom (f + g) ws end c ≡ goesOn ss (patrolFrom g (written ws ss) end d)
+run-then f g ws end c d ss h = run-parts f g ws end c ∙ ap (onward g ws end) h
+
 pub run-more : (f g : ℕ) (ws : List ℕ) (end c d : ℕ) (ss : List Store) → patrolFrom f ws end c ≡ some (patrolled d true ss)
     → patrolFrom (f + g) ws end c ≡ some (patrolled d true ss)
 run-more f g ws end c d ss h = run-parts f g ws end c ∙ ap (onward g ws end) h
@@ -79,29 +95,34 @@ module _ (end : ℕ) (last : end % 8 ≡ 0) where
       (λ z. record { above = omega arith; notBack = λ l q. omega arith; inside = omega arith })
       (λ u. record { above = omega arith; notBack = λ l q. omega arith; inside = omega arith })
 
-  pub run-fall : (f : ℕ) (ws : List ℕ) (c : ℕ) → c ≤ end → (r : Patrolled) → patrolFrom f ws end c ≡ some r → Fall (From end c) (r .stores)
-  run-fall zero ws c l r h = rw (← Option·some-injective _ _ h) tt
-  run-fall (suc f) ws c l r h = go (handling ws end c) (λ v n. run-fall f (handled ws c v) v (n .inside))
+  pub run-fall : (f : ℕ) (ws : List ℕ) (c : ℕ) (r : Patrolled) → patrolFrom f ws end c ≡ some r → Fall (From end c) (r .stores)
+  run-fall f ws c r h =
+      run-by end last (λ us d t. Fall (From end d) (t .stores)) (λ us d. tt) (λ us. tt) more f ws c r h
     where
-      Rest : Type 0
-      Rest = (v : ℕ) → NextPlace end c v → (t : Patrolled) → patrolFrom f (handled ws c v) end v ≡ some t → Fall (From end v) (t .stores)
-
-      rest : (v : ℕ) → NextPlace end c v → (o : Option Patrolled) → patrolFrom f (handled ws c v) end v ≡ o
-          → goesOn (mends ws c v) o ≡ some r → Rest → Fall (From end c) (r .stores)
-      rest v n none e q g = absurd (Option·none-ne-some r q)
-      rest v n (some t) e q g =
+      more : (us : List ℕ) (d v : ℕ) (t : Patrolled) → NextPlace end d v → nextOf us end d ≡ some v → Fall (From end v) (t .stores)
+          → Fall (From end d) (mends us d v ++ t .stores)
+      more us d v t n q rest =
           let up = next-above n in
-          rw (← Option·some-injective _ _ q)
-          (fall-both (From end c) (mends ws c v) (t .stores) (mends-from ws c v n)
-          (fall-so (From end v) (From end c)
+          fall-both (From end d) (mends us d v) (t .stores) (mends-from us d v n)
+          (fall-so (From end v) (From end d)
           (λ i b. record { above = omega arith; notBack = λ k w. omega arith; inside = b .inside })
-          (t .stores) (g v n t e)))
+          (t .stores) rest)
 
-      go : Handling ws end c → Rest → Fall (From end c) (r .stores)
-      go (ends q) g = rw (← Option·some-injective _ _ (sym (run-ends ws end c f q) ∙ h)) tt
-      go (lost n q) g = absurd (Option·none-ne-some r (sym (run-lost ws end c f n q) ∙ h))
-      go (on n v q) g =
-          rest v (next-place ws end c last v q) (patrolFrom f (handled ws c v) end v) refl (sym (run-on ws end c f n v q) ∙ h) g
+-- the next chunk to be handled: its place is a multiple of 8 up to the end chunk's, and the start where the end chunk was handled
+pub record NextTime (end : ℕ) (r : Patrolled) : Type 0 where
+  pub eights : r .place % 8 ≡ 0
+  pub inside : r .place ≤ end
+  pub start : r .ended ≡ true → r .place ≡ 0
+
+pub run-place : (end : ℕ) → end % 8 ≡ 0 → (f : ℕ) (ws : List ℕ) (c : ℕ) → c % 8 ≡ 0 → c ≤ end
+    → (r : Patrolled) → patrolFrom f ws end c ≡ some r → NextTime end r
+run-place end last f ws c e l r h =
+    run-by end last (λ us d t. d % 8 ≡ 0 → d ≤ end → NextTime end t)
+    (λ us d e l. record { eights = e; inside = l; start = λ q. absurd (false≢true q) })
+    (λ us e l. record { eights = refl; inside = omega arith; start = λ q. refl })
+    (λ us d v t n q rest e l.
+    let w = rest (n .eights) (n .inside) in record { eights = w .eights; inside = w .inside; start = w .start })
+    f ws c r h e l
 
 -- a chunk whose links and size are right
 module _ (ws : List ℕ) (end c v : ℕ) (n : NextPlace end c v) (r : Right ws c v) where

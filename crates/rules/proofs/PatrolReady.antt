@@ -58,7 +58,7 @@ module _ (ws : List ℕ) (h : Heap) (chunks : ℕ) where
       go r (some t) q =
           let e = end-is ws h (r .fits) in
           fall-so (From (h .bytes - 8) (h .patrol .0)) (λ i. i < length ws / 2 * 2) (λ i b. omega arith) (t .stores)
-          (run-fall (h .bytes - 8) (e .eights) chunks ws (h .patrol .0) (omega arith) t q)
+          (run-fall (h .bytes - 8) (e .eights) chunks ws (h .patrol .0) t q)
 
   -- an accepted run
   pub patrol-runs : Ready ws h → 0 < chunks → (r : Patrolled) → patrolRun ws h chunks ≡ some r → patrol ws h chunks ≡ ran h (some r)

@@ -1,10 +1,11 @@
--- A run of the patrol, chunk by chunk (`run-ends`, `run-lost`, `run-on`), and its plan: the same run on words that it does not write.
+-- A run of the patrol, chunk by chunk (`run-ends`, `run-lost`, `run-on`; induction along it: `run-by`), and its plan: the same run on words
+-- that it does not write.
 -- A run is its plan (`plan-is`): all that it decides, and every store, it finds on the words as they came; and words above the end
 -- chunk's make no difference (`run-alike`). Assumes nothing.
 use mathlib.Core.Path.{_≡_, refl, sym, ap, ap₂, _∙_}
 use mathlib.Core.Bool.{true, false}
 use mathlib.Core.List.{List, [], _∷_, _++_}
-use mathlib.Core.Option.{Option, some, none}
+use mathlib.Core.Option.{Option, some, none, Option·some-injective, Option·none-ne-some}
 use Prim.Native.Nat.{ℕ, zero, suc, _+_, _/_, _%_, _≤_, _<_}
 use native.Mathlib.Decide.{ℕ-discrete}
 use native.Mathlib.Omega.{arith}
@@ -65,6 +66,30 @@ module _ (ws : List ℕ) (end c : ℕ) where
       go (yes q) o e = ends q
       go (no n) none e = lost n e
       go (no n) (some v) e = on n v e
+
+-- induction along a run that comes to something: P holds of it, from the words ws and the chunk at c, if it holds of a run that has no
+-- chunk left, of one at the end chunk, and passes from the rest of a run to the run with one more chunk before
+module _ (end : ℕ) (last : end % 8 ≡ 0) (P : List ℕ → ℕ → Patrolled → Type 0)
+    (spent : (ws : List ℕ) (c : ℕ) → P ws c (patrolled c false []))
+    (over : (ws : List ℕ) → P ws end (patrolled 0 true []))
+    (more : (ws : List ℕ) (c v : ℕ) (r : Patrolled) → NextPlace end c v → nextOf ws end c ≡ some v → P (handled ws c v) v r
+    → P ws c (patrolled (r .place) (r .ended) (mends ws c v ++ r .stores))) where
+  pub run-by : (f : ℕ) (ws : List ℕ) (c : ℕ) (r : Patrolled) → patrolFrom f ws end c ≡ some r → P ws c r
+  run-by zero ws c r h = rw (← Option·some-injective _ _ h) (spent ws c)
+  run-by (suc f) ws c r h = go (handling ws end c) (λ v. run-by f (handled ws c v) v)
+    where
+      Rest : Type 0
+      Rest = (v : ℕ) (t : Patrolled) → patrolFrom f (handled ws c v) end v ≡ some t → P (handled ws c v) v t
+
+      rest : (v : ℕ) → nextOf ws end c ≡ some v → (o : Option Patrolled) → patrolFrom f (handled ws c v) end v ≡ o
+          → goesOn (mends ws c v) o ≡ some r → Rest → P ws c r
+      rest v n none e q g = absurd (Option·none-ne-some r q)
+      rest v n (some t) e q g = rw (← Option·some-injective _ _ q) (more ws c v t (next-place ws end c last v n) n (g v t e))
+
+      go : Handling ws end c → Rest → P ws c r
+      go (ends q) g = rw (← Option·some-injective _ _ (sym (run-ends ws end c f q) ∙ h), q) (over ws)
+      go (lost n q) g = absurd (Option·none-ne-some r (sym (run-lost ws end c f n q) ∙ h))
+      go (on n v q) g = rest v q (patrolFrom f (handled ws c v) end v) refl (sym (run-on ws end c f n v q) ∙ h) g
 
 module _ (end : ℕ) (last : end % 8 ≡ 0) where
   -- a run on words that agree with ws from c on
