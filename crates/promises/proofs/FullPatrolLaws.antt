@@ -91,7 +91,7 @@ module _ (f : ℕ) (l : 0 < f) where
     by-end m c false rs e g =
         let next = ranTo s (patrolled c false rs) in
         let (ts, run, parts) = went-on rs (runOf (n - f) next) 0 true ss g in
-        rw parts (later s can c rs ts e (shorter next (still-runs s f can l _ e) (n - f) (omega arith) ts run))
+        rw parts (later s can c rs ts e (shorter next (still-runs s f can _ e) (n - f) (omega arith) ts run))
 
     after-first : f < n → (o : Option Patrolled) → runOf f s ≡ o
         → onward (n - f) (s .words) (s .heap .bytes - 8) o ≡ some (patrolled 0 true ss)

@@ -20,4 +20,8 @@ pub mod PatrolLaws
 pub mod FullPatrolLaws
 pub mod RoundsLaws
 pub mod SinglyLaws
+pub mod StraightenedLaws
+pub mod DamagedLaws
+pub mod RetracedLaws
+pub mod MendedLaws
 pub mod WrongLaws

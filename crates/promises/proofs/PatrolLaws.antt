@@ -42,18 +42,18 @@ module _ (s : State) (f : ℕ) where
     pub after-is : after ours (Patrol f) s ≡ ranTo s r
     after-is = ap (λ (x : Left). record { words = x .words; heap = recordAfter (s .heap) (x .heap) (x .answer) }) left-is
 
-    -- after it another can be made
-    pub still-runs : CanRun (ranTo s r)
-    still-runs =
-        let b = k .fits in
-        let n = length-written (r .stores) (s .words) in
-        let e = end-is (s .words) (s .heap) b in
-        let p = run-place (s .heap .bytes - 8) (e .eights) f (s .words) (s .heap .patrol .0) (k .eights) (omega arith) r q in
-        record {
-          fits = record { enough = omega arith; notTooMany = omega arith; bytes = rw n (b .bytes) };
-          eights = p .eights;
-          inside = omega arith;
-        }
+  -- after a run another can be made
+  pub still-runs : CanRun s → (r : Patrolled) → runOf f s ≡ some r → CanRun (ranTo s r)
+  still-runs k r q =
+      let b = k .fits in
+      let n = length-written (r .stores) (s .words) in
+      let e = end-is (s .words) (s .heap) b in
+      let p = run-place (s .heap .bytes - 8) (e .eights) f (s .words) (s .heap .patrol .0) (k .eights) (omega arith) r q in
+      record {
+        fits = record { enough = omega arith; notTooMany = omega arith; bytes = rw n (b .bytes) };
+        eights = p .eights;
+        inside = omega arith;
+      }
 
   -- a run that answered was accepted
   pub was-run : (value : ℕ) → ours (Patrol f) (s .words) (s .heap) .answer ≡ Told value → Ran (s .words) (s .heap) f value

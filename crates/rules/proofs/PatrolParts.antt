@@ -95,18 +95,17 @@ module _ (end : ℕ) (last : end % 8 ≡ 0) where
       (λ z. record { above = omega arith; notBack = λ l q. omega arith; inside = omega arith })
       (λ u. record { above = omega arith; notBack = λ l q. omega arith; inside = omega arith })
 
+  -- one chunk, and the rest of a run from v on
+  pub falls-on : (ws : List ℕ) (c v : ℕ) → NextPlace end c v → (ss : List Store) → Fall (From end v) ss → Fall (From end c) (mends ws c v ++ ss)
+  falls-on ws c v n ss rest =
+      let up = next-above n in
+      fall-both (From end c) (mends ws c v) ss (mends-from ws c v n)
+      (fall-so (From end v) (From end c) (λ i b. record { above = omega arith; notBack = λ k w. omega arith; inside = b .inside }) ss rest)
+
   pub run-fall : (f : ℕ) (ws : List ℕ) (c : ℕ) (r : Patrolled) → patrolFrom f ws end c ≡ some r → Fall (From end c) (r .stores)
   run-fall f ws c r h =
-      run-by end last (λ us d t. Fall (From end d) (t .stores)) (λ us d. tt) (λ us. tt) more f ws c r h
-    where
-      more : (us : List ℕ) (d v : ℕ) (t : Patrolled) → NextPlace end d v → nextOf us end d ≡ some v → Fall (From end v) (t .stores)
-          → Fall (From end d) (mends us d v ++ t .stores)
-      more us d v t n q rest =
-          let up = next-above n in
-          fall-both (From end d) (mends us d v) (t .stores) (mends-from us d v n)
-          (fall-so (From end v) (From end d)
-          (λ i b. record { above = omega arith; notBack = λ k w. omega arith; inside = b .inside })
-          (t .stores) rest)
+      run-by end last (λ us d t. Fall (From end d) (t .stores)) (λ us d. tt) (λ us. tt)
+      (λ us d v t n q rest. falls-on us d v n (t .stores) rest) f ws c r h
 
 -- the next chunk to be handled: its place is a multiple of 8 up to the end chunk's, and the start where the end chunk was handled
 pub record NextTime (end : ℕ) (r : Patrolled) : Type 0 where

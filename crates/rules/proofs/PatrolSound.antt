@@ -10,8 +10,8 @@ use native.Mathlib.Omega.{arith}
 use lib.ListN.{length, getD, take, drop}
 use lib.Dec.{eqb}
 use borrow.Author.Tests.{eqb-false}
-use Rattle.lists.specs.Lists.{Mem, headOr}
-use Rattle.lists.proofs.SplitLaws.{in-split}
+use Rattle.lists.specs.Lists.{Mem, headOr, lastOr, butLast}
+use Rattle.lists.proofs.SplitLaws.{ends-with, in-split}
 use Rattle.record.specs.declared.answers.Refusal.{Refusal}
 use Rattle.record.specs.declared.heap.Heap.{Heap}
 use Rattle.region.specs.Words.{word, forward, backward, size}
@@ -22,6 +22,7 @@ use Rattle.rules.specs.Draft.{spot}
 use Rattle.rules.specs.Outcome.{Outcome, refused}
 use Rattle.rules.specs.Patrol.{leastSize, Patrolled, patrolled, patrolFrom, patrolRun, patrolRefusals, ran, patrol}
 use Rattle.rules.proofs.SpotLaws.{Inside, Ends, NextIs, one-chunk, bounds, inside, tiled-at, next-is, ends, between, spot-at}
+use Rattle.rules.proofs.TiledLaws.{tiled-empty}
 use Rattle.rules.proofs.OutcomeLaws.{judged-so}
 use Rattle.rules.proofs.PatrolSeek.{NextPlace, least-above}
 use Rattle.rules.proofs.PatrolMends.{Right, Unused}
@@ -78,6 +79,21 @@ module _ (ws : List ℕ) (h : Heap) (p : Passes ws h) where
       go low [] q = let t = tiled-at ws h p low e [] q .above in let n = chunk-next e m l in absurd (omega arith)
       go low (d ∷ high) q =
           (d, in-split (low ++ e ∷ []) d high (q ∙ sym (append-assoc low (e ∷ []) (d ∷ high))), next-is ws h p low e d high q)
+
+  -- the chunk below a chunk above the start
+  pub below-it : (d : Entry) → Mem d es → 0 < d .place → (e : Entry) × Mem e es × NextIs ws e d
+  below-it d m l =
+      let s = spot-at ws h p (d .place) d m refl in
+      go (spot (isAt (d .place)) es .low) (spot (isAt (d .place)) es .high) (s .split)
+    where
+      go : (low high : List Entry) → es ≡ low ++ d ∷ high → (e : Entry) × Mem e es × NextIs ws e d
+      go low high q =
+          let t = tiled-at ws h p low d high q in
+          let filled : low ≡ [] → ⊥ = λ z. let k = tiled-empty 0 (t .from) low (t .below) z in omega arith in
+          let e = lastOr outside low in
+          let split : es ≡ butLast low ++ e ∷ d ∷ high =
+          q ∙ ap (λ (l : List Entry). l ++ d ∷ high) (ends-with outside low filled) ∙ append-assoc (butLast low) (e ∷ []) (d ∷ high) in
+          (e, in-split (butLast low) e (d ∷ high) split, next-is ws h p (butLast low) e d high split)
 
   pub chunk-right : (e : Entry) → Mem e es → e .place + 8 < h .bytes → Right ws (e .place) (chunkEnd e)
   chunk-right e m l =
