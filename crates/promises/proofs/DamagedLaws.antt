@@ -4,31 +4,30 @@
 use mathlib.Core.Path.{_≡_, refl, sym, ap, subst, _∙_}
 use mathlib.Core.Logic.{_⊎_, inl, inr, _≢_}
 use mathlib.Core.Bool.{Bool, true, false, false≢true}
-use mathlib.Core.List.{List, [], _∷_, _++_}
-use mathlib.Core.Option.{Option, some, none}
+use mathlib.Core.List.{List, [], _++_}
+use mathlib.Core.Option.{some}
 use Prim.Native.Nat.{ℕ, zero, suc, _+_, _-_, _/_, _%_, _≤_, _<_}
 use native.Mathlib.Decide.{ℕ-discrete, decLt}
 use native.Mathlib.Omega.{arith}
 use lib.ListN.{length, getD}
 use lib.Seq.{ext-getD}
-use Rattle.lists.specs.Lists.{Mem, headOr}
+use Rattle.lists.specs.Lists.{headOr}
 use Rattle.record.specs.declared.heap.Heap.{Heap}
 use Rattle.region.specs.Words.{Store, written, word, forward, backward, size}
 use Rattle.region.proofs.WordsLaws.{written-append}
 use Rattle.rules.specs.Shape.{Entry, entry, shape, chunkEnd, flagsAt}
 use Rattle.rules.specs.Kinds.{inUse, isFree, outside}
 use Rattle.rules.specs.Check.{Passes}
-use Rattle.rules.specs.Patrol.{nextOf, mends, patrolled, goesOn, patrolFrom}
+use Rattle.rules.specs.Patrol.{mends, patrolled, goesOn, patrolFrom}
 use Rattle.rules.proofs.SpotLaws.{Inside, NextIs, bounds, inside, ends, one-chunk, chunks-apart}
 use Rattle.rules.proofs.NamedLaws.{kind-free}
-use Rattle.rules.proofs.PatrolSeek.{NextPlace, next-above, next-far}
+use Rattle.rules.proofs.PatrolSeek.{NextPlace, next-above}
 use Rattle.rules.proofs.PatrolMends.{Unused, handled, handled-length, handled-kept, handled-at, handled-link, handled-back, handled-start, handled-size}
 use Rattle.rules.proofs.PatrolAgree.{Agree, agree-same, next-agrees, agree-on}
 use Rattle.rules.proofs.PatrolRun.{run-ends, run-on}
-use Rattle.rules.proofs.PatrolReady.{EndIs, end-is}
 use Rattle.rules.proofs.PatrolSound.{above-it, chunk-next, chunk-right, chunk-last}
 use Rattle.promises.specs.Room.{OnChain}
-use Rattle.promises.specs.Mended.{BelowEnd, LinkOrSize, Damaged, NextFound}
+use Rattle.promises.specs.Mended.{LinkOrSize, Damaged, NextFound}
 
 -- chunks at one place are the same chunk, so two that both have word i are
 module _ (ws : List ℕ) (h : Heap) (p : Passes ws h) where

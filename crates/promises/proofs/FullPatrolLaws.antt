@@ -1,20 +1,17 @@
 -- A full patrol, whatever its runs, is one run that is long enough (`full-run`, `run-full`), on any region. Assumes nothing.
-use mathlib.Core.Path.{_≡_, refl, sym, ap, ap₂, subst, _∙_}
-use mathlib.Core.Bool.{Bool, true, false, cond}
-use mathlib.Core.List.{List, [], _∷_, _++_}
-use mathlib.Core.Option.{Option, some, none, Option·some-injective, Option·none-ne-some}
+use mathlib.Core.Path.{_≡_, refl, sym, ap, subst, _∙_}
+use mathlib.Core.Bool.{Bool, true, false}
+use mathlib.Core.List.{List, _++_}
+use mathlib.Core.Option.{Option, some, none, Option·none-ne-some}
 use Prim.Native.Nat.{ℕ, zero, suc, _+_, _-_, _≤_, _<_}
 use native.Mathlib.Decide.{decLt}
 use native.Mathlib.Omega.{arith}
-use Rattle.record.specs.declared.answers.Answer.the-variants.{Told}
-use Rattle.record.specs.declared.heap.Heap.{Heap}
 use Rattle.record.specs.Heap.{withPatrol}
-use Rattle.region.specs.Words.{Store, written}
-use Rattle.region.proofs.WordsLaws.{length-written, written-append}
-use Rattle.rules.specs.Patrol.{Patrolled, patrolled, goesOn, patrolFrom, patrolRun, patrol}
-use Rattle.rules.specs.Calls.{Patrol, State, step}
-use Rattle.rules.proofs.PatrolParts.{onward, went-on, run-parts, run-then, run-more, NextTime, run-place}
-use Rattle.rules.proofs.PatrolReady.{Ready, EndIs, end-is, Ran, patrol-runs, patrol-told}
+use Rattle.region.specs.Words.{Store}
+use Rattle.region.proofs.WordsLaws.{written-append}
+use Rattle.rules.specs.Patrol.{Patrolled, patrolled, goesOn, patrol}
+use Rattle.rules.specs.Calls.{Patrol, State}
+use Rattle.rules.proofs.PatrolParts.{onward, went-on, run-parts, run-then, run-more}
 use Rattle.promises.specs.Ways.{ours}
 use Rattle.promises.specs.Kept.{after}
 use Rattle.promises.specs.FullPatrol.{FullPatrol, lastRun, furtherRun}

@@ -25,3 +25,4 @@ pub mod DamagedLaws
 pub mod RetracedLaws
 pub mod MendedLaws
 pub mod WrongLaws
+pub mod WrongPatrolLaws

@@ -8,29 +8,28 @@ use mathlib.Core.Option.{some}
 use Prim.Native.Nat.{ℕ, zero, suc, _+_, _-_, _/_, _%_, _≤_, _<_}
 use native.Mathlib.Decide.{ℕ-discrete}
 use native.Mathlib.Omega.{arith}
-use lib.ListN.{length, getD}
-use Rattle.lists.specs.Lists.{Mem, lastOr}
+use lib.ListN.{length}
+use Rattle.lists.specs.Lists.{lastOr}
 use Rattle.record.specs.declared.heap.Heap.{Heap}
 use Rattle.record.specs.Heap.{withPatrol}
-use Rattle.region.specs.Words.{written, word, forward, backward}
+use Rattle.region.specs.Words.{word, forward, backward}
 use Rattle.region.proofs.WordsLaws.{length-written}
-use Rattle.rules.specs.Shape.{Entry, shape, chunkEnd, flagsAt}
+use Rattle.rules.specs.Shape.{Entry, shape, chunkEnd}
 use Rattle.rules.specs.Kinds.{outside}
 use Rattle.rules.specs.Check.{Passes}
 use Rattle.rules.specs.Patrol.{backOffset, leastSize, skips, broken, seekFrom, nextOf, patrolled, patrolFrom}
 use Rattle.rules.specs.Calls.{State}
 use Rattle.rules.proofs.SpotLaws.{NextIs, bounds, inside, ends, one-chunk, chunks-apart}
-use Rattle.rules.proofs.PatrolSeek.{NextPlace, next-above, seek-here, seek-down}
+use Rattle.rules.proofs.PatrolSeek.{seek-here, seek-down}
 use Rattle.rules.proofs.PatrolNext.{no-skip, believed, next-believed, next-sought, NextBy, byLink, byWalk, next-by}
 use Rattle.rules.proofs.PatrolAgree.{agree-same}
 use Rattle.rules.proofs.PatrolSound.{above-it, below-it, chunk-next, chunk-right}
 use Rattle.promises.specs.Ways.{ours}
 use Rattle.promises.specs.Room.{OnChain}
-use Rattle.promises.specs.Mended.{LinkOrSize, Damaged, NextFound, ForwardWhole, NoSign, OneBroken, Undone, Mended}
-use Rattle.promises.proofs.PatrolLaws.{CanRun, ranTo}
-use Rattle.promises.proofs.FullPatrolLaws.{OneRun, full-run, run-full}
-use Rattle.promises.proofs.DamagedLaws.{PutsBack, put-back}
-use Rattle.promises.proofs.RetracedLaws.{Back, retraced}
+use Rattle.promises.specs.Mended.{Damaged, NextFound, ForwardWhole, NoSign, OneBroken, Undone, Mended}
+use Rattle.promises.proofs.FullPatrolLaws.{full-run, run-full}
+use Rattle.promises.proofs.DamagedLaws.{put-back}
+use Rattle.promises.proofs.RetracedLaws.{retraced}
 
 module _ (ws : List ℕ) (h : Heap) (p : Passes ws h) (start : h .patrol .0 ≡ 0) (vs : List ℕ) where
   abbrev end : ℕ

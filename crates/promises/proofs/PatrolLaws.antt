@@ -13,8 +13,8 @@ use Rattle.region.proofs.WordsLaws.{length-written}
 use Rattle.rules.specs.Patrol.{Patrolled, patrolled, patrolFrom, patrolRun}
 use Rattle.rules.specs.Statements.{Left}
 use Rattle.rules.specs.Calls.{Patrol, State, step, recordAfter}
-use Rattle.rules.proofs.PatrolParts.{NextTime, run-place}
-use Rattle.rules.proofs.PatrolReady.{Ready, EndIs, end-is, Ran, patrol-runs, patrol-told}
+use Rattle.rules.proofs.PatrolParts.{run-place}
+use Rattle.rules.proofs.PatrolReady.{Ready, end-is, Ran, patrol-runs, patrol-told}
 use Rattle.promises.specs.Ways.{ours}
 use Rattle.promises.specs.Kept.{after}
 

@@ -1,27 +1,27 @@
 -- The refusals of the patrol, in their order, each with its reason (`patrol-judged`): 10 for a run of no chunk, 4 where it can't be made,
 -- 12 where a run on the words as they came meets a chunk whose next one is not found (`lost-iff`). Assumes nothing.
 use mathlib.Core.Path.{_≡_, refl, sym, ap, _∙_}
-use mathlib.Core.Logic.{_↔_, _⊎_, inl, inr, _≢_}
+use mathlib.Core.Logic.{inl, inr}
 use mathlib.Core.Bool.{Bool, true, false, not, _&&_, false≢true}
 use mathlib.Core.List.{List, [], _∷_}
 use mathlib.Core.Option.{Option, some, none, Option·some-ne-none}
-use Prim.Native.Nat.{ℕ, zero, suc, _+_, _-_, _%_, _≤_, _<_}
+use Prim.Native.Nat.{ℕ, zero, suc, _+_, _-_, _%_, _<_}
 use native.Mathlib.Decide.{ℕ-discrete, decLt}
 use native.Mathlib.Omega.{arith}
 use lib.Dec.{eqb}
 use lib.ListN.{length}
 use Rattle.lists.specs.Lists.{Mem}
-use Rattle.lists.proofs.ListsLaws.{Decides, number-is, meaning, denied, itself}
+use Rattle.lists.proofs.ListsLaws.{Decides, number-is, meaning, denied}
 use Rattle.record.specs.declared.answers.Refusal.{Refusal}
 use Rattle.record.specs.declared.answers.Refusal.the-variants.{HeapFails, RunSize, BeyondMending}
 use Rattle.record.specs.declared.heap.Heap.{Heap}
 use Rattle.region.specs.Words.{Store}
 use Rattle.rules.specs.Shape.{heapBytes}
 use Rattle.rules.specs.Check.{fits}
-use Rattle.rules.specs.Patrol.{nextOf, mends, Patrolled, goesOn, placed, patrolRun, isLost, patrolRefusals, ran, patrol}
+use Rattle.rules.specs.Patrol.{mends, Patrolled, goesOn, placed, patrolRun, isLost, patrolRefusals, ran, patrol}
 use Rattle.rules.specs.Calls.{Patrol, step}
 use Rattle.rules.proofs.PatrolRun.{plan, plan-ends, plan-lost, plan-on, Handling, ends, lost, on, handling, plan-is}
-use Rattle.rules.proofs.PatrolReady.{Ready, ready-iff, EndIs, end-is}
+use Rattle.rules.proofs.PatrolReady.{Ready, ready-iff, end-is}
 use Rattle.promises.specs.Kept.{Accepted}
 use Rattle.promises.specs.Refusing.{NoPatrol, Lost, lostHere, lostLater, Because, fails, patrolFails, patrolNone, patrolLost}
 use Rattle.promises.proofs.JudgedLaws.{accepts, first, second, third, Judging}

@@ -1,17 +1,17 @@
 -- Where one run from the start puts the words of a heap that passed back, it found the true next chunk of each chunk, on the words as they
 -- came (`retraced`): what it took for a link stays written. Assumes nothing.
-use mathlib.Core.Path.{_≡_, refl, sym, ap, subst, _∙_}
+use mathlib.Core.Path.{_≡_, sym, ap, subst, _∙_}
 use mathlib.Core.Logic.{_⊎_, inl, inr, _≢_}
-use mathlib.Core.Bool.{true, false, true≢false, false≢true}
+use mathlib.Core.Bool.{true, false≢true}
 use mathlib.Core.List.{List, _++_}
-use mathlib.Core.Option.{Option, some, none, Option·some-injective, Option·none-ne-some}
+use mathlib.Core.Option.{some, Option·some-injective, Option·none-ne-some}
 use Prim.Native.Nat.{ℕ, zero, suc, _+_, _-_, _/_, _%_, _≤_, _<_}
 use native.Mathlib.Decide.{ℕ-discrete}
 use native.Mathlib.Omega.{arith}
 use lib.ListN.{length}
 use Rattle.lists.specs.Lists.{headOr}
 use Rattle.record.specs.declared.heap.Heap.{Heap}
-use Rattle.region.specs.Words.{Store, written, word, forward, backward}
+use Rattle.region.specs.Words.{Store, written, word, forward}
 use Rattle.region.proofs.WordsLaws.{written-append, fall-so, off}
 use Rattle.rules.specs.Shape.{Entry, shape, chunkEnd}
 use Rattle.rules.specs.Kinds.{outside}
@@ -21,8 +21,8 @@ use Rattle.rules.proofs.SpotLaws.{bounds, inside, one-chunk, chunks-apart, ends
 use Rattle.rules.proofs.PatrolSeek.{NextPlace, next-above}
 use Rattle.rules.proofs.PatrolNext.{next-place}
 use Rattle.rules.proofs.PatrolMends.{handled, handled-length, handled-link}
-use Rattle.rules.proofs.PatrolAgree.{Agree, agree-same, next-agrees, agree-on}
-use Rattle.rules.proofs.PatrolRun.{run-ends, run-lost, run-on, Handling, ends, lost, on, handling}
+use Rattle.rules.proofs.PatrolAgree.{Agree, next-agrees, agree-on}
+use Rattle.rules.proofs.PatrolRun.{run-lost, run-on, Handling, ends, lost, on, handling}
 use Rattle.rules.proofs.PatrolParts.{went-on, From, run-fall}
 use Rattle.rules.proofs.PatrolSound.{above-it, chunk-right}
 use Rattle.promises.specs.Room.{OnChain}

@@ -1,31 +1,29 @@
 -- On a heap that passes a run of the patrol writes nothing and goes on by exactly the chunks that it was asked for (`rounds`). Assumes nothing.
-use mathlib.Core.Path.{_≡_, refl, sym, ap, subst, _∙_}
-use mathlib.Core.Bool.{true, false, cond}
+use mathlib.Core.Path.{_≡_, refl, sym, ap, _∙_}
+use mathlib.Core.Bool.{true, false}
 use mathlib.Core.List.{List, [], _∷_, _++_}
 use mathlib.Core.Option.{Option, some}
-use Prim.Native.Nat.{ℕ, zero, suc, _+_, _*_, _-_, _/_, _≤_, _<_}
+use Prim.Native.Nat.{ℕ, zero, suc, _+_, _*_, _-_, _≤_, _<_}
 use native.Mathlib.Decide.{decLt}
 use native.Mathlib.Nat.{add-zero, le-div-iff-mul-le, div-lt-iff-lt-mul}
 use native.Mathlib.Omega.{arith}
-use lib.ListN.{length, getD, take, drop, List·getD-map}
+use lib.ListN.{getD, take, drop, List·getD-map}
 use lib.Seq.{split-at, drop-cons, drop-length}
 use Rattle.lists.specs.Lists.{Mem, headOr}
 use Rattle.lists.proofs.SplitLaws.{in-split}
 use Rattle.record.specs.declared.answers.Answer.the-variants.{Told}
-use Rattle.record.specs.declared.heap.Heap.{Heap}
 use Rattle.record.specs.Heap.{withPatrol}
-use Rattle.rules.specs.Shape.{Entry, shape, chunkEnd}
+use Rattle.rules.specs.Shape.{Entry, shape}
 use Rattle.rules.specs.Kinds.{outside}
 use Rattle.rules.specs.Patrol.{Patrolled, patrolled, patrolFrom}
 use Rattle.rules.specs.Statements.{Left}
 use Rattle.rules.specs.Calls.{Patrol, State}
-use Rattle.rules.proofs.SpotLaws.{Inside, NextIs, inside, tiled-at, next-is, ends}
-use Rattle.rules.proofs.PatrolReady.{Ready}
+use Rattle.rules.proofs.SpotLaws.{NextIs, inside, tiled-at, next-is, ends}
 use Rattle.rules.proofs.PatrolSound.{chunk-next, run-steps, run-last}
 use Rattle.promises.specs.Ways.{Way, ours}
 use Rattle.promises.specs.Kept.{Passing, after}
 use Rattle.promises.specs.Rounds.{chunksIn, placeOf, movedTo, RoundsAt, afterRuns, runAnswer, runsFor, Rounds}
-use Rattle.promises.proofs.PatrolLaws.{CanRun, runOf, ranTo, left-is, told-is, after-is}
+use Rattle.promises.proofs.PatrolLaws.{CanRun, left-is, after-is}
 
 -- runs, and one more
 one-more : (way : Way) (f n : ℕ) (s : State) → afterRuns way f n (after way (Patrol f) s) ≡ after way (Patrol f) (afterRuns way f n s)

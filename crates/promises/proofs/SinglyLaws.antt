@@ -1,15 +1,12 @@
 -- A run of f chunks is f runs of one, where all of those are accepted (`singly`). Assumes nothing.
-use mathlib.Core.Path.{_≡_, refl, sym, ap, subst, _∙_}
-use mathlib.Core.Bool.{Bool, true, false, cond}
-use mathlib.Core.List.{List, _++_}
+use mathlib.Core.Path.{_≡_, sym, ap, subst, _∙_}
+use mathlib.Core.Bool.{true, false}
+use mathlib.Core.List.{_++_}
 use mathlib.Core.Option.{some}
-use Prim.Native.Nat.{ℕ, suc, _+_, _-_, _<_}
+use Prim.Native.Nat.{ℕ, suc, _+_, _-_}
 use native.Mathlib.Omega.{arith}
-use Rattle.record.specs.declared.answers.Answer.the-variants.{Told}
-use Rattle.record.specs.Heap.{withPatrol}
-use Rattle.region.specs.Words.{Store, written}
 use Rattle.region.proofs.WordsLaws.{written-append}
-use Rattle.rules.specs.Patrol.{Patrolled, patrolled, goesOn, patrolRun}
+use Rattle.rules.specs.Patrol.{patrolled, goesOn, patrolRun}
 use Rattle.rules.specs.Statements.{Left}
 use Rattle.rules.specs.Calls.{Patrol, State}
 use Rattle.rules.proofs.PatrolParts.{run-then, run-more}
@@ -17,7 +14,7 @@ use Rattle.rules.proofs.PatrolReady.{Ran}
 use Rattle.promises.specs.Ways.{ours}
 use Rattle.promises.specs.Kept.{after}
 use Rattle.promises.specs.Singly.{OneByOne, atTheEnd, lastOne, furtherOne, leaves, Singly}
-use Rattle.promises.proofs.PatrolLaws.{CanRun, runOf, ranTo, left-is, after-is, still-runs, was-run, Ended, NotEnded, was-ended, was-not-ended}
+use Rattle.promises.proofs.PatrolLaws.{runOf, ranTo, left-is, after-is, was-run, Ended, NotEnded, was-ended, was-not-ended}
 
 -- a run of one chunk that handled the end chunk is a longer run too
 one-over : (f : ℕ) (s : State) → Ended s 1 → ours (Patrol (suc f)) (s .words) (s .heap) ≡ leaves 1 (after ours (Patrol 1) s)

@@ -2,27 +2,25 @@
 -- backward link and each free size right; the next full patrol writes nothing (`straightened`). Assumes nothing.
 use mathlib.Core.Path.{_≡_, refl, sym, ap, subst, _∙_}
 use mathlib.Core.Logic.{_≢_}
-use mathlib.Core.Bool.{Bool, true, false, false≢true}
-use mathlib.Core.List.{List, [], _∷_, _++_}
+use mathlib.Core.Bool.{true, false≢true}
+use mathlib.Core.List.{List, [], _++_}
 use mathlib.Core.Option.{some}
 use Prim.Native.Nat.{ℕ, suc, _+_, _-_, _/_, _%_, _≤_, _<_}
 use native.Mathlib.Omega.{arith}
 use lib.ListN.{length}
 use Rattle.region.specs.Words.{Store, written, word, forward, backward, size}
-use Rattle.region.proofs.WordsLaws.{length-written, written-append, Fall, fall-both, fall-so, Off, off}
-use Rattle.rules.specs.Shape.{entry, flagsAt}
-use Rattle.rules.specs.Kinds.{inUse}
-use Rattle.rules.specs.Patrol.{backOffset, leastSize, nextOf, mends, Patrolled, patrolled, patrolFrom}
+use Rattle.region.proofs.WordsLaws.{written-append, Fall, fall-so, off}
+use Rattle.rules.specs.Shape.{flagsAt}
+use Rattle.rules.specs.Patrol.{backOffset, nextOf, mends, Patrolled, patrolled, patrolFrom}
 use Rattle.rules.specs.Calls.{State}
 use Rattle.rules.proofs.PatrolSeek.{NextPlace, next-above, next-far}
-use Rattle.rules.proofs.PatrolMends.{Unused, Right, handled, handled-length, handled-kept, handled-link, handled-back, handled-start, handled-size}
+use Rattle.rules.proofs.PatrolMends.{Right, handled, handled-length, handled-kept, handled-link, handled-back, handled-start, handled-size}
 use Rattle.rules.proofs.PatrolRun.{run-ends, run-by}
 use Rattle.rules.proofs.PatrolParts.{From, falls-on, run-right}
-use Rattle.rules.proofs.PatrolReady.{EndIs, end-is}
+use Rattle.rules.proofs.PatrolReady.{end-is}
 use Rattle.promises.specs.Ways.{ours}
-use Rattle.promises.specs.FullPatrol.{FullPatrol}
 use Rattle.promises.specs.Straightened.{Neighbours, Straight, there, up, Straightened}
-use Rattle.promises.proofs.PatrolLaws.{CanRun, runOf, ranTo, still-runs}
+use Rattle.promises.proofs.PatrolLaws.{CanRun, ranTo, still-runs}
 use Rattle.promises.proofs.FullPatrolLaws.{OneRun, full-run, run-full}
 
 -- the chunk at c was handled, with the next one at v; after it stores were made from v on

@@ -1,23 +1,23 @@
 -- Handling the chunk at c looks at its forward link, its flags and words above its header alone; at the start also at the backward link.
 -- Regions that agree there are handled alike (`next-agrees`, `mends-agree`), and what is written leaves them agreeing from the next chunk on
 -- (`agree-on`). Assumes nothing.
-use mathlib.Core.Path.{_≡_, refl, sym, ap, ap₂, _∙_}
+use mathlib.Core.Path.{_≡_, refl, sym, ap, _∙_}
 use mathlib.Core.Bool.{Bool, true, false, cond, not, _&&_, _||_}
-use mathlib.Core.List.{List, [], _++_}
-use mathlib.Core.Option.{Option, some, none}
+use mathlib.Core.List.{List, []}
+use mathlib.Core.Option.{some}
 use Prim.Native.Nat.{ℕ, zero, suc, _+_, _-_, _/_, _%_, _≤_, _<_}
-use native.Mathlib.Decide.{ℕ-discrete, decLt}
+use native.Mathlib.Decide.{decLt}
 use native.Mathlib.Omega.{arith}
 use lib.Dec.{eqb, ltb}
 use lib.ListN.{length, getD, List·getD-eq-default}
-use borrow.Author.Tests.{eq-eqb, ne-eqb, lt-ltb, le-ltb, ltb-true, ltb-false, eqb-true}
-use Rattle.region.specs.Words.{Store, written, word, forward, backward, size}
+use borrow.Author.Tests.{ltb-true, ltb-false, eqb-true}
+use Rattle.region.specs.Words.{word, forward, backward, size}
 use Rattle.rules.specs.Shape.{entry, flagsAt}
 use Rattle.rules.specs.Kinds.{inUse}
 use Rattle.rules.specs.Patrol.{backOffset, leastSize, skips, broken, seekFrom, nextOf, mend, mends}
 use Rattle.rules.proofs.PatrolSeek.{least-some, back-eights, seek-near, seek-low, seek-here, seek-down, Step, near, low, here, down, step, NextPlace, next-above, next-far}
 use Rattle.rules.proofs.PatrolNext.{next-believed, next-sought}
-use Rattle.rules.proofs.PatrolMends.{Unused, handled, own, mends-are, handled-length, handled-kept, handled-at, handled-back}
+use Rattle.rules.proofs.PatrolMends.{handled, own, mends-are, handled-length, handled-kept, handled-at, handled-back}
 
 -- the regions ws and vs agree in all that handling the chunk at c looks at
 pub record Agree (end c : ℕ) (ws vs : List ℕ) : Type 0 where

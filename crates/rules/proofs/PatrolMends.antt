@@ -4,15 +4,14 @@ use mathlib.Core.Path.{_≡_, refl, sym, ap, _∙_}
 use mathlib.Core.Logic.{_≢_}
 use mathlib.Core.Bool.{Bool, true, false, cond, false≢true}
 use mathlib.Core.List.{List, [], _∷_, _++_}
-use Prim.Native.Nat.{ℕ, _+_, _-_, _/_, _%_, _≤_, _<_}
-use native.Mathlib.Decide.{decLt}
+use Prim.Native.Nat.{ℕ, _+_, _-_, _/_, _<_}
 use native.Mathlib.Omega.{arith}
 use lib.Dec.{eqb}
 use lib.ListN.{length, getD}
-use borrow.Author.Tests.{eq-eqb, ne-eqb, eqb-true, eqb-false}
-use Rattle.region.specs.Words.{Store, put, written, word, store, forward, backward, size}
-use Rattle.region.proofs.WordsLaws.{length-store, word-same, word-other, length-written, written-append, Fall, fall-both, fall-so, Off, off}
-use Rattle.rules.specs.Shape.{Entry, entry, flagsAt}
+use borrow.Author.Tests.{eq-eqb, eqb-true, eqb-false}
+use Rattle.region.specs.Words.{Store, put, written, word, forward, backward, size}
+use Rattle.region.proofs.WordsLaws.{word-same, length-written, written-append, Fall, fall-both, Off, off}
+use Rattle.rules.specs.Shape.{entry, flagsAt}
 use Rattle.rules.specs.Kinds.{inUse}
 use Rattle.rules.specs.Patrol.{mend, mends}
 use Rattle.rules.proofs.PatrolSeek.{NextPlace, next-above, next-far}

@@ -4,17 +4,16 @@
 use mathlib.Core.Path.{_≡_, refl, sym, ap, ap₂, _∙_}
 use mathlib.Core.Logic.{_≢_}
 use mathlib.Core.Bool.{Bool, true, false, false≢true}
-use mathlib.Core.List.{List, [], _∷_, _++_, append-assoc}
+use mathlib.Core.List.{List, [], _++_, append-assoc}
 use mathlib.Core.Option.{Option, some, none, Option·some-injective, Option·none-ne-some}
 use Prim.Native.Nat.{ℕ, zero, suc, _+_, _-_, _/_, _%_, _≤_, _<_}
 use native.Mathlib.Nat.{zero-add, suc-add}
 use native.Mathlib.Omega.{arith}
-use Rattle.region.specs.Words.{Store, written, word, forward, backward, size}
+use Rattle.region.specs.Words.{Store, written, word, backward}
 use Rattle.region.proofs.WordsLaws.{written-append, Fall, fall-both, fall-so}
-use Rattle.rules.specs.Shape.{flagsAt}
 use Rattle.rules.specs.Patrol.{backOffset, nextOf, mends, Patrolled, patrolled, goesOn, patrolFrom}
-use Rattle.rules.proofs.PatrolSeek.{NextPlace, next-above, next-far}
-use Rattle.rules.proofs.PatrolNext.{no-skip, believed, next-believed, next-place}
+use Rattle.rules.proofs.PatrolSeek.{NextPlace, next-above}
+use Rattle.rules.proofs.PatrolNext.{no-skip, believed, next-believed}
 use Rattle.rules.proofs.PatrolMends.{handled, Right, mends-none, mends-fall}
 use Rattle.rules.proofs.PatrolRun.{run-ends, run-lost, run-on, Handling, ends, lost, on, handling, run-by}
 

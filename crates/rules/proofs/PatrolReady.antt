@@ -1,9 +1,9 @@
 -- When a run of the patrol can be made at all (`Ready`, decided by the tests of refusal 4: `ready-iff`), and the call: it is accepted
 -- exactly where it is ready, has a chunk to handle and finds each next chunk (`patrol-runs`, `patrol-told`), and writes no odd last word
 -- (`patrol-below`). Assumes nothing.
-use mathlib.Core.Path.{_≡_, refl, sym, ap, _∙_}
-use mathlib.Core.Bool.{Bool, true, false, not, cond, _&&_, true≢false}
-use mathlib.Core.List.{List, [], _∷_}
+use mathlib.Core.Path.{_≡_, refl}
+use mathlib.Core.Bool.{false, not, cond, _&&_, true≢false}
+use mathlib.Core.List.{List}
 use mathlib.Core.Option.{Option, some, none}
 use Prim.Native.Nat.{ℕ, _+_, _-_, _*_, _/_, _%_, _≤_, _<_}
 use native.Mathlib.Omega.{arith}
@@ -11,14 +11,12 @@ use lib.Dec.{eqb}
 use lib.ListN.{length}
 use borrow.Author.Tests.{ne-eqb, eqb-false, not-false}
 use Rattle.lists.proofs.ListsLaws.{Decides, number-is, at-most, meaning, both}
-use Rattle.record.specs.declared.answers.Answer.{Answer}
 use Rattle.record.specs.declared.answers.Answer.the-variants.{Told, Refused}
 use Rattle.record.specs.declared.answers.Refusal.{Refusal}
 use Rattle.record.specs.declared.heap.Heap.{Heap}
 use Rattle.region.proofs.PrefixLaws.{Below}
 use Rattle.region.proofs.WordsLaws.{fall-so}
 use Rattle.rules.specs.Check.{Fits, fits}
-use Rattle.rules.specs.Outcome.{Outcome, judged}
 use Rattle.rules.specs.Patrol.{Patrolled, placed, patrolRun, isLost, patrolRefusals, ran, patrol}
 use Rattle.rules.proofs.CheckLaws.{fits-iff}
 use Rattle.rules.proofs.OutcomeLaws.{judged-so}

@@ -4,7 +4,7 @@
 -- chunk's make no difference (`run-alike`). Assumes nothing.
 use mathlib.Core.Path.{_≡_, refl, sym, ap, ap₂, _∙_}
 use mathlib.Core.Bool.{true, false}
-use mathlib.Core.List.{List, [], _∷_, _++_}
+use mathlib.Core.List.{List, [], _++_}
 use mathlib.Core.Option.{Option, some, none, Option·some-injective, Option·none-ne-some}
 use Prim.Native.Nat.{ℕ, zero, suc, _+_, _/_, _%_, _≤_, _<_}
 use native.Mathlib.Decide.{ℕ-discrete}
@@ -12,7 +12,7 @@ use native.Mathlib.Omega.{arith}
 use lib.Dec.{eqb}
 use lib.ListN.{getD}
 use borrow.Author.Tests.{eq-eqb, ne-eqb}
-use Rattle.region.specs.Words.{Store, written, word, forward, backward}
+use Rattle.region.specs.Words.{word, forward, backward}
 use Rattle.rules.specs.Patrol.{nextOf, mends, Patrolled, patrolled, goesOn, patrolFrom}
 use Rattle.rules.proofs.PatrolSeek.{NextPlace}
 use Rattle.rules.proofs.PatrolNext.{next-place}

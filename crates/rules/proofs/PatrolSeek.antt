@@ -2,16 +2,15 @@
 -- (`seek-steps`); and what it finds: a multiple of 8 above c, at least the least distance away, whose backward link names c (`seek-finds`).
 -- Assumes nothing.
 use mathlib.Core.Path.{_≡_, refl, sym, _∙_}
-use mathlib.Core.Bool.{Bool, true, false, cond, _||_}
+use mathlib.Core.Bool.{Bool, true, false, _||_}
 use mathlib.Core.List.{List}
-use mathlib.Core.Option.{Option, some, none, Option·some-injective, Option·none-ne-some}
+use mathlib.Core.Option.{some, none, Option·some-injective, Option·none-ne-some}
 use Prim.Native.Nat.{ℕ, zero, suc, _+_, _-_, _/_, _%_, _≤_, _<_}
 use native.Mathlib.Decide.{ℕ-discrete, decLt}
 use native.Mathlib.Omega.{arith}
-use lib.Dec.{eqb, ltb}
+use lib.Dec.{ltb}
 use borrow.Author.Tests.{eq-eqb, ne-eqb, lt-ltb, le-ltb}
 use Rattle.region.specs.Words.{word, backward}
-use Rattle.rules.specs.Shape.{flagsAt}
 use Rattle.rules.specs.Patrol.{backOffset, leastSize, seekFrom}
 
 -- the least distance: 8 at the start, 24 above it

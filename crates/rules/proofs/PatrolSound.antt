@@ -7,25 +7,24 @@ use mathlib.Core.Option.{Option, some}
 use Prim.Native.Nat.{ℕ, zero, suc, _+_, _-_, _%_, _≤_, _<_}
 use native.Mathlib.Decide.{ℕ-discrete, decLt}
 use native.Mathlib.Omega.{arith}
-use lib.ListN.{length, getD, take, drop}
-use lib.Dec.{eqb}
+use lib.ListN.{drop}
 use borrow.Author.Tests.{eqb-false}
 use Rattle.lists.specs.Lists.{Mem, headOr, lastOr, butLast}
 use Rattle.lists.proofs.SplitLaws.{ends-with, in-split}
 use Rattle.record.specs.declared.answers.Refusal.{Refusal}
 use Rattle.record.specs.declared.heap.Heap.{Heap}
-use Rattle.region.specs.Words.{word, forward, backward, size}
-use Rattle.rules.specs.Shape.{Entry, entry, flagsAt, shape, chunkEnd}
+use Rattle.region.specs.Words.{word, backward, size}
+use Rattle.rules.specs.Shape.{Entry, entry, shape, chunkEnd}
 use Rattle.rules.specs.Kinds.{inUse, isAt, outside}
 use Rattle.rules.specs.Check.{Backed, Passes}
 use Rattle.rules.specs.Draft.{spot}
 use Rattle.rules.specs.Outcome.{Outcome, refused}
 use Rattle.rules.specs.Patrol.{leastSize, Patrolled, patrolled, patrolFrom, patrolRun, patrolRefusals, ran, patrol}
-use Rattle.rules.proofs.SpotLaws.{Inside, Ends, NextIs, one-chunk, bounds, inside, tiled-at, next-is, ends, between, spot-at}
+use Rattle.rules.proofs.SpotLaws.{NextIs, one-chunk, bounds, inside, tiled-at, next-is, ends, between, spot-at}
 use Rattle.rules.proofs.TiledLaws.{tiled-empty}
 use Rattle.rules.proofs.OutcomeLaws.{judged-so}
 use Rattle.rules.proofs.PatrolSeek.{NextPlace, least-above}
-use Rattle.rules.proofs.PatrolMends.{Right, Unused}
+use Rattle.rules.proofs.PatrolMends.{Right}
 use Rattle.rules.proofs.PatrolRun.{run-ends}
 use Rattle.rules.proofs.PatrolParts.{run-right}
 
