@@ -1,5 +1,5 @@
 -- A heap that passed was damaged in links and free sizes. Where the true next chunk of each chunk is still found, one run from the start
--- puts every word back (`put-back`): in the middle of it the words are whole below the place and damaged from there on (`Halfway`).
+-- puts every word back (`put-back`): in the middle of it the words are whole below the chunk where it stands, and damaged from there on (`PartMended`).
 -- Assumes nothing.
 use mathlib.Core.Path.{_≡_, refl, sym, ap, subst, _∙_}
 use mathlib.Core.Logic.{_⊎_, inl, inr, _≢_}
@@ -29,17 +29,17 @@ use Rattle.rules.proofs.PatrolSound.{above-it, chunk-next, chunk-right, chunk-l
 use Rattle.promises.specs.Room.{OnChain}
 use Rattle.promises.specs.Mended.{LinkOrSize, Damaged, NextFound}
 
--- chunks at one place are the same chunk, so two that both have word i are
+-- which words may be damaged: each belongs to its chunk, and no word to two
 module _ (ws : List ℕ) (h : Heap) (p : Passes ws h) where
   -- word i belongs to the chunk e
-  pub record Within (e : Entry) (i : ℕ) : Type 0 where
+  pub record HasWord (e : Entry) (i : ℕ) : Type 0 where
     pub from : e .place / 4 ≤ i
     pub to : i < chunkEnd e / 4
 
-  links-within : (e : Entry) → OnChain ws h e → (i : ℕ) → LinkOrSize h e i → Within e i
-  links-within e m i k = go k
+  links-own : (e : Entry) → OnChain ws h e → (i : ℕ) → LinkOrSize h e i → HasWord e i
+  links-own e m i k = go k
     where
-      go : LinkOrSize h e i → Within e i
+      go : LinkOrSize h e i → HasWord e i
       go (inl (b, q)) = let n = inside ws h p e m in record { from = omega arith; to = omega arith }
       go (inr (inl q)) = let n = inside ws h p e m in record { from = omega arith; to = omega arith }
       go (inr (inr (f, q))) =
@@ -47,7 +47,7 @@ module _ (ws : List ℕ) (h : Heap) (p : Passes ws h) where
           let b = kind-free ws h p e m f .between in
           record { from = omega arith; to = omega arith }
 
-  same-chunk : (d e : Entry) → OnChain ws h d → OnChain ws h e → (i : ℕ) → Within d i → Within e i → d ≡ e
+  same-chunk : (d e : Entry) → OnChain ws h d → OnChain ws h e → (i : ℕ) → HasWord d i → HasWord e i → d ≡ e
   same-chunk d e m k i a b = go (ℕ-discrete (d .place) (e .place))
     where
       go : Dec (d .place ≡ e .place) → d ≡ e
@@ -60,20 +60,20 @@ module _ (ws : List ℕ) (h : Heap) (p : Passes ws h) where
 
   module _ (vs : List ℕ) (damaged : Damaged ws h vs) where
     -- a word of a chunk that is none of those that may be damaged is whole; so is every word above the heap bytes
-    whole-in : (e : Entry) → OnChain ws h e → (i : ℕ) → Within e i → (LinkOrSize h e i → ⊥) → getD vs i 0 ≡ getD ws i 0
+    whole-in : (e : Entry) → OnChain ws h e → (i : ℕ) → HasWord e i → (LinkOrSize h e i → ⊥) → getD vs i 0 ≡ getD ws i 0
     whole-in e m i w n =
         damaged .elsewhere i
-        (λ d k l. n (subst (λ (x : Entry). LinkOrSize h x i) (same-chunk d e k m i (links-within d k i l) w) l))
+        (λ d k l. n (subst (λ (x : Entry). LinkOrSize h x i) (same-chunk d e k m i (links-own d k i l) w) l))
 
     whole-beyond : (i : ℕ) → h .bytes / 4 ≤ i → getD vs i 0 ≡ getD ws i 0
     whole-beyond i b =
-        damaged .elsewhere i (λ d k l. let w = links-within d k i l in let n = inside ws h p d k in omega arith)
+        damaged .elsewhere i (λ d k l. let w = links-own d k i l in let n = inside ws h p d k in omega arith)
 
     abbrev end : ℕ
     end = h .bytes - 8
 
     -- in the middle of a run on the damaged words, which stands at the chunk e: below it all is whole, from there on damaged as it was
-    pub record Halfway (us : List ℕ) (e : Entry) : Type 0 where
+    pub record PartMended (us : List ℕ) (e : Entry) : Type 0 where
       pub long : length us ≡ length ws
       pub agree : Agree end (e .place) vs us
       pub below : (i : ℕ) → i < e .place / 4 → getD us i 0 ≡ getD ws i 0
@@ -81,7 +81,7 @@ module _ (ws : List ℕ) (h : Heap) (p : Passes ws h) where
       pub beyond : (i : ℕ) → h .bytes / 4 ≤ i → getD us i 0 ≡ getD ws i 0
 
     -- it stands at e, below the end
-    module _ (us : List ℕ) (e : Entry) (m : OnChain ws h e) (l : e .place + 8 < h .bytes) (half : Halfway us e) where
+    module _ (us : List ℕ) (e : Entry) (m : OnChain ws h e) (l : e .place + 8 < h .bytes) (half : PartMended us e) where
       abbrev c : ℕ
       c = e .place
 
@@ -178,8 +178,8 @@ module _ (ws : List ℕ) (h : Heap) (p : Passes ws h) where
           omega arith
 
       -- and it stands at the next chunk
-      half-on : (d : Entry) → OnChain ws h d → NextIs ws e d → Halfway (handled us c v) d
-      half-on d k n =
+      mended-on : (d : Entry) → OnChain ws h d → NextIs ws e d → PartMended (handled us c v) d
+      mended-on d k n =
           let above = next-above place in
           let under = place .inside in
           let there = inside ws h p d k in
@@ -196,9 +196,11 @@ module _ (ws : List ℕ) (h : Heap) (p : Passes ws h) where
           }
 
     -- at the end chunk all is whole
-    all-whole : (us : List ℕ) (e : Entry) → OnChain ws h e → (e .place + 8 < h .bytes → ⊥) → Halfway us e → us ≡ ws
+    all-whole : (us : List ℕ) (e : Entry) → OnChain ws h e → (e .place + 8 < h .bytes → ⊥) → PartMended us e → us ≡ ws
     unfolding word
-    all-whole us e m n half = ext-getD 0 us ws (half .long) (λ i l. go i (decLt i (e .place / 4)) (ℕ-discrete i (e .place / 4 + forward)) (ℕ-discrete i (e .place / 4 + backward)))
+    all-whole us e m n half =
+        ext-getD 0 us ws (half .long)
+        (λ i l. go i (decLt i (e .place / 4)) (ℕ-discrete i (e .place / 4 + forward)) (ℕ-discrete i (e .place / 4 + backward)))
       where
         at-end : e .place ≡ end
         at-end = chunk-last ws h p e m n
@@ -225,7 +227,7 @@ module _ (ws : List ℕ) (h : Heap) (p : Passes ws h) where
 
     module _ (next : NextFound ws h vs) where
       -- one chunk, and the rest
-      one-back : (us : List ℕ) (e : Entry) → OnChain ws h e → e .place + 8 < h .bytes → Halfway us e
+      one-back : (us : List ℕ) (e : Entry) → OnChain ws h e → e .place + 8 < h .bytes → PartMended us e
           → PutsBack (handled us (e .place) (chunkEnd e)) (chunkEnd e) → PutsBack us (e .place)
       one-back us e m l half rest =
           let c = e .place in
@@ -241,18 +243,18 @@ module _ (ws : List ℕ) (h : Heap) (p : Passes ws h) where
           }
 
       -- the first argument counts down
-      puts-back : (k : ℕ) (us : List ℕ) (e : Entry) → OnChain ws h e → h .bytes ≤ e .place + k → Halfway us e → PutsBack us (e .place)
+      puts-back : (k : ℕ) (us : List ℕ) (e : Entry) → OnChain ws h e → h .bytes ≤ e .place + k → PartMended us e → PutsBack us (e .place)
       puts-back zero us e m b half = let s = inside ws h p e m in absurd (omega arith)
       puts-back (suc k) us e m b half =
           go (decLt (e .place + 8) (h .bytes)) (λ u d n o. puts-back k u d n o)
         where
           go : Dec (e .place + 8 < h .bytes)
-              → ((u : List ℕ) (d : Entry) → OnChain ws h d → h .bytes ≤ d .place + k → Halfway u d → PutsBack u (d .place))
+              → ((u : List ℕ) (d : Entry) → OnChain ws h d → h .bytes ≤ d .place + k → PartMended u d → PutsBack u (d .place))
               → PutsBack us (e .place)
           go (yes l) f =
               let (d, n, up) = above-it ws h p e m l in
               let s = inside ws h p e m in
-              let rest = f (handled us (e .place) (chunkEnd e)) d n (omega arith) (half-on us e m l half d n up) in
+              let rest = f (handled us (e .place) (chunkEnd e)) d n (omega arith) (mended-on us e m l half d n up) in
               one-back us e m l half (rw (up .place) at rest)
           go (no n) f =
               record {
@@ -268,7 +270,7 @@ module _ (ws : List ℕ) (h : Heap) (p : Passes ws h) where
           let l = ends ws h p in
           let e = headOr outside (shape ws (h .bytes)) in
           let z : e .place ≡ 0 = l .startPlace in
-          let half : Halfway vs e =
+          let half : PartMended vs e =
           record {
             long = damaged .long;
             agree = agree-same end (e .place) vs;

@@ -9,13 +9,13 @@ use native.Mathlib.Omega.{arith}
 use Rattle.record.specs.Heap.{withPatrol}
 use Rattle.region.specs.Words.{Store}
 use Rattle.region.proofs.WordsLaws.{written-append}
-use Rattle.rules.specs.Patrol.{Patrolled, patrolled, goesOn, patrol}
+use Rattle.rules.specs.Patrol.{Patrolled, patrolled, goesOn}
 use Rattle.rules.specs.Calls.{Patrol, State}
 use Rattle.rules.proofs.PatrolParts.{onward, went-on, run-parts, run-then, run-more}
 use Rattle.promises.specs.Ways.{ours}
 use Rattle.promises.specs.Kept.{after}
 use Rattle.promises.specs.FullPatrol.{FullPatrol, lastRun, furtherRun}
-use Rattle.promises.proofs.PatrolLaws.{CanRun, runOf, ranTo, told-is, after-is, still-runs, Ended, NotEnded, was-ended, was-not-ended}
+use Rattle.promises.proofs.PatrolLaws.{CanRun, runOf, ranTo, told-is, after-is, still-runs, ToEnd, ShortOfEnd, was-to-end, was-short}
 
 -- one run that handles the end chunk, from the place of the record
 pub record OneRun (s t : State) : Type 0 where
@@ -26,7 +26,7 @@ pub record OneRun (s t : State) : Type 0 where
   pub leaves : t ≡ ranTo s (patrolled 0 true stores)
 
 -- the last run
-last-run : (f : ℕ) (s : State) → Ended s f → OneRun s (after ours (Patrol f) s)
+last-run : (f : ℕ) (s : State) → ToEnd s f → OneRun s (after ours (Patrol f) s)
 last-run f s q =
     record { ready = q .ready; chunks = f; stores = q .stores; run = q .run; leaves = after-is s f (q .ready) (q .asked) _ (q .run) }
 
@@ -46,14 +46,14 @@ before-others f s t c ss k q o =
           ∙ ap (λ (ws : List ℕ). record { words = ws; heap = withPatrol (s .heap) 0 }) (sym (written-append ss (o .stores) (s .words)));
     }
 
-further-run : (f : ℕ) (s t : State) → NotEnded s f → OneRun (after ours (Patrol f) s) t → OneRun s t
+further-run : (f : ℕ) (s t : State) → ShortOfEnd s f → OneRun (after ours (Patrol f) s) t → OneRun s t
 further-run f s t q rest =
     before-others f s t (q .place) (q .stores) (q .ready) (q .run)
     (subst (λ (x : State). OneRun x t) (after-is s f (q .ready) (q .asked) _ (q .run)) rest)
 
 pub full-run : {f : ℕ} {s t : State} → FullPatrol ours f s t → OneRun s t
-full-run {f} (lastRun {s = s} q) = last-run f s (was-ended s f q)
-full-run {f} (furtherRun {s = s} {t = t} q rest) = further-run f s t (was-not-ended s f q) (full-run rest)
+full-run {f} (lastRun {s = s} q) = last-run f s (was-to-end s f q)
+full-run {f} (furtherRun {s = s} {t = t} q rest) = further-run f s t (was-short s f q) (full-run rest)
 
 -- one run that handles the end chunk is a full patrol of runs of f chunks
 module _ (f : ℕ) (l : 0 < f) where

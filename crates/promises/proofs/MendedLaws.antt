@@ -17,7 +17,7 @@ use Rattle.region.proofs.WordsLaws.{length-written}
 use Rattle.rules.specs.Shape.{Entry, shape, chunkEnd}
 use Rattle.rules.specs.Kinds.{outside}
 use Rattle.rules.specs.Check.{Passes}
-use Rattle.rules.specs.Patrol.{backOffset, leastSize, skips, broken, seekFrom, nextOf, patrolled, patrolFrom}
+use Rattle.rules.specs.Patrol.{backOffset, leastSize, skips, seekFrom, nextOf, patrolled, patrolFrom}
 use Rattle.rules.specs.Calls.{State}
 use Rattle.rules.proofs.SpotLaws.{NextIs, bounds, inside, ends, one-chunk, chunks-apart}
 use Rattle.rules.proofs.PatrolSeek.{seek-here, seek-down}

@@ -1,5 +1,5 @@
 -- The patrol as a call: what an accepted run leaves (`left-is`, `told-is`, `after-is`), that another can follow it (`still-runs`), and that
--- a run that answered was accepted (`was-ended`, `was-not-ended`). Assumes nothing.
+-- a run that answered was accepted (`was-to-end`, `was-short`). Assumes nothing.
 use mathlib.Core.Path.{_≡_, refl, ap, ap₂, _∙_}
 use mathlib.Core.Bool.{Bool, true, false, cond}
 use mathlib.Core.List.{List}
@@ -61,28 +61,28 @@ module _ (s : State) (f : ℕ) where
   was-run value q = patrol-told (s .words) (s .heap) f value q
 
   -- one that answered 1 handled the end chunk, and one that answered 0 did not
-  pub record Ended : Type 0 where
+  pub record ToEnd : Type 0 where
     pub ready : CanRun s
     pub asked : 0 < f
     pub stores : List Store
     pub run : runOf f s ≡ some (patrolled 0 true stores)
 
-  pub record NotEnded : Type 0 where
+  pub record ShortOfEnd : Type 0 where
     pub ready : CanRun s
     pub asked : 0 < f
     pub place : ℕ
     pub stores : List Store
     pub run : runOf f s ≡ some (patrolled place false stores)
 
-  pub was-ended : ours (Patrol f) (s .words) (s .heap) .answer ≡ Told 1 → Ended
+  pub was-to-end : ours (Patrol f) (s .words) (s .heap) .answer ≡ Told 1 → ToEnd
   unfolding patrolRun
-  was-ended q = go (was-run 1 q)
+  was-to-end q = go (was-run 1 q)
     where
       so : (t : Bool) → _≡_ {A = ℕ} 1 (cond t 1 0) → t ≡ true
       so true q = refl
       so false q = absurd (omega arith)
 
-      go : Ran (s .words) (s .heap) f 1 → Ended
+      go : Ran (s .words) (s .heap) f 1 → ToEnd
       go r =
           let k = r .ready in
           let e = end-is (s .words) (s .heap) (k .fits) in
@@ -95,15 +95,15 @@ module _ (s : State) (f : ℕ) where
             run = r .found ∙ ap₂ (λ (c : ℕ) (u : Bool). some (patrolled c u (r .run .stores))) (p .start t) t;
           }
 
-  pub was-not-ended : ours (Patrol f) (s .words) (s .heap) .answer ≡ Told 0 → NotEnded
+  pub was-short : ours (Patrol f) (s .words) (s .heap) .answer ≡ Told 0 → ShortOfEnd
   unfolding patrolRun
-  was-not-ended q = go (was-run 0 q)
+  was-short q = go (was-run 0 q)
     where
       so : (t : Bool) → _≡_ {A = ℕ} 0 (cond t 1 0) → t ≡ false
       so true q = absurd (omega arith)
       so false q = refl
 
-      go : Ran (s .words) (s .heap) f 0 → NotEnded
+      go : Ran (s .words) (s .heap) f 0 → ShortOfEnd
       go r =
           record {
             ready = r .ready;

@@ -14,21 +14,21 @@ use Rattle.rules.proofs.PatrolReady.{Ran}
 use Rattle.promises.specs.Ways.{ours}
 use Rattle.promises.specs.Kept.{after}
 use Rattle.promises.specs.Singly.{OneByOne, atTheEnd, lastOne, furtherOne, leaves, Singly}
-use Rattle.promises.proofs.PatrolLaws.{runOf, ranTo, left-is, after-is, was-run, Ended, NotEnded, was-ended, was-not-ended}
+use Rattle.promises.proofs.PatrolLaws.{runOf, ranTo, left-is, after-is, was-run, ToEnd, ShortOfEnd, was-to-end, was-short}
 
 -- a run of one chunk that handled the end chunk is a longer run too
-one-over : (f : ℕ) (s : State) → Ended s 1 → ours (Patrol (suc f)) (s .words) (s .heap) ≡ leaves 1 (after ours (Patrol 1) s)
+one-over : (f : ℕ) (s : State) → ToEnd s 1 → ours (Patrol (suc f)) (s .words) (s .heap) ≡ leaves 1 (after ours (Patrol 1) s)
 one-over f s q =
     let more : suc f ≡ 1 + f = omega arith in
     let run : runOf (suc f) s ≡ some (patrolled 0 true (q .stores)) =
     rw more (run-more 1 f (s .words) (s .heap .bytes - 8) (s .heap .patrol .0) 0 (q .stores) (q .run)) in
     left-is s (suc f) (q .ready) (omega arith) _ run ∙ ap (leaves 1) (sym (after-is s 1 (q .ready) (q .asked) _ (q .run)))
 
-one-alone : (s : State) → NotEnded s 1 → ours (Patrol 1) (s .words) (s .heap) ≡ leaves 0 (after ours (Patrol 1) s)
+one-alone : (s : State) → ShortOfEnd s 1 → ours (Patrol 1) (s .words) (s .heap) ≡ leaves 0 (after ours (Patrol 1) s)
 one-alone s q = left-is s 1 (q .ready) (q .asked) _ (q .run) ∙ ap (leaves 0) (sym (after-is s 1 (q .ready) (q .asked) _ (q .run)))
 
 -- a run of one chunk that did not handle it, and one of f after it
-module _ (s : State) (q : NotEnded s 1) where
+module _ (s : State) (q : ShortOfEnd s 1) where
   abbrev next : State
   next = ranTo s (patrolled (q .place) false (q .stores))
 
@@ -54,6 +54,6 @@ pub singly : Singly ours
 singly f value s t o = go o
   where
     go : {f value : ℕ} {s t : State} → OneByOne ours f s value t → ours (Patrol f) (s .words) (s .heap) ≡ leaves value t
-    go (atTheEnd {f = f} {s = s} q) = one-over f s (was-ended s 1 q)
-    go (lastOne {s = s} q) = one-alone s (was-not-ended s 1 q)
-    go (furtherOne {f = f} {value = v} {s = s} {t = t} q rest) = one-then s (was-not-ended s 1 q) f v t (go rest)
+    go (atTheEnd {f = f} {s = s} q) = one-over f s (was-to-end s 1 q)
+    go (lastOne {s = s} q) = one-alone s (was-short s 1 q)
+    go (furtherOne {f = f} {value = v} {s = s} {t = t} q rest) = one-then s (was-short s 1 q) f v t (go rest)

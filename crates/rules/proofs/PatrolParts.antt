@@ -1,6 +1,7 @@
 -- A run in two parts (`run-parts`): a run of f + g chunks is one of f, and, where that did not handle the end chunk, one of g on the
 -- words that it left. A run that handled the end chunk is the same with any more chunks (`run-more`). Where the stores of a run fall
--- (`run-fall`), and a run over links that are right, which writes nothing (`run-right`). Assumes nothing.
+-- (`run-fall`), where it goes on next time (`run-place`), and a run over links that are right, which writes nothing (`run-right`).
+-- Assumes nothing.
 use mathlib.Core.Path.{_≡_, refl, sym, ap, ap₂, _∙_}
 use mathlib.Core.Logic.{_≢_}
 use mathlib.Core.Bool.{Bool, true, false, false≢true}

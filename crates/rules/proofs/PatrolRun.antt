@@ -1,7 +1,6 @@
--- A run of the patrol, chunk by chunk (`run-ends`, `run-lost`, `run-on`; induction along it: `run-by`), and its plan: the same run on words
--- that it does not write.
--- A run is its plan (`plan-is`): all that it decides, and every store, it finds on the words as they came; and words above the end
--- chunk's make no difference (`run-alike`). Assumes nothing.
+-- A run of the patrol, chunk by chunk (`run-ends`, `run-lost`, `run-on`; induction along it: `run-by`), and its plan, the same run on words
+-- that it does not write. A run is its plan (`plan-is`): all that it decides, and every store, it finds on the words as they came; and
+-- words above the end chunk's make no difference (`run-alike`). Assumes nothing.
 use mathlib.Core.Path.{_≡_, refl, sym, ap, ap₂, _∙_}
 use mathlib.Core.Bool.{true, false}
 use mathlib.Core.List.{List, [], _++_}

@@ -13,7 +13,7 @@ use Rattle.lists.specs.Lists.{Mem, headOr, lastOr, butLast}
 use Rattle.lists.proofs.SplitLaws.{ends-with, in-split}
 use Rattle.record.specs.declared.answers.Refusal.{Refusal}
 use Rattle.record.specs.declared.heap.Heap.{Heap}
-use Rattle.region.specs.Words.{word, backward, size}
+use Rattle.region.specs.Words.{word, backward}
 use Rattle.rules.specs.Shape.{Entry, entry, shape, chunkEnd}
 use Rattle.rules.specs.Kinds.{inUse, isAt, outside}
 use Rattle.rules.specs.Check.{Backed, Passes}
