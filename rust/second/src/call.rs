@@ -1,4 +1,4 @@
-// The nine calls with their arguments.
+// The ten calls with their arguments.
 
 #[derive(Clone, Debug, PartialEq, Eq)]
 pub enum Call {
@@ -11,4 +11,5 @@ pub enum Call {
     Check,
     AskChunk { question: u32, place: u32 },
     AskBin { question: u32, bin: u32 },
+    Patrol { chunks: u32 },
 }

@@ -3,8 +3,8 @@
 use super::heap::{Chunk, Heap, Kind};
 use super::layout::{
     heap_bytes, index, slot, ALIGNMENT, BACKWARD, BACKWARD_BIN, BIN, BIN_COUNT, BIN_FACTOR, DONOR, FORWARD,
-    FORWARD_BIN, HEADER_BYTES, HEADS, HEAP_BYTES, IN_USE, LEAST_CHUNK, MAX_BINS, MERGE, RECORD_WORDS, SIZE, TABLE,
-    TAILS, TOP, USED,
+    FORWARD_BIN, HEADER_BYTES, HEADS, HEAP_BYTES, IN_USE, LEAST_CHUNK, MAX_BINS, MERGE, PATROL, RECORD_WORDS, SIZE,
+    TABLE, TAILS, TOP, USED,
 };
 use super::table;
 
@@ -21,10 +21,12 @@ pub fn decode(region: &[u32], record: &[u32; RECORD_WORDS]) -> Option<Heap> {
         donor: record[DONOR],
         top: record[TOP],
         merge: record[MERGE] == 1,
+        patrol: record[PATROL],
     };
     if !donor_and_top_hold(&heap, region) || heap.used() != record[USED] {
         return None;
     }
+    heap.find(heap.patrol)?;
     heap.bins = decode_bins(&heap, region, record)?;
     Some(heap)
 }

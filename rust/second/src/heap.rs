@@ -21,7 +21,8 @@ pub enum Kind {
     End,
 }
 
-/// A heap that passes the check. `donor` is 0 if absent.
+/// A heap that passes the check. `donor` is 0 if absent; `patrol` is the place
+/// of the chunk that the patrol handles next.
 pub struct Heap {
     pub heap_bytes: u32,
     pub table: Vec<u32>,
@@ -30,6 +31,7 @@ pub struct Heap {
     pub donor: u32,
     pub top: u32,
     pub merge: bool,
+    pub patrol: u32,
 }
 
 impl Chunk {

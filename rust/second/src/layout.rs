@@ -8,7 +8,8 @@ pub const FORWARD_BIN: usize = 3;
 pub const BACKWARD_BIN: usize = 4;
 pub const BIN: usize = 5;
 
-/// Bit 0 of the backward word. The two bits above it stay 0.
+/// The three low bits of the backward word. Bit 0 says in use; the two above it stay 0.
+pub const FLAGS: u32 = 7;
 pub const IN_USE: u32 = 1;
 
 /// The bin word is the bin's number times this.
@@ -36,7 +37,8 @@ pub const MOST_WORDS: usize = 16_384;
 /// and a least top.
 pub const MOST_BYTES: u64 = 65_488;
 
-/// Words of the record: six figures, then three arrays of MAX_BINS.
+/// Words of the record: six figures, then three arrays of MAX_BINS, then the
+/// patrol's place.
 pub const MAX_BINS: usize = 32;
 pub const HEAP_BYTES: usize = 0;
 pub const BIN_COUNT: usize = 1;
@@ -47,7 +49,8 @@ pub const USED: usize = 5;
 pub const TABLE: usize = 6;
 pub const HEADS: usize = TABLE + MAX_BINS;
 pub const TAILS: usize = HEADS + MAX_BINS;
-pub const RECORD_WORDS: usize = TAILS + MAX_BINS;
+pub const PATROL: usize = TAILS + MAX_BINS;
+pub const RECORD_WORDS: usize = PATROL + 1;
 
 /// Words of an answer: the refusal number (0: accepted) and four figures.
 pub const ANSWER_WORDS: usize = 5;
@@ -62,6 +65,8 @@ pub const BLOCK_SIZE: u32 = 5;
 pub const NOT_LIVE: u32 = 6;
 pub const NONE_CAN_SERVE: u32 = 7;
 pub const NO_SUCH: u32 = 8;
+pub const RUN_SIZE: u32 = 10;
+pub const BEYOND_MENDING: u32 = 12;
 
 /// Questions about a chunk.
 pub const ASK_BIN: u32 = 1;

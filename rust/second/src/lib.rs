@@ -1,6 +1,7 @@
 // A second binned heap, written from the requirements alone, to compare the proved one with.
-// Each call decodes all words of region and record into plain lists, applies its
-// rule to the lists, and renders the words that the rule writes.
+// Each call but the patrol decodes all words of region and record into plain
+// lists, applies its rule to the lists, and renders the words that the rule
+// writes. The patrol is for heaps that can't be decoded: it goes by the words.
 // It shares no code and no constant with the proved heap or its wrapper: the
 // comparison would not see a mistake in what both share.
 
@@ -9,6 +10,7 @@ mod call;
 mod decode;
 mod heap;
 mod layout;
+mod patrol;
 mod questions;
 mod render;
 mod rules;
@@ -38,6 +40,7 @@ pub fn apply(call: &Call, region: &mut [u32], record: &mut [u32; RECORD_WORDS]) 
             on_heap(region, record, |heap, _| questions::of_chunk(heap, question, place))
         }
         Call::AskBin { question, bin } => on_heap(region, record, |heap, _| questions::of_bin(heap, question, bin)),
+        Call::Patrol { chunks } => patrol::run(region, record, chunks),
     };
     match outcome {
         Ok([first, second, third, fourth]) => [0, first, second, third, fourth],
@@ -45,7 +48,7 @@ pub fn apply(call: &Call, region: &mut [u32], record: &mut [u32; RECORD_WORDS]) 
     }
 }
 
-/// Every call but setup decodes first, since refusal 4 comes before all others,
+/// Every call but setup and the patrol decodes first, since refusal 4 comes before all others,
 /// and renders the record only if it is accepted.
 fn on_heap(
     region: &mut [u32],

@@ -4,7 +4,7 @@
 use super::heap::{Heap, Kind};
 use super::layout::{
     index, BACKWARD, BACKWARD_BIN, BIN, BIN_COUNT, BIN_FACTOR, DONOR, FORWARD, FORWARD_BIN, HEADS, HEAP_BYTES, IN_USE,
-    MERGE, RECORD_WORDS, SIZE, TABLE, TAILS, TOP, USED,
+    MERGE, PATROL, RECORD_WORDS, SIZE, TABLE, TAILS, TOP, USED,
 };
 use super::table;
 
@@ -62,6 +62,7 @@ pub fn record(heap: &Heap, record: &mut [u32; RECORD_WORDS]) {
     record[TOP] = heap.top;
     record[MERGE] = u32::from(heap.merge);
     record[USED] = heap.used();
+    record[PATROL] = heap.patrol;
     record[TABLE..TABLE + heap.table.len()].copy_from_slice(&heap.table);
     for (bin, list) in heap.bins.iter().enumerate() {
         record[HEADS + bin] = list.first().copied().unwrap_or(0);

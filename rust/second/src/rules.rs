@@ -27,6 +27,7 @@ pub fn setup(region: &mut [u32], record: &mut [u32; RECORD_WORDS], sizes: &[u32]
         donor: if donor == 0 { 0 } else { HEADER_BYTES },
         top: HEADER_BYTES + donor,
         merge,
+        patrol: 0,
     };
     for (at, chunk) in heap.chain.iter().enumerate() {
         if chunk.in_use {
@@ -163,10 +164,14 @@ fn split(heap: &mut Heap, at: usize, lowest: u32) {
     heap.chain.insert(at + 1, rest);
 }
 
-/// Joins (coalesces) the chunk with the one above, whose words stay as found.
+/// Joins (coalesces) the chunk with the one above, whose words stay as found. A
+/// patrol that was to go on at the one above goes on at the joined chunk.
 fn join_above(heap: &mut Heap, at: usize) {
     let swallowed = heap.chain.remove(at + 1);
     heap.chain[at].size += swallowed.size;
+    if heap.patrol == swallowed.place {
+        heap.patrol = heap.chain[at].place;
+    }
 }
 
 /// The rule of free, for the chunk of a live block or a tail split off one.

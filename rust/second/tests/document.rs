@@ -3,25 +3,7 @@
 mod world;
 
 use second::{Call, RECORD_WORDS};
-use world::{every_call, freed, granted, World, ACCEPTED, DEMO_TABLE};
-
-/// The demonstration's heap after its first nine calls.
-fn after_nine() -> World {
-    let mut world = World::demo();
-    assert_eq!(world.allocate(16), granted(16, 24));
-    assert_eq!(world.allocate(17), granted(80, 32));
-    assert_eq!(world.allocate(40), granted(112, 48));
-    assert_eq!(world.allocate(64), granted(160, 72));
-    world.refuses(7, Call::Allocate { z: 16 });
-    assert_eq!(world.free(80), freed(-32));
-    assert_eq!(world.free(112), freed(-48));
-    assert_eq!(world.words(72, 6), [152, 8 + 24, 80, 0, 0, 16]);
-    assert_eq!(world.bin_value(2, 2), 72);
-    world.refuses(6, Call::Free { block: 112 });
-    assert_eq!(world.word(108), 73);
-    assert_eq!(world.allocate(16), granted(80, 24));
-    world
-}
+use world::{after_nine, every_call, freed, granted, six, World, ACCEPTED, DEMO_TABLE, PATROL};
 
 #[test]
 fn demonstration_calls_1_to_9() {
@@ -182,15 +164,6 @@ fn questions_about_each_kind() {
     assert_eq!(world.value(3, 160), 152);
     assert_eq!([1, 2, 3].map(|q| world.bin_value(q, 2)), [1, 96, 96]);
     assert_eq!([1, 2, 3].map(|q| world.bin_value(q, 0)), [0, 0, 0]);
-}
-
-/// Six blocks of 24-byte chunks at 8, 32, ... with the rest in the top.
-fn six(table: &[u32], merge: bool) -> World {
-    let mut world = World::fresh(80, table, 0, merge);
-    for at in 0..6 {
-        assert_eq!(world.allocate(16), granted(16 + 24 * at, 24));
-    }
-    world
 }
 
 #[test]
@@ -422,7 +395,9 @@ fn every_wrong_header_or_record_word_fails_first() {
             world.record[at] ^= 1 << bit;
             // Two sorts of other tables are valid and put 56 in bin 2 as well:
             // bin 3 beginning elsewhere above 56, and bin 2 beginning at 56.
-            let fine = (at == 9 && bit >= 3 && world.record[9] > 56) || (at == 8 && bit == 4);
+            let other_table = (at == 9 && bit >= 3 && world.record[9] > 56) || (at == 8 && bit == 4);
+            // The patrol's place may be any chunk's: here 8 or 32.
+            let fine = other_table || (at == PATROL && (bit == 3 || bit == 5));
             assert_eq!(world.check()[0], if fine { 0 } else { 4 }, "{at} {bit}");
         }
     }

@@ -1,6 +1,9 @@
 // A heap for tests: its region and record, and the calls as methods.
 #![allow(dead_code)]
 
+pub mod dice;
+pub mod run;
+
 use second::{apply, Call, ANSWER_WORDS, RECORD_WORDS};
 
 pub type Answer = [u32; ANSWER_WORDS];
@@ -9,6 +12,9 @@ pub type Answer = [u32; ANSWER_WORDS];
 pub const ACCEPTED: Answer = [0; ANSWER_WORDS];
 
 pub const DEMO_TABLE: [u32; 4] = [24, 32, 40, 128];
+
+/// The record's word with the patrol's place.
+pub const PATROL: usize = 102;
 
 #[derive(Clone, PartialEq, Eq, Debug)]
 pub struct World {
@@ -64,6 +70,10 @@ impl World {
         self.call(&Call::Check)
     }
 
+    pub fn patrol(&mut self, chunks: u32) -> Answer {
+        self.call(&Call::Patrol { chunks })
+    }
+
     pub fn ask(&mut self, question: u32, place: u32) -> Answer {
         self.call(&Call::AskChunk { question, place })
     }
@@ -103,6 +113,10 @@ impl World {
 
     pub fn used(&self) -> u32 {
         self.record[5]
+    }
+
+    pub fn place(&self) -> u32 {
+        self.record[PATROL]
     }
 
     /// The chain as the demonstration prints it, read by questions.
@@ -153,7 +167,8 @@ pub fn freed(bytes: i32) -> Answer {
     [0, 0, 0, bytes as u32, 0]
 }
 
-/// Every call but setup, most with arguments that are refused on a sound heap: on a damaged one 4 must come first.
+/// Every call that asks the check, most with arguments that are refused on a sound heap: on a damaged one 4 must come
+/// first.
 pub fn every_call() -> Vec<Call> {
     let (question, place, bin) = (77, 1, 99);
     vec![
@@ -166,4 +181,31 @@ pub fn every_call() -> Vec<Call> {
         Call::AskChunk { question, place },
         Call::AskBin { question, bin },
     ]
+}
+
+/// The demonstration's heap after its first nine calls.
+pub fn after_nine() -> World {
+    let mut world = World::demo();
+    assert_eq!(world.allocate(16), granted(16, 24));
+    assert_eq!(world.allocate(17), granted(80, 32));
+    assert_eq!(world.allocate(40), granted(112, 48));
+    assert_eq!(world.allocate(64), granted(160, 72));
+    world.refuses(7, Call::Allocate { z: 16 });
+    assert_eq!(world.free(80), freed(-32));
+    assert_eq!(world.free(112), freed(-48));
+    assert_eq!(world.words(72, 6), [152, 8 + 24, 80, 0, 0, 16]);
+    assert_eq!(world.bin_value(2, 2), 72);
+    world.refuses(6, Call::Free { block: 112 });
+    assert_eq!(world.word(108), 73);
+    assert_eq!(world.allocate(16), granted(80, 24));
+    world
+}
+
+/// Six blocks of 24-byte chunks at 8, 32, ... with the rest in the top.
+pub fn six(table: &[u32], merge: bool) -> World {
+    let mut world = World::fresh(80, table, 0, merge);
+    for at in 0..6 {
+        assert_eq!(world.allocate(16), granted(16 + 24 * at, 24));
+    }
+    world
 }
