@@ -26,7 +26,8 @@
 #define KZ_RECORD_SIZES 6 /* the three arrays: bin sizes, heads and tails of the bin lists */
 #define KZ_RECORD_HEADS (KZ_RECORD_SIZES + KZ_MOST_BINS)
 #define KZ_RECORD_TAILS (KZ_RECORD_HEADS + KZ_MOST_BINS)
-#define KZ_RECORD_WORDS (KZ_RECORD_TAILS + KZ_MOST_BINS) /* 102 */
+#define KZ_RECORD_PATROL (KZ_RECORD_TAILS + KZ_MOST_BINS) /* the chunk that the patrol handles next */
+#define KZ_RECORD_WORDS (KZ_RECORD_PATROL + 1)            /* 103 */
 
 /* Words of an answer. A word that the call does not name is 0. */
 #define KZ_ANSWER_WORDS 5
@@ -69,6 +70,8 @@
 #define KZ_NO_ROOM 7
 #define KZ_NOT_THERE 8
 #define KZ_NO_BIN_TAKES 9
+#define KZ_RUN_SIZE 10
+#define KZ_BEYOND_MENDING 12
 
 #ifdef __cplusplus
 extern "C" {
@@ -99,13 +102,41 @@ uint32_t kz_reallocate(uint32_t *region, size_t words, uint32_t *record, uint32_
 /* Turns coalescing on or off for the calls that follow. */
 uint32_t kz_set_merge(uint32_t *region, size_t words, uint32_t *record, bool on, uint32_t *answer);
 
-/* Checks the whole heap and counts its chunks and bytes. Every other call but setup makes the same check first. */
+/* Checks the whole heap and counts its chunks and bytes. Every other call but setup and the patrol makes the same check first. */
 uint32_t kz_check(uint32_t *region, size_t words, uint32_t *record, uint32_t *answer);
 
 uint32_t kz_ask_chunk(uint32_t *region, size_t words, uint32_t *record, uint32_t question, uint32_t place,
                       uint32_t *answer);
 
 uint32_t kz_ask_bin(uint32_t *region, size_t words, uint32_t *record, uint32_t question, uint32_t bin, uint32_t *answer);
+
+/* One run of the patrol: handles `chunks` chunks going up, from the patrol's place in the record, and answers the value 1 if the
+   end chunk was handled, else 0. The place is then the next chunk to be handled: after the end chunk the start, where setup puts
+   it too. The patrol is for damaged heaps, so the check is not made. On a heap that passes the check a run only moves the place.
+
+   At each chunk it mends the forward link if that is broken, the backward link of the chunk above, and the size if the chunk is
+   free. A forward link is broken if it leaves the heap, is no multiple of 8, goes up by less than 24 (8 from the start), or skips
+   a chunk: the place that it names has a backward link to a place between the two, whose own forward link names it. The link is
+   then found again by a walk down the backward links from the end.
+
+   Take a heap that passed the check and then was damaged, its record whole. A full patrol from the start puts every word back
+   - if only backward links and free sizes were damaged, and no wrong backward link gives the sign of a skipped chunk;
+   - if one forward link was damaged and is broken, and all else is whole. Of two broken forward links nothing is promised.
+
+   It does not mend flags, bin links, bin words, or a wrong forward link that is not broken. Such a link is believed: some flips of
+   one bit make it name a place inside a chunk. To mend the backward link above is then to write a word into that chunk, perhaps
+   into a live block, and the run is mostly beyond mending at the next chunk. A run that covers the whole heap is then refused
+   before it has written anything; after runs of one chunk the word stays written. So make runs as large as the idle time allows,
+   and call kz_check after a patrol.
+
+   Refusals: KZ_RUN_SIZE if chunks is 0. KZ_HEAP_FAILS only if the region's length or the recorded heap bytes are no heap's, or the
+   place is no multiple of 8 from 0 to the end chunk. KZ_BEYOND_MENDING if the walk from the end meets a link that leaves the heap,
+   goes down by less than 24 (8 to the start), or passes below the broken chunk. A refused run writes nothing and keeps its place:
+   no later run passes that chunk, and only kz_setup brings the place back to the start.
+
+   Time grows with `chunks`, not with the heap, as long as no link is broken. A run takes @STACK@ bytes of stack on a heap without
+   a broken link, whatever `chunks`, and @LINK@ bytes more for each broken link that it meets. */
+uint32_t kz_patrol(uint32_t *region, size_t words, uint32_t *record, uint32_t chunks, uint32_t *answer);
 
 #ifdef __cplusplus
 }

@@ -1,4 +1,4 @@
-//! The nine calls over flat words, as `include/kruzhvela.h` declares them. Rust's references meet the preconditions
+//! The ten calls over flat words, as `include/kruzhvela.h` declares them. Rust's references meet the preconditions
 //! that the header states, so these functions are safe for all arguments.
 
 use crate::limits::MOST_BINS;
@@ -22,8 +22,11 @@ pub const HEADS: usize = SIZES + MOST_BINS;
 /// The first of the record's [`MOST_BINS`] tails.
 pub const TAILS: usize = HEADS + MOST_BINS;
 
+/// The record's word that holds the patrol's place.
+pub const PATROL: usize = TAILS + MOST_BINS;
+
 /// The number of words of a record.
-pub const RECORD_WORDS: usize = TAILS + MOST_BINS;
+pub const RECORD_WORDS: usize = PATROL + 1;
 
 /// A heap's record. The constants above say which word holds what.
 pub type Record = [u32; RECORD_WORDS];
@@ -38,7 +41,7 @@ pub type Answer = [u32; ANSWER_WORDS];
 pub const ANSWER_REFUSAL: usize = 0;
 /// The answer's word that holds the block's offset.
 pub const ANSWER_OFFSET: usize = 1;
-/// The answer's word that holds what a question asked for.
+/// The answer's word that holds what a question asked for, or 1 if the patrol handled the end chunk.
 pub const ANSWER_VALUE: usize = 2;
 /// The answer's word that holds the change in used bytes, in two's complement.
 pub const ANSWER_CHANGE: usize = 3;
@@ -100,6 +103,7 @@ mod c {
             bin: u32,
             answer: *mut u32,
         ) -> u32;
+        pub fn kz_patrol(region: *mut u32, words: usize, record: *mut u32, chunks: u32, answer: *mut u32) -> u32;
     }
 }
 
@@ -168,4 +172,8 @@ call!(
 call!(
     /// Answers a question about a bin.
     ask_bin, kz_ask_bin, question: u32, bin: u32
+);
+call!(
+    /// Makes one run of the patrol, of so many chunks. It does not check the heap first.
+    patrol, kz_patrol, chunks: u32
 );

@@ -1,4 +1,4 @@
-//! A heap with its region and record, and the nine calls as methods.
+//! A heap with its region and record, and the ten calls as methods.
 
 use std::error::Error;
 use std::fmt;
@@ -148,7 +148,8 @@ impl<W: AsRef<[u32]> + AsMut<[u32]>> Heap<W> {
         }
     }
 
-    /// Makes a heap of the parts that [`into_parts`](Heap::into_parts) or a C caller had. Every call checks it first.
+    /// Makes a heap of the parts that [`into_parts`](Heap::into_parts) or a C caller had. Every call but the patrol checks
+    /// it first.
     pub fn from_parts(words: W, record: Record) -> Heap<W> {
         Heap { words, record }
     }
@@ -243,6 +244,63 @@ impl<W: AsRef<[u32]> + AsMut<[u32]>> Heap<W> {
     pub fn ask_bin(&mut self, question: BinQuestion, bin: u32) -> Result<u32, Refusal> {
         accepted(flat::ask_bin(self.words.as_mut(), &mut self.record, question as u32, bin))
             .map(|answer| answer[flat::ANSWER_VALUE])
+    }
+
+    /// One run of the patrol: handles `chunks` chunks going up from the patrol's place, and returns whether the end chunk
+    /// was handled. The next run goes on where this one ended, after the end chunk at the start.
+    ///
+    /// A run does not check the heap first: it is for damaged heaps. It mends broken forward links, backward links and
+    /// free sizes, and on a heap that passes the check it writes no word. What it mends and what it does not,
+    /// `include/kruzhvela.h` says. Check the heap after a full patrol, and make runs as large as the idle time allows: a
+    /// wrong link that is believed is then mostly refused with [`Refusal::BeyondMending`] before anything is written.
+    ///
+    /// ```
+    /// use kruzhvela::{Heap, Refusal};
+    /// let mut heap = Heap::setup(vec![0; 64], &[24, 64], 0, true)?;
+    /// heap.allocate(40)?;
+    /// let (mut words, record) = heap.into_parts();
+    /// let whole = words.clone();
+    /// words[2] ^= 1 << 20; // a bit of the forward link of the chunk at 8
+    ///
+    /// let mut heap = Heap::from_parts(words, record);
+    /// assert_eq!(heap.check(), Err(Refusal::HeapFails));
+    /// while !heap.patrol(2)? {
+    ///     // other work until the next idle time
+    /// }
+    /// assert_eq!(heap.region(), whole);
+    /// assert!(heap.check().is_ok());
+    /// # Ok::<(), kruzhvela::Refusal>(())
+    /// ```
+    pub fn patrol(&mut self, chunks: u32) -> Result<bool, Refusal> {
+        accepted(flat::patrol(self.words.as_mut(), &mut self.record, chunks))
+            .map(|answer| answer[flat::ANSWER_VALUE] == 1)
+    }
+
+    /// Patrols to the end of the heap in runs of `chunks` chunks, and returns the number of runs. From the start, where
+    /// setup and every finished round leave the patrol, this is a full patrol.
+    ///
+    /// ```
+    /// use kruzhvela::{Heap, Refusal};
+    /// let mut heap = Heap::setup(vec![0; 64], &[24, 64], 0, true)?;
+    /// heap.allocate(40)?;
+    /// assert_eq!(heap.check()?.chunks, 4);
+    /// assert_eq!(heap.patrol_round(3)?, 2);
+    ///
+    /// let (mut words, record) = heap.into_parts();
+    /// words[15] ^= 1 << 5; // a bit of the backward link of the chunk at 56, which names the chunk at 8
+    /// let mut heap = Heap::from_parts(words, record);
+    /// assert_eq!(heap.patrol_round(1)?, 4);
+    /// assert_eq!(heap.region()[15], 8);
+    ///
+    /// assert_eq!(heap.patrol_round(0), Err(Refusal::RunSize));
+    /// # Ok::<(), kruzhvela::Refusal>(())
+    /// ```
+    pub fn patrol_round(&mut self, chunks: u32) -> Result<u32, Refusal> {
+        let mut runs = 1;
+        while !self.patrol(chunks)? {
+            runs += 1;
+        }
+        Ok(runs)
     }
 
     /// The words of a live block, up to its chunk's end: at least the bytes that were asked for.

@@ -13,7 +13,8 @@ pub enum Refusal {
     BadTable = 2,
     /// Setup: the donor's size is not 0 and is under 24, no multiple of 8, or over the heap bytes less 40.
     DonorSize = 3,
-    /// The heap fails the check: something else has written its headers or its record.
+    /// The heap fails the check: something else has written its headers or its record. The patrol gives this only if
+    /// the region's length, the recorded heap bytes or the patrol's place can be no heap's.
     HeapFails = 4,
     /// The size, or the product of a cleared allocate, is 0 or over 65,488.
     BlockSize = 5,
@@ -25,10 +26,14 @@ pub enum Refusal {
     NotThere = 8,
     /// No bin takes the size of a chunk. A theorem (`never-nine`) says that no call gives this.
     NoBinTakes = 9,
+    /// Patrol: a run of no chunks.
+    RunSize = 10,
+    /// Patrol: a forward link is broken, and the backward links do not lead from the end to it.
+    BeyondMending = 12,
 }
 
 impl Refusal {
-    const ALL: [Refusal; 9] = [
+    const ALL: [Refusal; 11] = [
         Refusal::RegionLength,
         Refusal::BadTable,
         Refusal::DonorSize,
@@ -38,9 +43,11 @@ impl Refusal {
         Refusal::NoRoom,
         Refusal::NotThere,
         Refusal::NoBinTakes,
+        Refusal::RunSize,
+        Refusal::BeyondMending,
     ];
 
-    /// The refusal's number, from 1 to 9.
+    /// The refusal's number.
     pub const fn number(self) -> u32 {
         self as u32
     }
@@ -69,6 +76,8 @@ impl fmt::Display for Refusal {
             Refusal::NoRoom => "no chunk can serve the request",
             Refusal::NotThere => "there is no such chunk, block, bin or question",
             Refusal::NoBinTakes => "no bin takes the chunk's size",
+            Refusal::RunSize => "a run of the patrol has no chunks",
+            Refusal::BeyondMending => "a broken link is beyond mending",
         })
     }
 }
