@@ -68,11 +68,25 @@ fn factors(product: u32, random: &mut Random) -> (u32, u32) {
     }
 }
 
+/// Chunks of a run: mostly a few, sometimes about all, none, or more than any heap has.
+fn run_size(view: &View, random: &mut Random) -> u32 {
+    match random.below(12) {
+        0 => 0,
+        1 => random.of(&[0x7FFF_FFFF, 0x8000_0000, 0xFFFF_FFFF]),
+        2..=4 => 1,
+        5 | 6 => random.between(1, view.chunks.len() as u32 + 3),
+        _ => random.between(2, 6),
+    }
+}
+
 pub fn setup(words: usize, random: &mut Random) -> Call {
     Call::Setup { table: settings::table(random), donor: settings::donor(words, random), merge: random.bit() }
 }
 
-/// The call with this number, in the order of the requirements' list.
+/// How many calls have a number here.
+pub const CALLS: u32 = 10;
+
+/// The call with this number, in the order of the requirements' list, the patrol last.
 pub fn numbered(number: u32, words: usize, view: &View, table: &[u32], random: &mut Random) -> Call {
     match number {
         0 => setup(words, random),
@@ -86,13 +100,14 @@ pub fn numbered(number: u32, words: usize, view: &View, table: &[u32], random: &
         5 => Call::SetMerge { on: random.bit() },
         6 => Call::Check,
         7 => Call::AskChunk { question: random.below(11), place: place(view, random) },
-        _ => Call::AskBin { question: random.below(5), bin: random.below(table.len() as u32 + 2) },
+        8 => Call::AskBin { question: random.below(5), bin: random.below(table.len() as u32 + 2) },
+        _ => Call::Patrol { chunks: run_size(view, random) },
     }
 }
 
-/// One of the nine calls, each with its weight.
+/// One of the calls, each with its weight.
 pub fn any(words: usize, view: &View, table: &[u32], random: &mut Random) -> Call {
-    let number = match random.below(200) {
+    let number = match random.below(208) {
         0 => 0,
         1..=69 => 1,
         70..=81 => 2,
@@ -101,7 +116,8 @@ pub fn any(words: usize, view: &View, table: &[u32], random: &mut Random) -> Cal
         168..=173 => 5,
         174..=177 => 6,
         178..=191 => 7,
-        _ => 8,
+        192..=199 => 8,
+        _ => 9,
     };
     numbered(number, words, view, table, random)
 }

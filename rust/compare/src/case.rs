@@ -1,8 +1,10 @@
-//! A case: a heap with its own settings, a run of calls with writes into live blocks between them, and, in five of
-//! eight cases, damage on which every call is tried. Each step is chosen by the heap as it is.
+//! A case: a heap with its own settings, a run of calls with writes into live blocks between them, damaged links that
+//! are patrolled and put back, and, in five of eight cases, damage on which every call is tried. Each step is chosen by
+//! the heap as it is.
 
 use crate::calls;
 use crate::damage::Victim;
+use crate::patrols;
 use crate::random::Random;
 use crate::settings;
 use crate::side::{Action, Side};
@@ -26,7 +28,7 @@ pub trait Stage {
     }
 }
 
-fn view(stage: &dyn Stage) -> View {
+pub fn view(stage: &dyn Stage) -> View {
     View::of(&stage.side().region, &stage.side().record)
 }
 
@@ -64,7 +66,7 @@ fn damaged(stage: &mut dyn Stage, random: &mut Random) {
             stage.play(store);
         }
     }
-    for number in 1..9 {
+    for number in 1..calls::CALLS {
         let call = calls::numbered(number, words, &v, &t, random);
         stage.play(Action::Call(call));
     }
@@ -84,8 +86,12 @@ fn run(stage: &mut dyn Stage, steps: u32, damage: bool, random: &mut Random) {
         match random.below(24) {
             0 | 1 => write_block(stage, random),
             2 if damage => damaged(stage, random),
+            3 if random.once_in(3) => patrols::play(stage, random),
             _ => {
                 let call = calls::any(stage.side().region.len(), &view(stage), &table(stage), random);
+                if random.once_in(6) {
+                    patrols::stand_in_the_way(stage, &call, random);
+                }
                 let answer = stage.play(Action::Call(call));
                 if answer.is_some_and(|a| a[ANSWER_REFUSAL] == Refusal::HeapFails.number()) && random.bit() {
                     set_up(stage, random);

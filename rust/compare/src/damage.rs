@@ -1,13 +1,15 @@
 //! Damage to a heap, as stores into its words and its record. Each kind could come from a real fault, or would mislead
 //! a check that tests too little.
 
+mod links;
+
 use crate::random::Random;
 use crate::side::Action;
 use crate::view::{
     heap_bytes, index, Chunk, View, BACKWARD, BIN_FACTOR, BIN_WORD, FORWARD, HEADER_WORDS, IN_USE, NEXT_IN_BIN,
     PREVIOUS_IN_BIN, SIZE,
 };
-use kruzhvela::flat::{Record, BINS, BYTES, DONOR, HEADS, MERGE, RECORD_WORDS, SIZES, TAILS, TOP, USED};
+use kruzhvela::flat::{Record, BINS, BYTES, DONOR, HEADS, MERGE, PATROL, RECORD_WORDS, SIZES, TAILS, TOP, USED};
 use kruzhvela::limits::{ALIGNMENT, HEADER_BYTES, LEAST_CHUNK, MOST_BINS};
 
 /// Numbers that are no place of any heap, near where 32-bit sums wrap.
@@ -162,16 +164,18 @@ impl Victim<'_> {
             .collect()
     }
 
-    /// A head, a tail, donor or top names another place, or the bin word another bin.
+    /// A head, a tail, donor, top or the patrol's place is another place, or the bin word another bin.
     fn wrong_place(&self, random: &mut Random) -> Vec<Action> {
         let place = if random.once_in(4) { 0 } else { self.chunk(random).place };
         let bin = self.bin(random);
-        match random.below(6) {
+        match random.below(8) {
             0 => vec![field(HEADS + bin, place)],
             1 => vec![field(TAILS + bin, place)],
             2 => vec![field(DONOR, place)],
             3 => vec![field(TOP, place)],
             4 => vec![field(DONOR, self.record[TOP]), field(TOP, self.record[DONOR])],
+            5 => vec![field(PATROL, place + random.of(&[0, 4, 8, 16]))],
+            6 => vec![field(PATROL, heap_bytes(self.region.len()).wrapping_sub(random.of(&[0, 4, 8, 12])))],
             _ => {
                 let chunk = self.ordinary(random).place;
                 vec![header(chunk, BIN_WORD, self.word(chunk, BIN_WORD).wrapping_add(random.of(&[1, 8, 0xFFFF_FFF8])))]
@@ -186,7 +190,7 @@ impl Victim<'_> {
         let moved = |value: u32| far.unwrap_or(value.wrapping_add(by));
         if random.bit() {
             let bin = self.bin(random);
-            let index = random.of(&[DONOR, TOP, HEADS + bin, TAILS + bin]);
+            let index = random.of(&[DONOR, TOP, HEADS + bin, TAILS + bin, PATROL]);
             vec![field(index, moved(self.record[index]))]
         } else {
             let place = if random.bit() { self.ordinary(random).place } else { self.chunk(random).place };
@@ -228,7 +232,13 @@ impl Victim<'_> {
         }
     }
 
-    /// One kind of damage, without stores outside the region.
+    /// Stores outside the region are left out.
+    fn inside(&self, stores: Vec<Action>) -> Vec<Action> {
+        let inside = |store: &Action| !matches!(store, Action::Write { index, .. } if *index >= self.region.len());
+        stores.into_iter().filter(inside).collect()
+    }
+
+    /// One kind of damage.
     pub fn damage(&self, random: &mut Random) -> Vec<Action> {
         let stores = match random.below(12) {
             0 | 1 => self.flipped_bit(random),
@@ -242,7 +252,6 @@ impl Victim<'_> {
             10 => self.figure(random),
             _ => self.wrong_header(random),
         };
-        let inside = |store: &Action| !matches!(store, Action::Write { index, .. } if *index >= self.region.len());
-        stores.into_iter().filter(inside).collect()
+        self.inside(stores)
     }
 }

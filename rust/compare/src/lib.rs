@@ -7,6 +7,8 @@ pub mod calls;
 pub mod case;
 pub mod damage;
 pub mod duel;
+pub mod judge;
+pub mod patrols;
 pub mod random;
 pub mod script;
 pub mod settings;

@@ -2,6 +2,8 @@
 //! `second`'s answer, record and region after each call. A line is the operation, the number of its arguments and the
 //! arguments, so that an operation may get more arguments later and old scripts stay readable. `#` begins a comment.
 
+mod patrols;
+
 use crate::case::{self, Stage};
 use crate::side::{Action, Side};
 use crate::view::{index, BACKWARD, BIN_WORD, FORWARD, IN_USE, NEXT_IN_BIN, PREVIOUS_IN_BIN, SIZE};
@@ -58,6 +60,7 @@ fn line(action: &Action) -> (u32, Vec<u32>) {
         Action::Call(Call::AskBin { question, bin }) => (9, vec![question, bin]),
         Action::Write { index, value } => (10, vec![index as u32, value]),
         Action::Record { index, value } => (11, vec![index as u32, value]),
+        Action::Call(Call::Patrol { chunks }) => (12, vec![chunks]),
     }
 }
 
@@ -117,19 +120,17 @@ impl Script {
         self.call(Call::Check);
     }
 
-    /// The requirements' demonstration, all eleven calls.
-    fn demonstration(&mut self) {
-        self.heap("the demonstration", 64, &[24, 32, 40, 128], 64);
+    /// The requirements' demonstration, up to one of its eleven calls.
+    fn demonstration_to(&mut self, call: usize) {
+        self.heap(&format!("the demonstration to call {call}"), 64, &[24, 32, 40, 128], 64);
         self.call(Call::Allocate { z: MOST_BYTES + 1 });
-        for z in [16, 17, 40, 64, 16] {
-            self.call(Call::Allocate { z });
+        let granted = [16, 17, 40, 64, 16].map(|z| Call::Allocate { z });
+        let freed = [80, 112, 112].map(|block| Call::Free { block });
+        let last =
+            [Call::Allocate { z: 16 }, Call::Reallocate { block: 160, z: 40 }, Call::Reallocate { block: 16, z: 32 }];
+        for call in granted.into_iter().chain(freed).chain(last).take(call) {
+            self.call(call);
         }
-        for block in [80, 112, 112] {
-            self.call(Call::Free { block });
-        }
-        self.call(Call::Allocate { z: 16 });
-        self.call(Call::Reallocate { block: 160, z: 40 });
-        self.call(Call::Reallocate { block: 16, z: 32 });
         self.call(Call::Check);
     }
 
@@ -159,6 +160,7 @@ impl Script {
         }
         self.call(Call::Check);
         self.call(Call::Allocate { z: 1 });
+        self.call(Call::Patrol { chunks: 1 });
     }
 
     /// Both sides of the limits that the requirements name.
@@ -167,6 +169,7 @@ impl Script {
             self.heap(&format!("{words} words"), words, &[24, 32, 64], 0);
             self.call(Call::Allocate { z: 1 });
             self.call(Call::AskChunk { question: 8, place: 8 });
+            self.call(Call::Patrol { chunks: 1 });
         }
         for z in [MOST_BYTES, MOST_BYTES + 1] {
             self.heap(&format!("{z} bytes of the largest heap"), MOST_WORDS, &[24, 32, 64], 0);
@@ -205,8 +208,9 @@ impl Stage for Script {
 /// The stored script with its transcript.
 pub fn stored() -> Script {
     let mut script = Script::new();
-    script.demonstration();
+    script.demonstration_to(11);
     script.both_sides();
+    script.patrols();
     for number in 0..CASES {
         script.name(&format!("case {number}"));
         case::play(number, SEED, &mut script);

@@ -76,5 +76,6 @@ pub fn proved(call: &Call, region: &mut [u32], record: &mut Record) -> Answer {
         Call::Check => flat::check(region, record),
         Call::AskChunk { question, place } => flat::ask_chunk(region, record, question, place),
         Call::AskBin { question, bin } => flat::ask_bin(region, record, question, bin),
+        Call::Patrol { chunks } => flat::patrol(region, record, chunks),
     }
 }

@@ -1,10 +1,12 @@
 //! The cases reach what they must: every call accepted and refused with every number that it can give, every m, long
-//! chains, and damage that the check refuses.
+//! chains, damage that the check refuses, every turn of the patrol's rule, and joinings that swallow its place.
 
 use compare::case::{self, Stage};
+use compare::judge::{Link, Walk, Words};
 use compare::side::{Action, Side};
-use kruzhvela::flat::{Answer, Record, ANSWER_REFUSAL, BINS, CHECK_CHUNKS, SIZES};
-use kruzhvela::limits::{ALIGNMENT, LEAST_CHUNK, MOST_BINS};
+use compare::view::{heap_bytes, index, BACKWARD, IN_USE, SIZE};
+use kruzhvela::flat::{Answer, Record, ANSWER_OFFSET, ANSWER_REFUSAL, BINS, BYTES, CHECK_CHUNKS, PATROL, SIZES};
+use kruzhvela::limits::{ALIGNMENT, FEWEST_WORDS, LEAST_CHUNK, MOST_BINS, MOST_WORDS};
 use second::Call;
 use std::collections::BTreeMap;
 
@@ -16,6 +18,8 @@ struct Tally {
     /// Counts of accepted setups by m.
     setups: BTreeMap<usize, u64>,
     most_chunks: u32,
+    /// Counts of the turns of patrols, and of swallowed places by the call that joined.
+    turns: BTreeMap<&'static str, u64>,
 }
 
 fn name(call: &Call) -> &'static str {
@@ -29,6 +33,7 @@ fn name(call: &Call) -> &'static str {
         Call::Check => "check",
         Call::AskChunk { .. } => "ask_chunk",
         Call::AskBin { .. } => "ask_bin",
+        Call::Patrol { .. } => "patrol",
     }
 }
 
@@ -38,16 +43,142 @@ fn small_bins(record: &Record) -> usize {
     (0..bins).take_while(|&i| record[SIZES + i] == LEAST_CHUNK + ALIGNMENT * i as u32).last().unwrap_or(0)
 }
 
+fn link_turn(link: Link) -> &'static str {
+    match link {
+        Link::Believed => "a link is believed",
+        Link::BelievedOverOther => "a link is believed over a place that does not name the same",
+        Link::LeavesTheHeap => "a link leaves the heap",
+        Link::NoMultipleOf8 => "a link is no multiple of 8",
+        Link::TooNear => "a link goes up by less than 24",
+        Link::TooNearTheStart => "the start's link goes up by less than 8",
+        Link::Skips => "a link skips a chunk",
+    }
+}
+
+fn walk_turn(walk: Walk) -> &'static str {
+    match walk {
+        Walk::Found(_) => "the walk finds the next chunk",
+        Walk::LeavesTheHeap => "the walk meets a link that leaves the heap",
+        Walk::NotDown => "the walk meets a link that does not go down",
+        Walk::TooNear => "the walk meets a link down by less than 24",
+        Walk::TooNearTheBroken => "the walk comes to the broken chunk from too near",
+        Walk::PassesBelow => "the walk passes below the broken chunk",
+    }
+}
+
+/// The words that are wrong around a chunk and the next one.
+fn mends(words: Words, place: u32, next: u32) -> Vec<&'static str> {
+    let back = words.0[index(place, BACKWARD)];
+    let wrong_size = place != 0 && words.0[index(place, SIZE)] != next - place;
+    let flags = words.0[index(next, BACKWARD)] % ALIGNMENT;
+    let found = [
+        (words.below(next) != place, "a backward link is mended"),
+        (words.below(next) != place && flags > IN_USE, "a backward link is mended beside spare flags"),
+        (place == 0 && words.below(0) != 0, "the start's backward link is mended"),
+        (place == 0 && back & IN_USE == 0, "the start's flags say free"),
+        (wrong_size && back & IN_USE == 0, "a free size is mended"),
+        (wrong_size && back & IN_USE != 0, "a chunk in use has another word in that place"),
+    ];
+    found.into_iter().filter(|&(holds, _)| holds).map(|(_, name)| name).collect()
+}
+
+/// The turns of a run that is not refused with 4 or 10, on the words as they came.
+fn run_turns(words: Words, from: u32, chunks: u32) -> Vec<&'static str> {
+    let mut turns = Vec::new();
+    let mut place = from;
+    for handled in 0..chunks {
+        if place == words.end() {
+            turns.push(if handled == 0 { "a run begins at the end chunk" } else { "a run comes to the end chunk" });
+            return turns;
+        }
+        let link = words.judged(place);
+        turns.push(link_turn(link));
+        if !matches!(link, Link::Believed | Link::BelievedOverOther) {
+            turns.push(walk_turn(words.walked(place)));
+        }
+        let Some(next) = words.next(place) else {
+            turns.extend(turns.contains(&"a backward link is mended").then_some("12 after something to mend"));
+            return turns;
+        };
+        turns.extend(mends(words, place, next));
+        place = next;
+    }
+    turns.push("a run ends before the end chunk");
+    turns
+}
+
+/// Why a run is refused with 4, if it is.
+fn refused_turn(region: &[u32], record: &Record) -> Option<&'static str> {
+    let (bytes, place) = (heap_bytes(region.len()), record[PATROL]);
+    match region.len() {
+        words if !(FEWEST_WORDS..=MOST_WORDS).contains(&words) => Some("4 for the region's length"),
+        _ if record[BYTES] != bytes => Some("4 for the heap bytes"),
+        _ if place % ALIGNMENT != 0 => Some("4 for a place that is no multiple of 8"),
+        _ if place >= bytes => Some("4 for a place above the end chunk"),
+        _ => None,
+    }
+}
+
+/// The turns of a run, before it is made.
+fn patrol_turns(side: &Side, chunks: u32) -> Vec<&'static str> {
+    if chunks == 0 {
+        return vec!["a run of no chunks"];
+    }
+    match refused_turn(&side.region, &side.record) {
+        Some(turn) => vec![turn],
+        None => run_turns(Words(&side.region), side.record[PATROL], chunks),
+    }
+}
+
+/// How an accepted call that moved the place came to swallow it.
+fn swallow_turn(call: &Call, answer: Answer) -> Option<&'static str> {
+    match *call {
+        Call::Free { .. } => Some("free swallows the place"),
+        Call::Reallocate { block, .. } if block == answer[ANSWER_OFFSET] => Some("a tail swallows the place"),
+        Call::Reallocate { .. } => Some("the old block of a move swallows the place"),
+        _ => None,
+    }
+}
+
+impl Tally {
+    fn new() -> Tally {
+        Tally {
+            side: Side::new(second::apply),
+            answers: BTreeMap::new(),
+            setups: BTreeMap::new(),
+            most_chunks: 0,
+            turns: BTreeMap::new(),
+        }
+    }
+
+    fn count_answer(&mut self, call: &Call, answer: Answer) {
+        *self.answers.entry((name(call), answer[ANSWER_REFUSAL])).or_default() += 1;
+        if matches!(call, Call::Setup { .. }) && answer[ANSWER_REFUSAL] == 0 {
+            *self.setups.entry(small_bins(&self.side.record)).or_default() += 1;
+        }
+        if *call == Call::Check {
+            self.most_chunks = self.most_chunks.max(answer[CHECK_CHUNKS]);
+        }
+    }
+
+    fn count_turns(&mut self, turns: impl IntoIterator<Item = &'static str>) {
+        for turn in turns {
+            *self.turns.entry(turn).or_default() += 1;
+        }
+    }
+}
+
 impl Stage for Tally {
     fn play(&mut self, action: Action) -> Option<Answer> {
+        if let Action::Call(Call::Patrol { chunks }) = action {
+            self.count_turns(patrol_turns(&self.side, chunks));
+        }
+        let place = self.side.record[PATROL];
         let answer = self.side.play(&action);
         if let (Action::Call(call), Some(answer)) = (action, answer) {
-            *self.answers.entry((name(&call), answer[ANSWER_REFUSAL])).or_default() += 1;
-            if matches!(call, Call::Setup { .. }) && answer[ANSWER_REFUSAL] == 0 {
-                *self.setups.entry(small_bins(&self.side.record)).or_default() += 1;
-            }
-            if call == Call::Check {
-                self.most_chunks = self.most_chunks.max(answer[CHECK_CHUNKS]);
+            self.count_answer(&call, answer);
+            if place != self.side.record[PATROL] {
+                self.count_turns(swallow_turn(&call, answer));
             }
         }
         answer
@@ -59,7 +190,7 @@ impl Stage for Tally {
 }
 
 /// The numbers that each call can give; none gives 9.
-const NUMBERS: [(&str, &[u32]); 9] = [
+const NUMBERS: [(&str, &[u32]); 10] = [
     ("setup", &[0, 1, 2, 3]),
     ("allocate", &[0, 4, 5, 7]),
     ("allocate_cleared", &[0, 4, 5, 7]),
@@ -69,12 +200,47 @@ const NUMBERS: [(&str, &[u32]); 9] = [
     ("check", &[0, 4]),
     ("ask_chunk", &[0, 4, 8]),
     ("ask_bin", &[0, 4, 8]),
+    ("patrol", &[0, 4, 10, 12]),
+];
+
+/// Every turn of the patrol's rule, and every joining that can swallow the place.
+const TURNS: [&str; 31] = [
+    "a run of no chunks",
+    "4 for the region's length",
+    "4 for the heap bytes",
+    "4 for a place that is no multiple of 8",
+    "4 for a place above the end chunk",
+    "a run begins at the end chunk",
+    "a run comes to the end chunk",
+    "a run ends before the end chunk",
+    "a link is believed",
+    "a link is believed over a place that does not name the same",
+    "a link leaves the heap",
+    "a link is no multiple of 8",
+    "a link goes up by less than 24",
+    "the start's link goes up by less than 8",
+    "a link skips a chunk",
+    "the walk finds the next chunk",
+    "the walk meets a link that leaves the heap",
+    "the walk meets a link that does not go down",
+    "the walk meets a link down by less than 24",
+    "the walk comes to the broken chunk from too near",
+    "the walk passes below the broken chunk",
+    "12 after something to mend",
+    "a backward link is mended",
+    "a backward link is mended beside spare flags",
+    "the start's backward link is mended",
+    "the start's flags say free",
+    "a free size is mended",
+    "a chunk in use has another word in that place",
+    "free swallows the place",
+    "a tail swallows the place",
+    "the old block of a move swallows the place",
 ];
 
 #[test]
 fn the_cases_reach_every_answer() {
-    let mut tally =
-        Tally { side: Side::new(second::apply), answers: BTreeMap::new(), setups: BTreeMap::new(), most_chunks: 0 };
+    let mut tally = Tally::new();
     for number in 0..2_000 {
         case::play(number, 1, &mut tally);
     }
@@ -87,4 +253,10 @@ fn the_cases_reach_every_answer() {
     assert!(tally.answers.is_empty(), "no call may give these: {:?}", tally.answers);
     assert_eq!(tally.setups.len(), MOST_BINS, "m from 0 to 31: {:?}", tally.setups);
     assert!(tally.most_chunks > 1_500, "the longest chain has {} chunks", tally.most_chunks);
+    println!("{:#?}", tally.turns);
+    for turn in TURNS {
+        let times = tally.turns.remove(turn).unwrap_or(0);
+        assert!(times > 50, "{turn}: only {times} times");
+    }
+    assert!(tally.turns.is_empty(), "these turns are not listed: {:?}", tally.turns);
 }
