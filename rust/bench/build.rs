@@ -1,4 +1,4 @@
-//! Compiles the peers in C: the check by hand, and newlib's two allocators over a fixed arena, from Debian's package
+//! Compiles the peers in C: the check and the patrol by hand, and newlib's two allocators over a fixed arena, from Debian's package
 //! newlib-source. Without that package newlib is left out.
 
 use std::env;
@@ -50,7 +50,11 @@ fn main() {
     let out = PathBuf::from(env::var_os("OUT_DIR").expect("OUT_DIR"));
     let limit = Path::new("c/limit.c");
     let bounded = ["-DBOUNDS_CHECKS".to_string()];
-    let mut objects = vec![compile(&out, "limit", limit, &[]), compile(&out, "bounded", limit, &bounded)];
+    let mut objects = vec![
+        compile(&out, "limit", limit, &[]),
+        compile(&out, "bounded", limit, &bounded),
+        compile(&out, "patrol", Path::new("c/patrol.c"), &[]),
+    ];
     if Path::new(NEWLIB).is_file() {
         objects.extend(newlib(&out));
         println!("cargo:rustc-cfg=newlib");

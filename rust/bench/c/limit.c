@@ -7,10 +7,7 @@
 #include <string.h>
 
 #include "kruzhvela.h"
-
-enum { FORWARD, BACKWARD, SIZE, NEXT_IN_BIN, PREVIOUS_IN_BIN, BIN };
-enum { WORD_BYTES = 4, ALIGNMENT = 8, HEADER_BYTES = 8, LEAST_CHUNK = 24, FEWEST_WORDS = 10, MOST_WORDS = 16384 };
-enum { IN_USE = 1, BIN_FACTOR = 8 };
+#include "layout.h"
 
 /* The bitmap: one bit for each aligned place of the largest heap. A word of it covers WORD_COVERS heap bytes. */
 enum { WORD_BITS = 32, WORD_COVERS = ALIGNMENT * WORD_BITS, MARKS = MOST_WORDS * WORD_BYTES / WORD_COVERS };
@@ -66,15 +63,16 @@ static bool table_valid(const uint32_t *record)
 static bool walk_chain(Region region, const uint32_t *record, uint32_t *marks, Counts *counts)
 {
     uint32_t end = record[KZ_RECORD_BYTES] - HEADER_BYTES, donor = record[KZ_RECORD_DONOR], top = record[KZ_RECORD_TOP];
-    uint32_t at = 0, before = 0;
-    bool donor_seen = donor == 0;
+    uint32_t patrol = record[KZ_RECORD_PATROL], at = 0, before = 0;
+    bool donor_seen = donor == 0, patrol_seen = false;
     for (;;) {
         uint32_t next = word(region, at, FORWARD), back = word(region, at, BACKWARD);
         counts->chunks++;
+        patrol_seen |= at == patrol;
         if ((back & ~(uint32_t)IN_USE) != before)
             return false;
         if (at == end)
-            return next == 0 && (back & IN_USE) == IN_USE && before == top && donor_seen;
+            return next == 0 && (back & IN_USE) == IN_USE && before == top && donor_seen && patrol_seen;
         if (next <= at || next > end || next % ALIGNMENT != 0)
             return false;
         uint32_t size = next - at;

@@ -32,7 +32,7 @@ pub struct Row {
 }
 
 /// Allocates blocks of a few sizes, then frees all, none or every second of them. Merging is off, so the chunks stay.
-fn heap(chunks: u32, fill: Fill) -> Kruzhvela {
+pub fn heap(chunks: u32, fill: Fill) -> Kruzhvela {
     let words = if chunks > 1_000 { MOST_WORDS } else { chunks as usize * 12 };
     let mut heap = Kruzhvela::new(words, &[24, 32, 40, 48, 56, 64], 0, false);
     let sizes: &[u32] = if chunks > 1_000 { &[16] } else { &[16, 24, 32] };

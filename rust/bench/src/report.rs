@@ -3,13 +3,18 @@
 use crate::calls::{self, KINDS, LIVE};
 use crate::checks::{self, CHUNKS, FILLS};
 use crate::clock::ROUNDS;
+use crate::patrols::{self, Way, WAYS};
 use std::fmt::Write;
 use std::process::Command;
 
+pub const CHECK: &str = "## The check, relative to a walk by hand";
+pub const PATROL: &str = "## The patrol, relative to the same loop by hand";
+pub const CALLS: &str = "## The calls, relative to other allocators";
+
 const METHOD: &str = "\
-`cd rust && cargo run --release -p bench` (after `bash tools/archive`) writes this page. Each ratio is to a peer measured in the same run. \
+`cd rust && cargo run --release -p bench` (after `bash tools/archive`) writes this page, and with the word `check`, `patrol` or `calls` that part of it. Each ratio is to a peer measured in the same run. \
 Times are medians of interleaved runs: a round runs every work once, and a first round, which warms the caches, is not counted. \
-The heap, the record and the peers' arenas stay in the processor's first two caches. The proved heap is called through `kruzhvela::flat`, the nine functions of C: \
+The heap, the record and the peers' arenas stay in the processor's first two caches. The proved heap is called through `kruzhvela::flat`, the functions of C: \
 each call unpacks the record from its `KZ_RECORD_WORDS` words and, the check and the questions apart, packs it again.
 ";
 
@@ -18,10 +23,15 @@ fn line(command: &str, words: &[&str]) -> String {
     output.map_or_else(|_| "unknown".into(), |o| String::from_utf8_lossy(&o.stdout).trim().to_string())
 }
 
-fn machine() -> String {
+pub fn method() -> String {
+    format!("# Benchmarks\n\n{METHOD}\n")
+}
+
+/// Date, machine and rounds: parts of the page may be measured apart.
+fn measured() -> String {
     let model = line("sh", &["-c", "lscpu | sed -n 's/^Model name: *//p' | head -1"]);
     format!(
-        "{}, {} ({} processors), {}",
+        "Measured on: {}, {} ({} processors), {}. {ROUNDS} rounds.",
         line("date", &["-u", "+%Y-%m-%d"]),
         model,
         line("nproc", &[]),
@@ -29,28 +39,71 @@ fn machine() -> String {
     )
 }
 
+/// Our time and a peer's on a heap of so many chunks, in nanoseconds.
+struct Times {
+    chunks: u32,
+    ours: f64,
+    peer: f64,
+}
+
 /// The exponent with which the time grows in the number of chunks: 1 is linear.
-fn exponent(rows: &[&checks::Row]) -> f64 {
-    let (less, more) = (rows[1], rows[2]);
+fn exponent(times: &[Times]) -> f64 {
+    let (less, more) = (&times[1], &times[2]);
     (more.ours / less.ours).ln() / (f64::from(more.chunks) / f64::from(less.chunks)).ln()
 }
 
-/// The check's times as ratios to those of the walk that `peer` selects.
-fn checks(rows: &[checks::Row], peer: fn(&checks::Row) -> f64) -> String {
+/// Ratios to a peer: a line for each name, a column for each number of chunks.
+fn ratios(lines: Vec<(String, Vec<Times>)>) -> String {
     let mut text = String::from(
         "| Heap | 20 chunks | 200 chunks | 2,500 chunks | growth from 200 to 2,500 |\n|---|---|---|---|---|\n",
     );
-    for (fill, name) in FILLS {
-        let of: Vec<&checks::Row> = rows.iter().filter(|row| row.fill == fill).collect();
-        let cell = |row: &&checks::Row| format!("{:.2} ({:.0} ns)", row.ours / peer(row), row.ours);
-        let cells: Vec<String> = of.iter().map(cell).collect();
+    for (name, times) in lines {
+        let cell = |times: &Times| format!("{:.2} ({:.0} ns)", times.ours / times.peer, times.ours);
+        let cells: Vec<String> = times.iter().map(cell).collect();
         assert_eq!(cells.len(), CHUNKS.len());
-        let _ = writeln!(text, "| {name} | {} | {:.2} |", cells.join(" | "), exponent(&of));
+        let _ = writeln!(text, "| {name} | {} | {:.2} |", cells.join(" | "), exponent(&times));
     }
     text
 }
 
-fn calls(rows: &[calls::Row]) -> String {
+/// The check's times as ratios to those of the walk that `peer` selects.
+fn check_ratios(rows: &[checks::Row], peer: fn(&checks::Row) -> f64) -> String {
+    let times = |row: &checks::Row| Times { chunks: row.chunks, ours: row.ours, peer: peer(row) };
+    let of = |fill| rows.iter().filter(|row| row.fill == fill).map(times).collect();
+    ratios(FILLS.iter().map(|&(fill, name)| (name.to_string(), of(fill))).collect())
+}
+
+pub fn checks(rows: &[checks::Row]) -> String {
+    format!(
+        "{}\n\nThe peer (`rust/bench/c/limit.c`) is the same walk written by hand in C: it reads the same words and keeps the same bitmap. \
+         Aim: at most 1.20, and at most 1.10 for the exponent of growth (1 is linear).\n\n{}\n\
+         Relative to the same walk by hand with a bounds check before each word and each mark. The proved check has these, since it relies on no earlier walk.\n\n{}",
+        measured(),
+        check_ratios(rows, |row| row.limit),
+        check_ratios(rows, |row| row.bounded)
+    )
+}
+
+fn patrol_ratios(rows: &[patrols::Row], ways: &[Way]) -> String {
+    let times = |row: &patrols::Row| Times { chunks: row.chunks, ours: row.ours, peer: row.limit };
+    let of = |way, fill| rows.iter().filter(|row| row.way == way && row.fill == fill).map(times).collect();
+    let named = WAYS.iter().filter(|(way, _)| ways.contains(way));
+    let lines = named.flat_map(|&(way, by)| FILLS.map(|(fill, name)| (format!("{name}, {by}"), of(way, fill))));
+    ratios(lines.collect())
+}
+
+pub fn patrols(rows: &[patrols::Row]) -> String {
+    format!(
+        "{}\n\nThe peer (`rust/bench/c/patrol.c`) is the same loop written by hand in C: it makes the same tests of each chunk, and goes along the chunks once where nothing is to be mended. \
+         The heaps are undamaged. A full patrol in one run and in runs of 16 chunks; aim: at most 1.20.\n\n{}\n\
+         One run of 16 chunks from the start. Its time must not grow with the heap: an exponent of 0.\n\n{}",
+        measured(),
+        patrol_ratios(rows, &[Way::OneRun, Way::RunsOf16]),
+        patrol_ratios(rows, &[Way::FirstRunOf16])
+    )
+}
+
+fn call_ratios(rows: &[calls::Row]) -> String {
     let names: Vec<&str> = rows[0].peers.iter().map(|peer| peer.name).collect();
     let rest: Vec<String> = names.iter().map(|name| format!("rest to {name}")).collect();
     let mut text =
@@ -80,27 +133,19 @@ fn calls(rows: &[calls::Row]) -> String {
     text
 }
 
-pub fn whole(checked: &[checks::Row], called: &[calls::Row]) -> String {
-    let missing = if called[0].peers.len() == 1 {
+pub fn calls(rows: &[calls::Row]) -> String {
+    let missing = if rows[0].peers.len() == 1 {
         "Debian's `newlib-source` is not installed here, so newlib's two allocators are left out.\n\n"
     } else {
         ""
     };
     format!(
-        "# Benchmarks\n\n{METHOD}\nMeasured on: {}. {ROUNDS} rounds.\n\n\
-         ## The check, relative to a walk by hand\n\n\
-         The peer (`rust/bench/c/limit.c`) is the same walk written by hand in C: it reads the same words and keeps the same bitmap. \
-         Aim: at most 1.20, and at most 1.10 for the exponent of growth (1 is linear).\n\n{}\n\
-         Relative to the same walk by hand with a bounds check before each word and each mark. The proved check has these, since it relies on no earlier walk.\n\n{}\n\
-         ## The calls, relative to other allocators\n\n\
-         Each of newlib's two allocators has one fixed arena of 65,536 bytes, as the heap has; glibc's takes memory from the system. \
+        "{}\n\nEach of newlib's two allocators has one fixed arena of 65,536 bytes, as the heap has; glibc's takes memory from the system. \
          A step frees one strip and allocates another (reallocate: it resizes one). \
          Its parts are the checks, the walk that finds a live block, and the rest. Walk and rest are measured on a steady heap, which each step brings back to the same state, \
          so that the check can be measured alone on those states; the checks are what remains of a step of the load. \
          The peers' columns give the ratio of the steps; the last columns give the ratio of the rest to the peer's step on a steady heap. Aim of the rest: not slower than newlib's.\n\n{missing}{}",
-        machine(),
-        checks(checked, |row| row.limit),
-        checks(checked, |row| row.bounded),
-        calls(called)
+        measured(),
+        call_ratios(rows)
     )
 }
