@@ -40,6 +40,9 @@ fn main() -> std::io::Result<()> {
             return Ok(());
         }
     }
+    if let Some(unknown) = words.iter().find(|word| PARTS.iter().all(|(part, ..)| part != word)) {
+        panic!("{unknown} is no part of the page: check, patrol, calls");
+    }
     let path = Path::new(env!("CARGO_MANIFEST_DIR")).join("../../docs/BENCHMARKS.md");
     let before = fs::read_to_string(&path).unwrap_or_default();
     let mut page = report::method();

@@ -16,6 +16,12 @@ pub enum Link {
     Skips,
 }
 
+impl Link {
+    pub fn is_believed(self) -> bool {
+        matches!(self, Link::Believed | Link::BelievedOverOther)
+    }
+}
+
 #[derive(Clone, Copy, Debug, PartialEq, Eq)]
 pub enum Walk {
     /// The next chunk.
@@ -80,9 +86,11 @@ impl Words<'_> {
 
     /// The next chunk, by a link that is believed or mended.
     pub fn next(self, place: u32) -> Option<u32> {
-        match (self.judged(place), self.walked(place)) {
-            (Link::Believed | Link::BelievedOverOther, _) => Some(self.forward(place)),
-            (_, Walk::Found(next)) => Some(next),
+        if self.judged(place).is_believed() {
+            return Some(self.forward(place));
+        }
+        match self.walked(place) {
+            Walk::Found(next) => Some(next),
             _ => None,
         }
     }

@@ -93,7 +93,7 @@ fn run_turns(words: Words, from: u32, chunks: u32) -> Vec<&'static str> {
         }
         let link = words.judged(place);
         turns.push(link_turn(link));
-        if !matches!(link, Link::Believed | Link::BelievedOverOther) {
+        if !link.is_believed() {
             turns.push(walk_turn(words.walked(place)));
         }
         let Some(next) = words.next(place) else {

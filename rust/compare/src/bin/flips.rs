@@ -1,7 +1,7 @@
 //! What a full patrol makes of one flipped bit in a forward link: flips every bit of every forward link of a few heaps,
 //! one at a time, and counts what comes of it. The proved heap patrols.
 
-use compare::judge::{Link, Words};
+use compare::judge::Words;
 use compare::random::Random;
 use compare::side::{proved, Action, Side};
 use compare::view::{index, View, FORWARD};
@@ -107,13 +107,12 @@ impl Counts {
 
     fn flip(&mut self, side: &mut Side, sound: &Side, place: u32, bit: u32) {
         side.region[index(place, FORWARD)] ^= 1 << bit;
-        match Words(&side.region).judged(place) {
-            Link::Believed | Link::BelievedOverOther => self.count_believed(side, sound, place, bit),
-            _ => {
-                assert_eq!(one_run(side), 0, "a single broken link is mended");
-                assert!(side.region == sound.region, "exactly");
-                self.mended += 1;
-            }
+        if Words(&side.region).judged(place).is_believed() {
+            self.count_believed(side, sound, place, bit);
+        } else {
+            assert_eq!(one_run(side), 0, "a single broken link is mended");
+            assert!(side.region == sound.region, "exactly");
+            self.mended += 1;
         }
         put_back(side, sound);
     }
