@@ -123,11 +123,11 @@ uint32_t kz_ask_bin(uint32_t *region, size_t words, uint32_t *record, uint32_t q
    - if only backward links and free sizes were damaged, and no wrong backward link gives the sign of a skipped chunk;
    - if one forward link was damaged and is broken, and all else is whole. Of two broken forward links nothing is promised.
 
-   It does not mend flags, bin links, bin words, or a wrong forward link that is not broken. Such a link is believed: some flips of
-   one bit make it name a place inside a chunk. To mend the backward link above is then to write a word into that chunk, perhaps
-   into a live block, and the run is mostly beyond mending at the next chunk. A run that covers the whole heap is then refused
-   before it has written anything; after runs of one chunk the word stays written. So make runs as large as the idle time allows,
-   and call kz_check after a patrol.
+   It does not mend flags, bin links, bin words, or a wrong forward link that is not broken. Such a link is believed: of all flips
+   of one bit in a forward link a fifth to a third make it name a place inside a chunk (counted on heaps of 20 to 2,000 blocks).
+   To mend the backward link above is then to write a word into that chunk, perhaps into a live block. The place there is nearly
+   always beyond mending: a run that comes to it is refused before it has written anything, but a run that ended just before it
+   has written the word. So make runs as large as the idle time allows, at best the whole heap, and call kz_check after a patrol.
 
    Refusals: KZ_RUN_SIZE if chunks is 0. KZ_HEAP_FAILS only if the region's length or the recorded heap bytes are no heap's, or the
    place is no multiple of 8 from 0 to the end chunk. KZ_BEYOND_MENDING if the walk from the end meets a link that leaves the heap,
