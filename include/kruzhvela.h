@@ -135,7 +135,8 @@ uint32_t kz_ask_bin(uint32_t *region, size_t words, uint32_t *record, uint32_t q
    no later run passes that chunk, and only kz_setup brings the place back to the start.
 
    Time grows with `chunks`, not with the heap, as long as no link is broken. A run takes @STACK@ bytes of stack on a heap without
-   a broken link, whatever `chunks`, and @LINK@ bytes more for each broken link that it meets. */
+   a broken link, whatever `chunks`, and @LINK@ bytes more for each broken link that it meets. So it never takes more than
+   @STACK@ bytes and @LINK@ bytes times `chunks`: where the stack is small, that is the limit of a run. */
 uint32_t kz_patrol(uint32_t *region, size_t words, uint32_t *record, uint32_t chunks, uint32_t *answer);
 
 #ifdef __cplusplus

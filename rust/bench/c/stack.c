@@ -16,6 +16,7 @@ static uint32_t region[WORDS], sound[WORDS], record[KZ_RECORD_WORDS], answer[KZ_
 static _Alignas(4096) unsigned char stack[STACK];
 
 static Call *volatile called;
+static volatile size_t lowest; /* 0; the compiler must not know it, or it would make less room */
 static uint32_t run_size;
 
 static uint32_t nothing(uint32_t *a, size_t b, uint32_t *c, uint32_t d, uint32_t *e)
@@ -28,9 +29,9 @@ static uint32_t nothing(uint32_t *a, size_t b, uint32_t *c, uint32_t d, uint32_t
 static void *thread(void *unused)
 {
     volatile unsigned char room[BELOW_THE_THREAD];
-    room[0] = 0;
+    room[lowest] = 0;
     called(region, WORDS, record, run_size, answer);
-    return room[0] == 0 ? unused : NULL;
+    return room[lowest] == 0 ? unused : NULL;
 }
 
 /* Bytes from the stack's top down to the lowest that the call wrote; 0 if there is no thread. */
