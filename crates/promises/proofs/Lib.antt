@@ -26,3 +26,4 @@ pub mod RetracedLaws
 pub mod MendedLaws
 pub mod WrongLaws
 pub mod WrongPatrolLaws
+pub mod SignLaws

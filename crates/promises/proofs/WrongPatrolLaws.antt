@@ -33,14 +33,14 @@ use Rattle.promises.specs.Mended.{OneBroken, Mended}
 use Rattle.promises.specs.Wrong.{walksAll, neverWrites, writesFirst, sizesAll}
 
 -- the smallest heap: start, a top of 24 bytes, end; the patrol at the start
-abbrev smallest : State
+abbrev pub smallest : State
 smallest = run (Setup (24 ∷ []) 0 true ∷ []) (record { words = replicate 10 0; heap = empty })
 
-smallest-words : smallest .words ≡ 8 ∷ 1 ∷ 32 ∷ 0 ∷ 24 ∷ 0 ∷ 0 ∷ 0 ∷ 0 ∷ 9 ∷ []
+pub smallest-words : smallest .words ≡ 8 ∷ 1 ∷ 32 ∷ 0 ∷ 24 ∷ 0 ∷ 0 ∷ 0 ∷ 0 ∷ 9 ∷ []
 unfolding computes
 smallest-words = refl
 
-smallest-passes : Passes (smallest .words) (smallest .heap)
+pub smallest-passes : Passes (smallest .words) (smallest .heap)
 unfolding computes
 smallest-passes = passes-iff (smallest .words) (smallest .heap) .0 refl
 
