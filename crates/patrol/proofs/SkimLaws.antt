@@ -14,7 +14,7 @@ use Rattle.rules.specs.Kinds.{inUse}
 use Rattle.rules.specs.Patrol.{Patrolled, patrolFrom}
 use Rattle.rules.specs.Shape.{entry, flagsAt}
 use Rattle.rules.proofs.PatrolSeek.{NextPlace, next-above}
-use Rattle.rules.proofs.PatrolMends.{Right, Unused}
+use Rattle.rules.proofs.PatrolMends.{Right, HasSize}
 use Rattle.rules.proofs.PatrolParts.{run-right}
 use Rattle.patrol.specs.declared.skim.Skimmed.{Skimmed}
 use Rattle.patrol.specs.Links.{canFollowM}

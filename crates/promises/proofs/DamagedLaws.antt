@@ -22,8 +22,8 @@ use Rattle.rules.specs.Patrol.{mends, patrolled, goesOn, patrolFrom}
 use Rattle.rules.proofs.SpotLaws.{Inside, NextIs, bounds, inside, ends, one-chunk, chunks-apart}
 use Rattle.rules.proofs.NamedLaws.{kind-free}
 use Rattle.rules.proofs.PatrolSeek.{NextPlace, next-above}
-use Rattle.rules.proofs.PatrolMends.{Unused, handled, handled-length, handled-kept, handled-at, handled-link, handled-back, handled-start, handled-size}
-use Rattle.rules.proofs.PatrolAgree.{Agree, agree-same, next-agrees, agree-on}
+use Rattle.rules.proofs.PatrolMends.{HasSize, handled, handled-length, handled-kept, handled-at, handled-link, handled-back, handled-start, handled-size}
+use Rattle.rules.proofs.PatrolAgree.{AgreeFrom, agree-same, next-agrees, agree-on}
 use Rattle.rules.proofs.PatrolRun.{run-ends, run-on}
 use Rattle.rules.proofs.PatrolSound.{above-it, chunk-next, chunk-right, chunk-last}
 use Rattle.promises.specs.Room.{OnChain}
@@ -75,7 +75,7 @@ module _ (ws : List ℕ) (h : Heap) (p : Passes ws h) where
     -- in the middle of a run on the damaged words, which stands at the chunk e: below it all is whole, from there on damaged as it was
     pub record PartMended (us : List ℕ) (e : Entry) : Type 0 where
       pub long : length us ≡ length ws
-      pub agree : Agree end (e .place) vs us
+      pub agree : AgreeFrom end (e .place) vs us
       pub below : (i : ℕ) → i < e .place / 4 → getD us i 0 ≡ getD ws i 0
       pub back : 0 < e .place → word us (e .place) backward ≡ word ws (e .place) backward
       pub beyond : (i : ℕ) → h .bytes / 4 ≤ i → getD us i 0 ≡ getD ws i 0
@@ -116,11 +116,11 @@ module _ (ws : List ℕ) (h : Heap) (p : Passes ws h) where
               ∙ half .back (omega arith)
 
       -- its size, if it is free
-      size-back : Unused us c v → word (handled us c v) c size ≡ word ws c size
+      size-back : HasSize us c v → word (handled us c v) c size ≡ word ws c size
       size-back u =
           handled-size us c v place fits u ∙ sym (chunk-right ws h p e m l .sized (u .0, rw same-flags at (u .1)))
 
-      free-unused : isFree h e ≡ true → Unused us c v
+      free-unused : isFree h e ≡ true → HasSize us c v
       unfolding inUse
       free-unused f =
           let k = kind-free ws h p e m f in
@@ -129,7 +129,7 @@ module _ (ws : List ℕ) (h : Heap) (p : Passes ws h) where
           (omega arith, rw z)
 
       -- every other word of e
-      rest-back : (i : ℕ) → c / 4 + 2 ≤ i → i < v / 4 → (Unused us c v → i ≢ c / 4 + size) → getD (handled us c v) i 0 ≡ getD ws i 0
+      rest-back : (i : ℕ) → c / 4 + 2 ≤ i → i < v / 4 → (HasSize us c v → i ≢ c / 4 + size) → getD (handled us c v) i 0 ≡ getD ws i 0
       rest-back i lo hi n =
           let above = next-above place in
           let under = place .inside in
@@ -142,10 +142,10 @@ module _ (ws : List ℕ) (h : Heap) (p : Passes ws h) where
           other (inr (inl q)) = omega arith
           other (inr (inr (f, q))) = n (free-unused f) q
 
-      unused? : Dec (Unused us c v)
+      unused? : Dec (HasSize us c v)
       unused? = go (decLt 0 c) (inUse (entry c (v - c) (flagsAt us c))) refl
         where
-          go : Dec (0 < c) → (t : Bool) → inUse (entry c (v - c) (flagsAt us c)) ≡ t → Dec (Unused us c v)
+          go : Dec (0 < c) → (t : Bool) → inUse (entry c (v - c) (flagsAt us c)) ≡ t → Dec (HasSize us c v)
           go (yes l) true q = no (λ u. false≢true (sym (u .1) ∙ q))
           go (yes l) false q = yes (l, q)
           go (no n) t q = no (λ u. n (u .0))
@@ -159,7 +159,7 @@ module _ (ws : List ℕ) (h : Heap) (p : Passes ws h) where
           above : c + 8 ≤ v
           above = next-above place
 
-          go : Dec (i < c / 4) → Dec (i ≡ c / 4 + forward) → Dec (i ≡ c / 4 + backward) → Dec (i ≡ c / 4 + size) → Dec (Unused us c v)
+          go : Dec (i < c / 4) → Dec (i ≡ c / 4 + forward) → Dec (i ≡ c / 4 + backward) → Dec (i ≡ c / 4 + size) → Dec (HasSize us c v)
               → getD (handled us c v) i 0 ≡ getD ws i 0
           go (yes low) b d f u =
               handled-at us c v i (λ q. omega arith) (λ q. omega arith) (λ z q. omega arith) (λ k q. omega arith) ∙ half .below i low

@@ -21,7 +21,7 @@ use Rattle.rules.proofs.SpotLaws.{bounds, inside, one-chunk, chunks-apart, ends
 use Rattle.rules.proofs.PatrolSeek.{NextPlace, next-above}
 use Rattle.rules.proofs.PatrolNext.{next-place}
 use Rattle.rules.proofs.PatrolMends.{handled, handled-length, handled-link}
-use Rattle.rules.proofs.PatrolAgree.{Agree, next-agrees, agree-on}
+use Rattle.rules.proofs.PatrolAgree.{AgreeFrom, next-agrees, agree-on}
 use Rattle.rules.proofs.PatrolRun.{run-lost, run-on, Handling, ends, lost, on, handling}
 use Rattle.rules.proofs.PatrolParts.{went-on, From, run-fall}
 use Rattle.rules.proofs.PatrolSound.{above-it, chunk-right}
@@ -42,7 +42,7 @@ module _ (ws : List ℕ) (h : Heap) (p : Passes ws h) (vs : List ℕ) where
   -- a run on the words us that puts all words back
   pub record Back (n : ℕ) (us : List ℕ) (c : ℕ) : Type 0 where
     pub long : length us ≡ length ws
-    pub agree : Agree end c vs us
+    pub agree : AgreeFrom end c vs us
     pub stores : List Store
     pub run : patrolFrom n us end c ≡ some (patrolled 0 true stores)
     pub whole : written us stores ≡ ws

@@ -20,16 +20,16 @@ use Rattle.rules.proofs.PatrolNext.{next-believed, next-sought}
 use Rattle.rules.proofs.PatrolMends.{handled, own, mends-are, handled-length, handled-kept, handled-at, handled-back}
 
 -- the regions ws and vs agree in all that handling the chunk at c looks at
-pub record Agree (end c : ℕ) (ws vs : List ℕ) : Type 0 where
+pub record AgreeFrom (end c : ℕ) (ws vs : List ℕ) : Type 0 where
   pub link : word vs c forward ≡ word ws c forward
   pub flags : flagsAt vs c ≡ flagsAt ws c
   pub start : c ≡ 0 → word vs c backward ≡ word ws c backward
   pub upper : (i : ℕ) → c / 4 + 2 ≤ i → i < end / 4 + 2 → getD vs i 0 ≡ getD ws i 0
 
-pub agree-same : (end c : ℕ) (ws : List ℕ) → Agree end c ws ws
+pub agree-same : (end c : ℕ) (ws : List ℕ) → AgreeFrom end c ws ws
 agree-same end c ws = record { link = refl; flags = refl; start = λ z. refl; upper = λ i lo hi. refl }
 
-module _ (end c : ℕ) (ws vs : List ℕ) (eights : c % 8 ≡ 0) (last : end % 8 ≡ 0) (a : Agree end c ws vs) where
+module _ (end c : ℕ) (ws vs : List ℕ) (eights : c % 8 ≡ 0) (last : end % 8 ≡ 0) (a : AgreeFrom end c ws vs) where
   -- the words of a chunk above c, up to the end, and the size word of c
   upper-word : (d j : ℕ) → c / 4 + 2 ≤ d / 4 + j → d / 4 + j < end / 4 + 2 → word vs d j ≡ word ws d j
   unfolding word
@@ -135,7 +135,7 @@ module _ (end c : ℕ) (ws vs : List ℕ) (eights : c % 8 ≡ 0) (last : end % 8
             ap (λ (w : ℕ). w % 8) (List·getD-eq-default (handled vs c v) 0 (omega arith) ∙ sym (List·getD-eq-default vs 0 (omega arith)))
 
     -- what is written leaves them agreeing from v on
-    pub agree-on : Agree end v ws (handled vs c v)
+    pub agree-on : AgreeFrom end v ws (handled vs c v)
     agree-on =
         let up = next-above n in
         let far = next-far n in

@@ -39,8 +39,8 @@ module _ (ws : List ℕ) (c k v : ℕ) where
 -- the chunk at c, with the next one at v
 module _ (ws : List ℕ) (c v : ℕ) where
   -- it is free, and has a size word
-  abbrev pub Unused : Type 0
-  Unused = (0 < c) × (inUse (entry c (v - c) (flagsAt ws c)) ≡ false)
+  abbrev pub HasSize : Type 0
+  HasSize = (0 < c) × (inUse (entry c (v - c) (flagsAt ws c)) ≡ false)
 
   -- what is mended of the chunk's own words beside its forward link
   abbrev pub own : List Store
@@ -60,7 +60,7 @@ module _ (ws : List ℕ) (c v : ℕ) where
 
   -- of the chunk's own words: P holds of what is done, if it holds at the start, of a free chunk, and of a chunk in use above the start
   own-by : (P : List Store → Type 0) → (c ≡ 0 → P (mend ws c backward (flagsAt ws c)))
-      → (Unused → P (mend ws c size (v - c)))
+      → (HasSize → P (mend ws c size (v - c)))
       → (0 < c → inUse (entry c (v - c) (flagsAt ws c)) ≡ true → P [])
       → P own
   own-by P start free taken = go (eqb c 0) refl (inUse (entry c (v - c) (flagsAt ws c))) refl
@@ -76,7 +76,7 @@ module _ (ws : List ℕ) (c v : ℕ) where
     pub link : word ws c forward ≡ v
     pub back : word ws v backward ≡ c + flagsAt ws v
     pub start : c ≡ 0 → word ws c backward ≡ flagsAt ws c
-    pub sized : Unused → word ws c size ≡ v - c
+    pub sized : HasSize → word ws c size ≡ v - c
 
   pub mends-none : Right → mends ws c v ≡ []
   mends-none r =
@@ -88,7 +88,7 @@ module _ (ws : List ℕ) (c v : ℕ) where
 
   -- into which words the stores fall
   pub mends-fall : (P : ℕ → Type 0) → P (c / 4 + forward) → P (v / 4 + backward) → (c ≡ 0 → P (c / 4 + backward))
-      → (Unused → P (c / 4 + size)) → Fall P (mends ws c v)
+      → (HasSize → P (c / 4 + size)) → Fall P (mends ws c v)
   mends-fall P first second third fourth =
       rw mends-are
       (fall-both P (forth ++ back) own
@@ -105,10 +105,10 @@ module _ (ws : List ℕ) (c v : ℕ) where
 
   -- a word into which no store falls is kept
   pub handled-kept : (d j : ℕ) → d / 4 + j ≢ c / 4 + forward → d / 4 + j ≢ v / 4 + backward
-      → (c ≡ 0 → d / 4 + j ≢ c / 4 + backward) → (Unused → d / 4 + j ≢ c / 4 + size) → word handled d j ≡ word ws d j
+      → (c ≡ 0 → d / 4 + j ≢ c / 4 + backward) → (HasSize → d / 4 + j ≢ c / 4 + size) → word handled d j ≡ word ws d j
   handled-kept d j a b e f = off (mends ws c v) ws d j (mends-fall (λ w. d / 4 + j ≢ w) a b e f)
 
-  pub handled-at : (i : ℕ) → i ≢ c / 4 + forward → i ≢ v / 4 + backward → (c ≡ 0 → i ≢ c / 4 + backward) → (Unused → i ≢ c / 4 + size)
+  pub handled-at : (i : ℕ) → i ≢ c / 4 + forward → i ≢ v / 4 + backward → (c ≡ 0 → i ≢ c / 4 + backward) → (HasSize → i ≢ c / 4 + size)
       → getD handled i 0 ≡ getD ws i 0
   unfolding word
   handled-at i a b e f =
@@ -134,7 +134,7 @@ module _ (ws : List ℕ) (c v : ℕ) where
         off back (written ws forth) d j (mend-fall ws v backward (c + flagsAt ws v) (λ w. d / 4 + j ≢ w) b)
         ∙ off forth ws d j (mend-fall ws c forward v (λ w. d / 4 + j ≢ w) a)
 
-    own-off : (d j : ℕ) → (c ≡ 0 → d / 4 + j ≢ c / 4 + backward) → (Unused → d / 4 + j ≢ c / 4 + size) → word handled d j ≡ word linked d j
+    own-off : (d j : ℕ) → (c ≡ 0 → d / 4 + j ≢ c / 4 + backward) → (HasSize → d / 4 + j ≢ c / 4 + size) → word handled d j ≡ word linked d j
     own-off d j a b =
         rw parts
         (off own linked d j
@@ -166,12 +166,12 @@ module _ (ws : List ℕ) (c v : ℕ) where
         (λ u z. absurd (omega arith))
         (λ l u z. absurd (omega arith)))
 
-    pub handled-size : Unused → word handled c size ≡ v - c
+    pub handled-size : HasSize → word handled c size ≡ v - c
     handled-size =
         let up = next-above n in
         let long = linked-length in
         rw parts
-        (own-by (λ ss. Unused → word (written linked ss) c size ≡ v - c)
+        (own-by (λ ss. HasSize → word (written linked ss) c size ≡ v - c)
         (λ z u. absurd (omega arith))
         (λ u _. let f = next-far n (u .0) in
         mend-does ws c size (v - c) linked (linked-kept c size (λ e. omega arith) (λ e. omega arith)) (omega arith))

@@ -16,7 +16,7 @@ use Rattle.rules.specs.Patrol.{nextOf, mends, Patrolled, patrolled, goes
 use Rattle.rules.proofs.PatrolSeek.{NextPlace}
 use Rattle.rules.proofs.PatrolNext.{next-place}
 use Rattle.rules.proofs.PatrolMends.{handled}
-use Rattle.rules.proofs.PatrolAgree.{Agree, agree-same, next-agrees, mends-agree, agree-on}
+use Rattle.rules.proofs.PatrolAgree.{AgreeFrom, agree-same, next-agrees, mends-agree, agree-on}
 
 -- the run on the words as they came, with nothing written on the way
 abbrev pub plan : ℕ → List ℕ → ℕ → ℕ → Option Patrolled
@@ -92,7 +92,7 @@ module _ (end : ℕ) (last : end % 8 ≡ 0) (P : List ℕ → ℕ → Patrolled 
 
 module _ (end : ℕ) (last : end % 8 ≡ 0) where
   -- a run on words that agree with ws from c on
-  pub plan-agrees : (f c : ℕ) (ws vs : List ℕ) → c % 8 ≡ 0 → c ≤ end → Agree end c ws vs → patrolFrom f vs end c ≡ plan f ws end c
+  pub plan-agrees : (f c : ℕ) (ws vs : List ℕ) → c % 8 ≡ 0 → c ≤ end → AgreeFrom end c ws vs → patrolFrom f vs end c ≡ plan f ws end c
   plan-agrees zero c ws vs e l a = refl
   plan-agrees (suc f) c ws vs e l a =
       go (handling ws end c) (λ v n. plan-agrees f v ws (handled vs c v) (n .eights) (n .inside) (agree-on end c ws vs e last a v n))
@@ -112,7 +112,7 @@ module _ (end : ℕ) (last : end % 8 ≡ 0) where
 
 -- words above the end chunk's make no difference
 module _ (end : ℕ) (last : end % 8 ≡ 0) (us vs : List ℕ) (same : (i : ℕ) → i < end / 4 + 2 → getD vs i 0 ≡ getD us i 0) where
-  alike : (c : ℕ) → c ≤ end → Agree end c us vs
+  alike : (c : ℕ) → c ≤ end → AgreeFrom end c us vs
   unfolding word
   alike c l =
       record {
