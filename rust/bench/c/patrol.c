@@ -1,5 +1,6 @@
-/* The peer of the proved patrol, written by hand in C: the same tests of each chunk, on the words as they came. It goes along a
-   second time, and writes, only if the first time found something to mend and nothing beyond mending. */
+/* The peer of the proved patrol, written by hand in C. It passes over the chunks at which all is right, in one loop that writes
+   nothing. From the first chunk at which something is wrong it goes along twice: to see whether a link is beyond mending, then to
+   write. */
 #include <stdbool.h>
 #include <stddef.h>
 #include <stdint.h>
@@ -16,7 +17,7 @@ typedef struct {
 /* Where a run comes to. */
 typedef struct {
     uint32_t place;
-    bool ended, wrong, beyond;
+    bool ended, beyond;
 } Run;
 
 static inline uint32_t *word(Heap heap, uint32_t chunk, uint32_t number)
@@ -55,36 +56,73 @@ static uint32_t chunk_above(Heap heap, uint32_t broken)
     }
 }
 
-/* True if the word was not so already. */
-static inline bool mend(uint32_t *word, uint32_t value, bool writes)
+static inline void mend(uint32_t *word, uint32_t value, bool writes)
 {
-    bool wrong = *word != value;
-    if (wrong && writes)
+    if (writes && *word != value)
         *word = value;
-    return wrong;
 }
 
-static inline Run go(Heap heap, uint32_t at, uint32_t chunks, bool writes)
+/* Handles chunks by the whole rule, with or without the writes. */
+static Run go(Heap heap, uint32_t at, uint32_t chunks, bool writes)
 {
-    bool wrong = false;
     for (; chunks > 0; chunks--) {
         if (at == heap.end)
-            return (Run){.ended = true, .wrong = wrong};
+            return (Run){.ended = true};
         uint32_t next = *word(heap, at, FORWARD), back = *word(heap, at, BACKWARD);
         if (is_broken(heap, at, next)) {
             next = chunk_above(heap, at);
             if (next == 0)
                 return (Run){.beyond = true};
-            wrong |= mend(word(heap, at, FORWARD), next, writes);
         }
-        wrong |= mend(word(heap, next, BACKWARD), at | (*word(heap, next, BACKWARD) & FLAGS), writes);
+        mend(word(heap, at, FORWARD), next, writes);
+        mend(word(heap, next, BACKWARD), at | (*word(heap, next, BACKWARD) & FLAGS), writes);
         if (at == 0)
-            wrong |= mend(word(heap, at, BACKWARD), back & FLAGS, writes);
+            mend(word(heap, at, BACKWARD), back & FLAGS, writes);
         else if ((back & IN_USE) == 0)
-            wrong |= mend(word(heap, at, SIZE), next - at, writes);
+            mend(word(heap, at, SIZE), next - at, writes);
         at = next;
     }
-    return (Run){.place = at, .wrong = wrong};
+    return (Run){.place = at};
+}
+
+/* Passes over chunks above the start while all is right, and counts them off. A backward link that names the chunk below gives no
+   sign of a skipped one, so that one comparison covers both. */
+static inline uint32_t pass_over(Heap heap, uint32_t at, uint32_t *chunks)
+{
+    uint32_t left = *chunks, back = *word(heap, at, BACKWARD);
+    while (left > 0 && at != heap.end) {
+        uint32_t next = *word(heap, at, FORWARD);
+        if (next > heap.end || next % ALIGNMENT != 0 || next < at + LEAST_CHUNK)
+            break;
+        uint32_t above = *word(heap, next, BACKWARD);
+        if ((above & ~(uint32_t)FLAGS) != at || ((back & IN_USE) == 0 && *word(heap, at, SIZE) != next - at))
+            break;
+        at = next;
+        back = above;
+        left--;
+    }
+    *chunks = left;
+    return at;
+}
+
+static inline bool start_is_right(Heap heap)
+{
+    uint32_t next = *word(heap, 0, FORWARD);
+    return next <= heap.end && next % ALIGNMENT == 0 && next >= HEADER_BYTES && below(heap, next) == 0 && below(heap, 0) == 0;
+}
+
+static Run run(Heap heap, uint32_t at, uint32_t chunks)
+{
+    if (at == 0 && start_is_right(heap)) {
+        at = *word(heap, 0, FORWARD);
+        chunks--;
+    }
+    if (at != 0)
+        at = pass_over(heap, at, &chunks);
+    Run end = go(heap, at, chunks, false);
+    if (!end.beyond)
+        go(heap, at, chunks, true);
+    return end;
 }
 
 static uint32_t refused(uint32_t *answer, uint32_t number)
@@ -101,13 +139,10 @@ uint32_t limit_patrol(uint32_t *words, size_t count, uint32_t *record, uint32_t 
     if (count < FEWEST_WORDS || count > MOST_WORDS || record[KZ_RECORD_BYTES] != count / 2 * ALIGNMENT ||
         place % ALIGNMENT != 0 || place >= record[KZ_RECORD_BYTES])
         return refused(answer, KZ_HEAP_FAILS);
-    Heap heap = {words, record[KZ_RECORD_BYTES] - HEADER_BYTES};
-    Run run = go(heap, place, chunks, false);
-    if (run.beyond)
+    Run end = run((Heap){words, record[KZ_RECORD_BYTES] - HEADER_BYTES}, place, chunks);
+    if (end.beyond)
         return refused(answer, KZ_BEYOND_MENDING);
-    if (run.wrong)
-        go(heap, place, chunks, true);
-    record[KZ_RECORD_PATROL] = run.place;
-    answer[KZ_ANSWER_VALUE] = run.ended;
+    record[KZ_RECORD_PATROL] = end.place;
+    answer[KZ_ANSWER_VALUE] = end.ended;
     return KZ_ACCEPTED;
 }

@@ -94,7 +94,7 @@ fn patrol_ratios(rows: &[patrols::Row], ways: &[Way]) -> String {
 
 pub fn patrols(rows: &[patrols::Row]) -> String {
     format!(
-        "{}\n\nThe peer (`rust/bench/c/patrol.c`) is the same loop written by hand in C: it makes the same tests of each chunk, and goes along the chunks once where nothing is to be mended. \
+        "{}\n\nThe peer (`rust/bench/c/patrol.c`) is the same loop written by hand in C: it makes the same tests of each chunk, and goes along once where nothing is wrong. \
          The heaps are undamaged. A full patrol in one run and in runs of 16 chunks; aim: at most 1.20.\n\n{}\n\
          One run of 16 chunks from the start. Its time must not grow with the heap: an exponent of 0.\n\n{}",
         measured(),
