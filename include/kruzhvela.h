@@ -21,7 +21,7 @@
 #define KZ_RECORD_BINS 1  /* number of bins */
 #define KZ_RECORD_DONOR 2 /* the donor's place, 0 for none */
 #define KZ_RECORD_TOP 3
-#define KZ_RECORD_MERGE 4 /* 0 or 1; any other value is damage: KZ_HEAP_FAILS */
+#define KZ_RECORD_MERGE 4 /* 0 or 1; any other value is damage: KZ_HEAP_FAILS, but not from the patrol, which does not read it */
 #define KZ_RECORD_USED 5  /* used bytes */
 #define KZ_RECORD_SIZES 6 /* the three arrays: bin sizes, heads and tails of the bin lists */
 #define KZ_RECORD_HEADS (KZ_RECORD_SIZES + KZ_MOST_BINS)
