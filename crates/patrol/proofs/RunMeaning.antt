@@ -4,7 +4,7 @@ use mathlib.Core.Path.{_≡_, refl, sym, ap, _∙_}
 use mathlib.Core.Bool.{Bool, true, false, cond, false≢true}
 use mathlib.Core.List.{List, []}
 use mathlib.Core.Option.{Option, some, none, Option·some-injective, Option·none-ne-some}
-use Prim.Native.Nat.{ℕ, zero, suc, _%_, _≤_}
+use Prim.Native.Nat.{ℕ, zero, suc, _-_, _%_, _≤_}
 use native.Mathlib.Omega.{arith}
 use Rattle.record.specs.Heap.{at}
 use Rattle.region.specs.Words.{written}
@@ -105,7 +105,19 @@ walk-writes (suc k) ws end c last e l r h =
             ∙ ap (walked (endsIn (t .ended) (t .place))) (sym (written-append (mends ws c v) (t .stores) ws))
             ∙ ap (walkedBy ws) z
 
--- the code of `run`: s is what is left after the whole chunks, v and vs what the walk that decides came to, t its test
+-- the code of `run`: s is what is left after the whole chunks; where nothing is left to mend, that is the run
+module _ (ws : List ℕ) (end c chunks : ℕ) {s : Skimmed} (es : s ≡ skimM chunks ws end c) where
+  pub run-spent : s .left ≡ 0 → walked (Paused (s .chunk)) ws ≡ runM chunks ws end c
+  unfolding runM walkM
+  run-spent z = rw (← es, z)
+
+  pub run-ended : (s .left ≡ 0 → ⊥) → s .chunk .0 ≡ end → walked Ended ws ≡ runM chunks ws end c
+  unfolding runM
+  run-ended left-over e =
+      let more : s .left ≡ suc (s .left - 1) = omega arith in
+      rw (← es, more, walk-ends false ws end (s .chunk .0) (s .left - 1) e, walk-ends true ws end (s .chunk .0) (s .left - 1) e)
+
+-- v and vs are what the walk that decides came to, t its test
 module _ (ws : List ℕ) (end c chunks : ℕ) {s : Skimmed} (es : s ≡ skimM chunks ws end c) {v : Verdict} {vs : List ℕ}
     (ev : walked v vs ≡ walkM false (s .left) ws end (s .chunk .0)) {t : Bool} (et : t ≡ isLostM v) where
   pub words-stay : vs ≡ ws

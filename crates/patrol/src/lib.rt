@@ -32,11 +32,18 @@ pub fn run(region: &mut [u32], end: u32, from: Chunk, chunks: u32) -> Verdict
     ensures { λ r. ⌜ walked r (now (region .exit)) ≡ runM chunks (now (region .entry)) end (from .0) ⌝ }
 {
     let skimmed = skim(region, end, from, chunks);
-    let first = forward(region, end, skimmed.chunk, skimmed.left, false);
+    let chunk = skimmed.chunk;
+    if skimmed.left == 0 {
+        return Verdict::Paused(chunk);
+    }
+    if chunk.0 == end {
+        return Verdict::Ended;
+    }
+    let first = forward(region, end, chunk, skimmed.left, false);
     if is_lost(first) {
         return Verdict::Lost;
     }
-    forward(region, end, skimmed.chunk, skimmed.left, true)
+    forward(region, end, chunk, skimmed.left, true)
 }
 
 // The place is a multiple of 8, up to the end chunk, in a region of the right length.

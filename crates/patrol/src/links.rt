@@ -48,9 +48,9 @@ fn is_skip(region: &[u32], chunk: Chunk, link: u32) -> bool
     word(region, Chunk(between), FORWARD) == link
 }
 
-// The link stays in the heap, leads to a multiple of 8, and goes up by no less than a chunk is long.
-pub fn can_follow(end: u32, chunk: Chunk, link: u32) -> bool
-    ensures { λ r. ⌜ r ≡ canFollowM end (chunk .0) link ⌝ }
+// The link stays in the heap, leads to a multiple of 8, and goes up by no less than `least`. In 64 bits the sum does not wrap.
+pub fn can_follow(end: u32, chunk: Chunk, least: u32, link: u32) -> bool
+    ensures { λ r. ⌜ r ≡ canFollowM end (chunk .0) least link ⌝ }
 {
     if end < link {
         return false;
@@ -58,13 +58,13 @@ pub fn can_follow(end: u32, chunk: Chunk, link: u32) -> bool
     if link % ALIGNMENT != 0 {
         return false;
     }
-    !is_near(chunk.0, link)
+    chunk.0 as u64 + least as u64 <= link as u64
 }
 
 pub fn is_broken(region: &[u32], end: u32, chunk: Chunk, link: u32) -> bool
     ensures { λ r. ⌜ r ≡ broken (now (region .entry)) end (chunk .0) link ⌝ }
 {
-    if !can_follow(end, chunk, link) {
+    if !can_follow(end, chunk, least_size(chunk.0), link) {
         return true;
     }
     is_skip(region, chunk, link)

@@ -15,7 +15,7 @@ returns-2 c = rw (le-leb _ _ (c .before .if1 .left), ne-eqb _ _ (c .if2 .taken))
 
 returns-3 : tie.Need-returns-3
 unfolding canFollowM
-returns-3 c = rw (le-leb _ _ (c .before .before .if1 .left), eq-eqb _ _ (c .before .if2 .left), c .is-near .ensures)
+returns-3 c = rw (le-leb _ _ (c .before .before .if1 .left), eq-eqb _ _ (c .before .if2 .left))
 
 pub can-follow-spec : {M : Type 1} → statement M
-can-follow-spec = tie.close (tie.spec returns returns-2 (λ c κs. search needs) returns-3)
+can-follow-spec = tie.close (tie.spec returns returns-2 (λ c. search needs) (λ c. search needs) returns-3)

@@ -1,4 +1,4 @@
--- `skim::is_right` tests the start's backward link, or a free chunk's size. Assumes nothing.
+-- `skim::is_right` tests a free chunk's size. Assumes nothing.
 use borrow.Author.Needs.{needs}
 use borrow.Author.Tests.{eq-eqb, ne-eqb}
 use Rattle.patrol.specs.Skim.{isRightM}
@@ -11,17 +11,7 @@ returns c = rw (eq-eqb _ _ (c .if1 .taken))
 
 returns-2 : tie.Need-returns-2
 unfolding isRightM
-returns-2 c = rw (ne-eqb _ _ (c .before .if1 .left), eq-eqb _ _ (c .if2 .taken))
-
-returns-3 : tie.Need-returns-3
-unfolding isRightM
-returns-3 c =
-    rw (
-      ne-eqb _ _ (c .before .before .before .if1 .left),
-      ne-eqb _ _ (c .before .before .if2 .left),
-      c .distance .ensures,
-      c .before .word .ensures,
-    )
+returns-2 c = rw (ne-eqb _ _ (c .before .if1 .left), c .word .ensures)
 
 pub is-right-spec : {M : Type 1} → statement M
-is-right-spec = tie.close (tie.spec returns returns-2 (λ c κs. search needs) (λ c κs. search needs) returns-3)
+is-right-spec = tie.close (tie.spec returns (λ c κs. search needs) returns-2)

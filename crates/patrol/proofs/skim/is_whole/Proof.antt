@@ -1,4 +1,4 @@
--- `skim::is_whole` tests the forward link, the backward link above, and what else the chunk says. Assumes nothing.
+-- `skim::is_whole` tests the forward link, the backward link above, and the size. Assumes nothing.
 use mathlib.Core.Path.{_∙_, sym}
 use borrow.Author.Needs.{needs}
 use borrow.Author.Tests.{not-true, not-false, eq-eqb, ne-eqb}
@@ -18,13 +18,15 @@ returns-2 c =
 returns-3 : tie.Need-returns-3
 unfolding isWholeM
 returns-3 c =
-    let follows = c .before .before .before .before in
+    let named = c .before .before in
     rw (
-      sym (follows .can-follow .ensures) ∙ not-false _ (c .before .before .before .if1 .left),
-      eq-eqb _ _ (c .before .if2 .left),
+      sym (named .before .before .before .can-follow .ensures) ∙ not-false _ (named .before .before .if1 .left),
+      eq-eqb _ _ (named .if2 .left),
       c .is-right .ensures,
+      c .before .distance .ensures,
     )
 
 pub is-whole-spec : {M : Type 1} → statement M
 is-whole-spec =
-    tie.close (tie.spec (λ c κs. search needs) returns (λ c. search needs) returns-2 (λ c κs. search needs) returns-3)
+    tie.close
+    (tie.spec (λ c κs. search needs) returns (λ c. search needs) returns-2 (λ c κs. search needs) (λ c κs. search needs) returns-3)

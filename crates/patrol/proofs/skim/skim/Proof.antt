@@ -1,45 +1,38 @@
--- `skim::skim` passes the chunks at which there is nothing to mend. Assumes nothing.
-use mathlib.Core.Path.{refl}
-use native.Mathlib.Omega.{arith}
+-- `skim::skim` passes the start, if nothing is to mend there, and goes on above it. The blanks: the region's words, end, from and count. Assumes nothing.
 use borrow.Author.Needs.{needs}
-use Rattle.patrol.proofs.SkimLaws.{Skimming, links-are, skim-spent, skim-stops, skim-goes}
+use Rattle.patrol.proofs.SkimLaws.{above-start, none-asked, start-stops, start-goes}
 use Rattle.patrol.proofs.skim.skim.Statement.{statement}
 use Rattle.patrol.proofs.skim.skim.Tie as tie
 
-abbrev Inv-loop : tie.InvT-loop
-Inv-loop region end count at₀ left₀ links₀ at left links = Skimming region end at₀ count at left links
+returns : tie.Need-returns
+returns c = above-start _ _ _ _ (c .before .if1 .taken) (c .skim-above .ensures)
 
-abbrev μ-loop : tie.MeasureT-loop
-μ-loop region end count at₀ left₀ links₀ at left links = left
+returns-2 : tie.Need-returns-2
+returns-2 c = none-asked _ _ _ _ (c .before .if1 .left) (c .if2 .taken)
 
-loop-holds : tie.Need-loop-holds Inv-loop μ-loop
-loop-holds c = record { links = links-are _ _ (c .links-of .ensures); same = refl }
-
-returns : tie.Need-returns Inv-loop μ-loop
-returns c =
+returns-3 : tie.Need-returns-3
+returns-3 c =
     let read = c .before .before in
-    skim-stops (read .before .before .loop .inv) (read .before .loop-test .taken) (read .links-of2 .ensures) (c .before .is-whole .ensures) (c .if1 .taken)
+    start-stops _ _ _ _ (read .before .before .before .if1 .left) (read .before .before .if2 .left) (read .before .links-of .ensures)
+    (read .links-of2 .ensures) (c .before .is-start-whole .ensures) (c .if3 .taken)
 
-loop-again : tie.Need-loop-again Inv-loop μ-loop
-loop-again c =
-    let read = c .before .before in
-    skim-goes (read .before .before .loop .inv) (read .before .loop-test .taken) (read .links-of2 .ensures) (c .before .is-whole .ensures) (c .if1 .left)
-
-returns-2 : tie.Need-returns-2 Inv-loop μ-loop
-returns-2 c = skim-spent (c .before .loop .inv) (c .loop-test .left)
+returns-4 : tie.Need-returns-4
+returns-4 c =
+    let read = c .before .before .before in
+    start-goes _ _ _ _ (read .before .before .before .if1 .left) (read .before .before .if2 .left) (read .before .links-of .ensures)
+    (read .links-of2 .ensures) (c .before .before .is-start-whole .ensures) (c .before .if3 .left) (c .skim-above2 .ensures)
 
 pub skim-spec : {M : Type 1} → statement M
 skim-spec =
     tie.close
     (tie.spec
-    Inv-loop
-    μ-loop
-    (λ c κs. search needs)
-    loop-holds
-    (λ c κs. search needs)
     (λ c κs. search needs)
     returns
+    returns-2
+    (λ c κs. search needs)
+    (λ c κs. search needs)
+    (λ c κs. search needs)
+    returns-3
     (λ c. search needs)
-    (λ c. search needs)
-    loop-again
-    returns-2)
+    (λ c κs. search needs)
+    returns-4)
