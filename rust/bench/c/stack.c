@@ -1,4 +1,4 @@
-/* The stack that kz_patrol takes: on a whole heap for runs of a few sizes, and with broken links in the run.
+/* The stack that kz_patrol takes for runs of a few sizes: on a whole heap, with a wrong backward link, and with broken links.
    tools/run_c native rust/bench/c/stack.c, or x86-64, prints it. A thread makes the call on a stack that was filled before; how far
    down it was written, less what an empty function writes, is what the call took. */
 #define _POSIX_C_SOURCE 200809L
@@ -51,6 +51,13 @@ static size_t depth(Call *call)
     return sizeof stack - low;
 }
 
+/* Makes the backward link of the second block's chunk name no chunk, its flags kept. */
+static void wrong_backward_link(void)
+{
+    memcpy(region, sound, sizeof region);
+    region[(8 + LEAST_CHUNK) / WORD_BYTES + 1] ^= 1u << 20;
+}
+
 /* Breaks so many forward links, evenly spread; the backward links stay whole. */
 static void break_links(uint32_t broken)
 {
@@ -61,17 +68,23 @@ static void break_links(uint32_t broken)
     }
 }
 
-/* Bytes of stack of a run from the start. It must be accepted and leave the sound heap's words. */
-static size_t taken(uint32_t chunks, uint32_t broken)
+/* Bytes of stack of a run from the start on a damaged heap. It must be accepted and leave the sound heap's words. */
+static size_t run(uint32_t chunks, const char *damage)
 {
     run_size = chunks;
-    break_links(broken);
     record[KZ_RECORD_PATROL] = 0;
     size_t bytes = depth(kz_patrol) - depth(nothing);
     bool mended = answer[KZ_ANSWER_REFUSAL] == KZ_ACCEPTED && memcmp(region, sound, sizeof region) == 0;
-    printf("a run of %u chunks, %u broken links: %zu bytes of stack%s\n", (unsigned)chunks, (unsigned)broken, bytes,
-           mended ? "" : ", and NOT mended");
+    printf("a run of %u chunks, %s: %zu bytes of stack%s\n", (unsigned)chunks, damage, bytes, mended ? "" : ", and NOT mended");
     return bytes;
+}
+
+static size_t taken(uint32_t chunks, uint32_t broken)
+{
+    char damage[32];
+    snprintf(damage, sizeof damage, "%u broken links", (unsigned)broken);
+    break_links(broken);
+    return run(chunks, damage);
 }
 
 /* Blocks of the least size, all in use; false if one is refused. */
@@ -95,6 +108,10 @@ int main(void)
     taken(1, 0);
     taken(16, 0);
     taken(2000, 0);
+    wrong_backward_link();
+    run(16, "a wrong backward link");
+    wrong_backward_link();
+    run(2000, "a wrong backward link");
     taken(2000, 1);
     size_t ten = taken(2000, 10), hundred = taken(2000, 100);
     printf("for each broken link %zu bytes more\n", (hundred - ten) / 90);
