@@ -129,10 +129,11 @@ uint32_t kz_ask_bin(uint32_t *region, size_t words, uint32_t *record, uint32_t q
    always beyond mending: a run that comes to it is refused before it has written anything, but a run that ended just before it
    has written the word. So make runs as large as the idle time allows, at best the whole heap, and call kz_check after a patrol.
 
-   Refusals: KZ_RUN_SIZE if chunks is 0. KZ_HEAP_FAILS only if the region's length or the recorded heap bytes are no heap's, or the
-   place is no multiple of 8 from 0 to the end chunk. KZ_BEYOND_MENDING if the walk from the end meets a link that leaves the heap,
-   goes down by less than 24 (8 to the start), or passes below the broken chunk. A refused run writes nothing and keeps its place:
-   no later run passes that chunk, and only kz_setup brings the place back to the start.
+   Refusals: KZ_RUN_SIZE if chunks is 0. KZ_HEAP_FAILS only if the region's length is not permitted, the recorded heap bytes are not
+   those of that length, or the place is no multiple of 8 from 0 to the end chunk. KZ_BEYOND_MENDING if the walk from the end meets
+   a link that leaves the heap, goes down by less than 24 (8 to the start), or passes below the broken chunk. A refused run writes
+   nothing and keeps its place. After KZ_BEYOND_MENDING shorter runs go on up to the broken chunk, no run goes past it, and of all
+   calls kz_setup alone brings the place back to the start.
 
    Time grows with `chunks`, not with the heap, as long as no link is broken. The stack of a run, measured on x86-64 (on 64-bit Arm
    in brackets), is the same for every `chunks` as long as no link is broken: 120 bytes (80) where nothing is wrong, 184 (144) where

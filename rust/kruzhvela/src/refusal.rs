@@ -14,7 +14,8 @@ pub enum Refusal {
     /// Setup: the donor's size is not 0 and is under 24, no multiple of 8, or over the heap bytes less 40.
     DonorSize = 3,
     /// The heap fails the check: something else has written its headers or its record. The patrol gives this only if
-    /// the region's length, the recorded heap bytes or the patrol's place can be no heap's.
+    /// the region's length is not permitted, the recorded heap bytes are not those of that length, or the patrol's place
+    /// is no multiple of 8 from 0 to the end chunk.
     HeapFails = 4,
     /// The size, or the product of a cleared allocate, is 0 or over 65,488.
     BlockSize = 5,
