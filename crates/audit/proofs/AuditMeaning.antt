@@ -6,7 +6,7 @@ use mathlib.Core.List.{List}
 use Prim.Native.Nat.{ℕ, _*_, _/_, _≤_}
 use native.Mathlib.Omega.{arith}
 use lib.ListN.{length, take}
-use Rattle.lists.proofs.ListsLaws.{Decides, number-is, at-most, itself, both, not-so, zeros-from, meaning}
+use Rattle.lists.proofs.ListsLaws.{Decides, at-most, itself, both, not-so, zeros-from, meaning}
 use Rattle.record.specs.declared.answers.Answer.the-variants.{Counted, Refused}
 use Rattle.record.specs.declared.answers.Counts.{Counts}
 use Rattle.record.specs.declared.answers.Refusal.the-variants.{HeapFails}

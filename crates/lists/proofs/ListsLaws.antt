@@ -1,5 +1,5 @@
 -- What tests over lists and numbers decide, so that a conjunction of tests reads as a list of facts; and lists of zeros. Assumes nothing.
-use mathlib.Core.Path.{_≡_, refl}
+use mathlib.Core.Path.{_≡_, refl, sym}
 use mathlib.Core.Logic.{_↔_, _⊎_, inl, inr}
 use mathlib.Core.Bool.{Bool, true, false, not, _&&_, _||_, true≢false, false≢true}
 use mathlib.Core.List.{List, [], _∷_, List·Memᴰ·head, List·Memᴰ·tail, List·Memᴰ·not-nil}
@@ -76,6 +76,16 @@ decided {t} {P} = go t
     go : (t : Bool) → Decides t P → Dec P
     go true d = yes (d .0 refl)
     go false d = no (λ p. false≢true (d .1 p))
+
+-- tests of two equivalent facts are equal
+pub same-test : {t u : Bool} {P Q : Type 0} → Decides t P → Decides u Q → (P → Q) → (Q → P) → t ≡ u
+same-test {t} {u} {P} {Q} = go t u
+  where
+    go : (t u : Bool) → Decides t P → Decides u Q → (P → Q) → (Q → P) → t ≡ u
+    go true true d e f g = refl
+    go true false d e f g = sym (e .1 (f (d .0 refl)))
+    go false true d e f g = d .1 (g (e .0 refl))
+    go false false d e f g = refl
 
 -- what holds of the first member and of all others holds of every member
 pub each-cons : {A : Type 0} {P : A → Type 0} {x : A} {xs : List A} → P x → ((y : A) → Mem y xs → P y)

@@ -7,12 +7,12 @@ use Prim.Native.Nat.{ℕ, _+_, _-_, _/_, _%_}
 use native.Mathlib.Omega.{arith}
 use lib.Dec.{eqb}
 use lib.ListN.{length}
-use borrow.Author.Tests.{eqb-true, eqb-false}
-use Rattle.region.specs.Words.{Store, written, word, forward, backward, size}
+use borrow.Author.Tests.{eqb-false}
+use Rattle.region.specs.Words.{written, word, forward, backward, size}
 use Rattle.region.proofs.WordsLaws.{written-append, length-written, off}
 use Rattle.rules.specs.Kinds.{inUse}
-use Rattle.rules.specs.Patrol.{mend, mends}
-use Rattle.rules.specs.Shape.{entry, flagsAt}
+use Rattle.rules.specs.Patrol.{mend}
+use Rattle.rules.specs.Shape.{flagsAt}
 use Rattle.rules.proofs.PatrolSeek.{NextPlace, next-above, next-far}
 use Rattle.rules.proofs.PatrolMends.{mend-fall, own, forth, back, mends-are, handled}
 use Rattle.patrol.specs.Mends.{mendBackM, mendOwnM, handleM}

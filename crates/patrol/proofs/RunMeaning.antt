@@ -2,14 +2,14 @@
 -- the walk that writes does what the rule does chunk by chunk. Assumes nothing.
 use mathlib.Core.Path.{_≡_, refl, sym, ap, _∙_}
 use mathlib.Core.Bool.{Bool, true, false, cond, false≢true}
-use mathlib.Core.List.{List, []}
+use mathlib.Core.List.{List}
 use mathlib.Core.Option.{Option, some, none, Option·some-injective, Option·none-ne-some}
 use Prim.Native.Nat.{ℕ, zero, suc, _-_, _%_, _≤_}
 use native.Mathlib.Omega.{arith}
 use Rattle.record.specs.Heap.{at}
 use Rattle.region.specs.Words.{written}
 use Rattle.region.proofs.WordsLaws.{written-append}
-use Rattle.rules.specs.Patrol.{nextOf, mends, Patrolled, patrolled, goesOn, patrolFrom}
+use Rattle.rules.specs.Patrol.{mends, Patrolled, goesOn, patrolFrom}
 use Rattle.rules.proofs.PatrolSeek.{NextPlace}
 use Rattle.rules.proofs.PatrolNext.{next-place}
 use Rattle.rules.proofs.PatrolMends.{handled}

@@ -3,7 +3,7 @@
 use mathlib.Core.Path.{_≡_, refl, sym, ap, subst, _∙_}
 use mathlib.Core.Bool.{Bool, true, false, not, cond, _||_, false≢true}
 use mathlib.Core.List.{List}
-use Prim.Native.Nat.{ℕ, zero, suc, _+_, _-_, _%_, _≤_, _<_}
+use Prim.Native.Nat.{ℕ, zero, suc, _-_, _%_, _≤_, _<_}
 use native.Mathlib.Omega.{arith}
 use lib.Dec.{eqb}
 use borrow.Author.Tests.{not-true, not-false, eq-eqb, ne-eqb, eqb-true, eqb-false}
@@ -12,7 +12,7 @@ use Rattle.region.specs.declared.Links.{Links}
 use Rattle.region.specs.Words.{word, forward, backward, size}
 use Rattle.rules.specs.Kinds.{inUse}
 use Rattle.rules.specs.Patrol.{patrolFrom}
-use Rattle.rules.specs.Shape.{entry, flagsAt}
+use Rattle.rules.specs.Shape.{flagsAt}
 use Rattle.rules.proofs.PatrolSeek.{NextPlace, next-above, least-above}
 use Rattle.rules.proofs.PatrolMends.{Right}
 use Rattle.rules.proofs.PatrolParts.{run-right}

@@ -1,29 +1,27 @@
 -- What the code's run leaves is the outcome of the rule, refusals too, for every record with these heap bytes and this place
 -- (`tour-none`, `tour-fails`, `tour-told`). Assumes nothing.
 use mathlib.Core.Path.{_≡_, refl, sym, ap, subst, _∙_}
-use mathlib.Core.Bool.{Bool, true, false, not, cond, _&&_}
+use mathlib.Core.Bool.{Bool, true, false, not, _&&_}
 use mathlib.Core.List.{List, [], _∷_}
 use mathlib.Core.Option.{Option, some, none}
 use Prim.Native.Nat.{ℕ, _+_, _*_, _-_, _/_, _%_, _≤_}
-use native.Mathlib.Decide.{ℕ-discrete}
 use native.Mathlib.Omega.{arith}
 use lib.Dec.{eqb, leb}
 use lib.ListN.{length}
 use borrow.Author.Tests.{eq-eqb, ne-eqb, not-false}
-use Rattle.lists.proofs.ListsLaws.{number-is, at-most, both, itself}
-use Rattle.record.specs.declared.answers.Answer.{Answer}
-use Rattle.record.specs.declared.answers.Answer.the-variants.{Told, Refused}
+use Rattle.lists.proofs.ListsLaws.{number-is, at-most, both, same-test}
+use Rattle.record.specs.declared.answers.Answer.the-variants.{Told}
 use Rattle.record.specs.declared.answers.Refusal.the-variants.{HeapFails, RunSize, BeyondMending}
 use Rattle.record.specs.declared.heap.Heap.{Heap}
 use Rattle.record.specs.Heap.{at}
 use Rattle.region.specs.Words.{Store, written}
 use Rattle.chain.specs.Length.{fitsLengthM}
 use Rattle.chain.proofs.LengthLaws.{length-iff}
-use Rattle.rules.specs.Check.{fits, Fits}
-use Rattle.rules.specs.Shape.{heapBytes}
+use Rattle.rules.specs.Check.{fits}
 use Rattle.rules.specs.Patrol.{Patrolled, patrolled, patrolFrom, placed, patrolRun, isLost, ran, patrol}
 use Rattle.rules.specs.Outcome.{judged}
 use Rattle.rules.specs.Statements.{leftBy}
+use Rattle.rules.proofs.CheckLaws.{fits-iff}
 use Rattle.patrol.specs.declared.walks.Verdict.{Verdict}
 use Rattle.patrol.specs.declared.walks.Verdict.the-variants.{Paused, Ended, Lost}
 use Rattle.patrol.specs.declared.Toured.{Toured}
@@ -33,17 +31,7 @@ use Rattle.patrol.proofs.RunMeaning.{endsIn, walkedBy, ended-start, run
 
 -- the two tests of the region's length are one
 fits-same : (ws : List ℕ) (h : Heap) → fits ws h ≡ fitsLengthM (length ws) (h .bytes)
-unfolding fitsLengthM
-fits-same ws h =
-    let bytes : heapBytes (length ws) ≡ length ws / 2 * 8 = omega arith in
-    ap (λ (t : Bool). leb 10 (length ws) && leb (length ws) 16384 && t) (rw bytes (turned (h .bytes) (length ws / 2 * 8)))
-  where
-    turned : (a b : ℕ) → eqb a b ≡ eqb b a
-    turned a b = go (ℕ-discrete a b)
-      where
-        go : Dec (a ≡ b) → eqb a b ≡ eqb b a
-        go (yes e) = eq-eqb a b e ∙ sym (eq-eqb b a (sym e))
-        go (no n) = ne-eqb a b n ∙ sym (ne-eqb b a (λ e. n (sym e)))
+fits-same ws h = same-test (fits-iff ws h) (length-iff ws h) (λ f. f) (λ f. f)
 
 -- of an accepted run: the answer and the place, by the verdict
 abbrev pub touredIn : Verdict → ℕ → Toured

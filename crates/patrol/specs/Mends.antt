@@ -4,7 +4,7 @@ use mathlib.Core.Bool.{Bool, cond}
 use mathlib.Core.List.{List}
 use Prim.Native.Nat.{ℕ, _+_, _-_, _%_}
 use lib.Dec.{eqb}
-use Rattle.region.specs.Words.{written, word, forward, backward, size}
+use Rattle.region.specs.Words.{written, forward, backward, size}
 use Rattle.rules.specs.Patrol.{mend}
 use Rattle.rules.specs.Shape.{flagsAt}
 

@@ -9,7 +9,7 @@ use lib.Dec.{eqb, ltb}
 use lib.ListN.{length, getD, take, drop}
 use lib.Seq.{getD-take, length-take-le, take-at, drop-at}
 use Rattle.lists.specs.Lists.{headOr, keep}
-use Rattle.lists.proofs.ListsLaws.{Decides}
+use Rattle.lists.proofs.ListsLaws.{same-test}
 use Rattle.lists.proofs.MembersLaws.{kept-from}
 use Rattle.record.specs.declared.answers.Answer.the-variants.{Done, Counted, Refused}
 use Rattle.record.specs.declared.answers.Refusal.the-variants.{HeapFails, RunSize, BeyondMending}
@@ -41,16 +41,6 @@ use Rattle.drafts.proofs.FillLaws.{fillFrom}
 use Rattle.promises.specs.Ways.{ours}
 use Rattle.promises.specs.Odd.{evenWords, oddWord, AlikeButOdd, Odd}
 use Rattle.promises.proofs.InsideLaws.{stores-below}
-
--- tests of two equivalent facts are equal
-same-test : {t u : Bool} {P Q : Type 0} → Decides t P → Decides u Q → (P → Q) → (Q → P) → t ≡ u
-same-test {t} {u} {P} {Q} = go t u
-  where
-    go : (t u : Bool) → Decides t P → Decides u Q → (P → Q) → (Q → P) → t ≡ u
-    go true true d e f g = refl
-    go true false d e f g = sym (e .1 (f (d .0 refl)))
-    go false true d e f g = d .1 (g (e .0 refl))
-    go false false d e f g = refl
 
 -- the stores of two copies of the same words are equal
 copied-same : (c : ℕ) (f g : ℕ → ℕ) (n i : ℕ) → ((k : ℕ) → i ≤ k → k < i + n → f k ≡ g k)

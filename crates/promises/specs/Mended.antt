@@ -14,7 +14,6 @@ use Rattle.rules.specs.Shape.{Entry, chunkEnd, flagsAt}
 use Rattle.rules.specs.Kinds.{endSize, isFree}
 use Rattle.rules.specs.Check.{Passes}
 use Rattle.rules.specs.Patrol.{skips, broken, nextOf}
-use Rattle.rules.specs.Calls.{State}
 use Rattle.promises.specs.Ways.{Way}
 use Rattle.promises.specs.Room.{OnChain}
 use Rattle.promises.specs.FullPatrol.{FullPatrol}

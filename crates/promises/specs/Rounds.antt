@@ -1,14 +1,12 @@
 -- Rounds (document 02, request Two): on a heap that passes, a run of the patrol writes nothing and goes on by exactly the chunks that it was
 -- asked for; from the start the patrol reaches the end in k/f runs, rounded up, for k chunks and f a run, and is at the start again.
 use mathlib.Core.Path.{_≡_}
-use mathlib.Core.List.{List}
 use Prim.Native.Nat.{ℕ, zero, suc, _+_, _-_, _/_, _≤_, _<_}
 use lib.ListN.{length, getD}
 use Rattle.record.specs.declared.answers.Answer.{Answer}
 use Rattle.record.specs.declared.answers.Answer.the-variants.{Told}
-use Rattle.record.specs.declared.heap.Heap.{Heap}
 use Rattle.record.specs.Heap.{withPatrol}
-use Rattle.rules.specs.Shape.{Entry, shape}
+use Rattle.rules.specs.Shape.{shape}
 use Rattle.rules.specs.Ask.{placesOf}
 use Rattle.rules.specs.Statements.{Left}
 use Rattle.rules.specs.Calls.{Patrol, State}

@@ -12,7 +12,7 @@ use Rattle.record.specs.declared.heap.Heap.{Heap}
 use Rattle.record.specs.Heap.{withPatrol}
 use Rattle.record.specs.Table.{least}
 use Rattle.region.specs.Words.{Store, put, written, word, forward, backward, size}
-use Rattle.rules.specs.Shape.{Entry, entry, flagsAt}
+use Rattle.rules.specs.Shape.{entry, flagsAt}
 use Rattle.rules.specs.Kinds.{inUse, endSize}
 use Rattle.rules.specs.Check.{fits}
 use Rattle.rules.specs.Outcome.{Outcome, Refusals, judged, unchanged}

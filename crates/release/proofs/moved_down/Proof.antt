@@ -1,6 +1,5 @@
 -- `release::moved_down` moves a place inside the result down to it. Assumes nothing.
 use mathlib.Core.Bool.{and-false}
-use lib.Dec.{ltb}
 use borrow.Author.Tests.{lt-ltb, le-ltb}
 use Rattle.release.specs.Release.{movedM}
 use Rattle.release.proofs.moved_down.Statement.{statement}

@@ -1,6 +1,5 @@
 -- `links::is_broken` decides what the rule says of a link. Assumes nothing.
-use mathlib.Core.Path.{_∙_, sym, ap}
-use Prim.Native.Nat.{ℕ}
+use mathlib.Core.Path.{_∙_, sym}
 use borrow.Author.Needs.{needs}
 use borrow.Author.Tests.{not-true, not-false}
 use Rattle.patrol.proofs.LinksLaws.{broken-is}

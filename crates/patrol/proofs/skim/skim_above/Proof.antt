@@ -1,6 +1,5 @@
 -- `skim::skim_above` passes the chunks above the start at which there is nothing to mend. Assumes nothing.
 use mathlib.Core.Path.{refl}
-use native.Mathlib.Omega.{arith}
 use borrow.Author.Needs.{needs}
 use Rattle.patrol.proofs.SkimLaws.{Skimming, links-are, skim-spent, skim-stops, skim-goes}
 use Rattle.patrol.proofs.skim.skim_above.Statement.{statement}
