@@ -18,6 +18,13 @@ static uint32_t ask(Station *s, uint32_t question, uint32_t chunk)
     return s->answer[KZ_ANSWER_VALUE];
 }
 
+/* At the end chunk there is none. */
+static bool has_next(Station *s, uint32_t chunk)
+{
+    ask(s, KZ_ASK_NEXT, chunk);
+    return s->answer[KZ_ANSWER_NONE] == 0;
+}
+
 /* The block's offset, 0 if the call is refused. */
 static uint32_t allocate(Station *s, uint32_t z)
 {
@@ -34,7 +41,7 @@ static void print_kind(Station *s, uint32_t chunk)
 {
     if (chunk == 0)
         puts("start");
-    else if (ask(s, KZ_ASK_NEXT, chunk) == 0)
+    else if (!has_next(s, chunk))
         puts("end");
     else if (ask(s, KZ_ASK_TYPE, chunk) == 1)
         puts("inuse");
@@ -51,11 +58,13 @@ static void print_heap(Station *s)
     uint32_t chunk = 0;
     printf("%u %u %u\n", (unsigned)s->record[KZ_RECORD_BYTES], (unsigned)s->record[KZ_RECORD_BINS],
            (unsigned)s->record[KZ_RECORD_USED]);
-    do {
+    for (;;) {
         printf("%u %u ", (unsigned)chunk, (unsigned)ask(s, KZ_ASK_SIZE, chunk));
         print_kind(s, chunk);
-        chunk = ask(s, KZ_ASK_NEXT, chunk);
-    } while (chunk != 0);
+        if (!has_next(s, chunk))
+            return;
+        chunk = s->answer[KZ_ANSWER_VALUE];
+    }
 }
 
 /* Makes the calls; 1 at the first answer that differs from the demonstration's. */

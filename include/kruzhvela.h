@@ -35,28 +35,31 @@
 #define KZ_ANSWER_OFFSET 1
 #define KZ_ANSWER_VALUE 2
 #define KZ_ANSWER_CHANGE 3 /* in used bytes, two's complement */
+#define KZ_ANSWER_NONE 4   /* 1 where a question has no value to tell: there is none */
 
-/* Words of the check's answer. Word 0 is the refusal here too. */
+/* Words of the check's answer. Word 0 is the refusal here too, and word 4 is a count. */
 #define KZ_CHECK_CHUNKS 1
 #define KZ_CHECK_ORDINARY 2 /* ordinary free chunks */
 #define KZ_CHECK_USED 3
 #define KZ_CHECK_FREE 4
 
-/* Questions about the chunk at a place; for KZ_ASK_CHUNK the place is a block's. The answer is the value, 0 for none. */
-#define KZ_ASK_BIN 1   /* of a chunk in a bin */
-#define KZ_ASK_BLOCK 2 /* of a chunk whose block is live */
-#define KZ_ASK_CHUNK 3 /* of a live block */
-#define KZ_ASK_NEXT 4
-#define KZ_ASK_NEXT_IN_BIN 5
-#define KZ_ASK_PREVIOUS 6
-#define KZ_ASK_PREVIOUS_IN_BIN 7
+/* Questions about the chunk at a place; for KZ_ASK_CHUNK the place is a block's. The answer is the value, or that there is none:
+   then KZ_ANSWER_NONE is 1 and the value is 0. A value of 0 with KZ_ANSWER_NONE 0 is real: the start chunk, the first bin, a free
+   chunk's type, or the count of an empty bin. */
+#define KZ_ASK_BIN 1             /* none for start, end, donor, top and a chunk in use */
+#define KZ_ASK_BLOCK 2           /* none for a free chunk, start and end */
+#define KZ_ASK_CHUNK 3           /* the chunk of a live block */
+#define KZ_ASK_NEXT 4            /* none for the end */
+#define KZ_ASK_NEXT_IN_BIN 5     /* none for the last of its bin's list, and where KZ_ASK_BIN has none */
+#define KZ_ASK_PREVIOUS 6        /* none for the start */
+#define KZ_ASK_PREVIOUS_IN_BIN 7 /* none for the first of its bin's list, and where KZ_ASK_BIN has none */
 #define KZ_ASK_SIZE 8
 #define KZ_ASK_TYPE 9 /* 0 free, 1 in use */
 
 /* Questions about a bin by its number. */
 #define KZ_ASK_COUNT 1
-#define KZ_ASK_FIRST 2
-#define KZ_ASK_LAST 3
+#define KZ_ASK_FIRST 2 /* none if the bin is empty */
+#define KZ_ASK_LAST 3  /* none if the bin is empty */
 
 /* Refusals. Every function returns the number that it writes to word 0 of the answer. A refused call changes neither region nor
    record, except that a refused setup writes a record of zeros. */
@@ -105,9 +108,12 @@ uint32_t kz_set_merge(uint32_t *region, size_t words, uint32_t *record, bool on,
 /* Checks the whole heap and counts its chunks and bytes. Every other call but setup and the patrol makes the same check first. */
 uint32_t kz_check(uint32_t *region, size_t words, uint32_t *record, uint32_t *answer);
 
+/* Answers a question about the chunk, or the live block, at a place. Changes nothing. KZ_NOT_THERE if there is no such chunk, block
+   or question. */
 uint32_t kz_ask_chunk(uint32_t *region, size_t words, uint32_t *record, uint32_t question, uint32_t place,
                       uint32_t *answer);
 
+/* Answers a question about a bin. Changes nothing. KZ_NOT_THERE if there is no such bin or question. */
 uint32_t kz_ask_bin(uint32_t *region, size_t words, uint32_t *record, uint32_t question, uint32_t bin, uint32_t *answer);
 
 /* One run of the patrol: handles `chunks` chunks going up, from the patrol's place in the record, and answers the value 1 if the

@@ -1,15 +1,17 @@
--- The five words of each case of an answer, as the code lays them out. Assumes nothing.
-use mathlib.Core.Path.{_≡_}
+-- The five words of each case of an answer, as the code lays them out; and that C reads from them what a question told. Assumes nothing.
+use mathlib.Core.Path.{_≡_, refl}
 use mathlib.Core.List.{[], _∷_}
+use mathlib.Core.Option.{Option, some, none}
 use Prim.Native.Nat.{ℕ}
 use lib.IntN.{ℤ}
 use Rattle.region.specs.declared.Block.{Block}
 use Rattle.record.specs.Answers.{numberOf}
 use Rattle.record.specs.declared.answers.Answer.{Answer}
-use Rattle.record.specs.declared.answers.Answer.the-variants.{Done, Granted, Returned, Told, Counted, Refused}
+use Rattle.record.specs.declared.answers.Answer.the-variants.{Done, Granted, Returned, Told, ToldNone, Counted, Refused}
 use Rattle.record.specs.declared.answers.Counts.{Counts}
 use Rattle.record.specs.declared.answers.Refusal.{Refusal}
-use Rattle.abi.specs.Flat.{complement, answerOut}
+use Rattle.rules.specs.Ask.{told}
+use Rattle.abi.specs.Flat.{complement, answerOut, toldIn}
 
 module _ {a : Answer} where
   pub done-words : a ≡ Done → 0 ∷ 0 ∷ 0 ∷ 0 ∷ 0 ∷ [] ≡ answerOut a
@@ -29,6 +31,10 @@ module _ {a : Answer} where
   unfolding answerOut complement
   told-words e = rw e
 
+  pub none-words : a ≡ ToldNone → 0 ∷ 0 ∷ 0 ∷ 0 ∷ 1 ∷ [] ≡ answerOut a
+  unfolding answerOut complement
+  none-words e = rw e
+
   pub counted-words : {n : Counts} → a ≡ Counted n → 0 ∷ n .chunks ∷ n .ordinary ∷ n .used ∷ n .free ∷ [] ≡ answerOut a
   unfolding answerOut
   counted-words e = rw e
@@ -36,3 +42,9 @@ module _ {a : Answer} where
   pub refused-words : {why : Refusal} {v : ℕ} → a ≡ Refused why → v ≡ numberOf why → v ∷ 0 ∷ 0 ∷ 0 ∷ 0 ∷ [] ≡ answerOut a
   unfolding answerOut complement
   refused-words e q = rw (e, q)
+
+-- a value, 0 among them, or none: each is read as it was told
+pub told-and-back : (v : Option ℕ) → toldIn (answerOut (told v)) ≡ v
+unfolding toldIn answerOut
+told-and-back (some v) = refl
+told-and-back none = refl

@@ -7,7 +7,7 @@ use lib.Dec.{eqb, ltb}
 use lib.ListN.{length, getD, set}
 use borrow.Author.Tests.{eq-eqb, ne-eqb, le-leb, lt-leb}
 use Rattle.record.specs.declared.answers.Answer.{Answer}
-use Rattle.record.specs.declared.answers.Answer.the-variants.{Done, Granted, Returned, Told, Counted, Refused}
+use Rattle.record.specs.declared.answers.Answer.the-variants.{Done, Granted, Returned, Told, ToldNone, Counted, Refused}
 use Rattle.record.specs.declared.answers.Refusal.the-variants.{HeapFails}
 use Rattle.record.specs.declared.answers.Reply.{Reply}
 use Rattle.record.specs.declared.heap.Heap.{Heap}
@@ -30,6 +30,7 @@ refusal-first Done = refl
 refusal-first (Granted block change) = refl
 refusal-first (Returned change) = refl
 refusal-first (Told value) = refl
+refusal-first ToldNone = refl
 refusal-first (Counted counts) = refl
 refusal-first (Refused refusal) = refl
 

@@ -2,13 +2,14 @@
 use Prim.Native.Nat.{ℕ, suc, _+_, _-_, _%_, _^_}
 use mathlib.Core.Bool.{cond}
 use mathlib.Core.List.{List, [], _∷_, _++_}
+use mathlib.Core.Option.{Option, some, none}
 use lib.Dec.{eqb}
 use lib.IntN.{ℤ, pos, negsuc}
 use lib.ListN.{getD, take, drop}
 use Rattle.record.specs.Answers.{Figures, figuresOf}
 use Rattle.record.specs.Heap.{at, places}
 use Rattle.record.specs.declared.answers.Answer.{Answer}
-use Rattle.record.specs.declared.answers.Answer.the-variants.{Done, Granted, Returned, Told, Counted, Refused}
+use Rattle.record.specs.declared.answers.Answer.the-variants.{Done, Granted, Returned, Told, ToldNone, Counted, Refused}
 use Rattle.record.specs.declared.heap.Heap.{Heap}
 
 -- where the merge word stands, where the bins' sizes, heads and tails begin, and where the patrol's place stands
@@ -58,9 +59,9 @@ unfoldable pub complement : ℤ → ℕ
 complement (pos n) = n % 2 ^ 32
 complement (negsuc n) = (2 ^ 32 - suc n % 2 ^ 32) % 2 ^ 32
 
--- the five words of an answer to any call but the check
+-- the five words of an answer to any call but the check; the last is 1 where there is none
 abbrev pub callWords : Figures → List ℕ
-callWords f = f .refusal ∷ f .offset ∷ f .value ∷ complement (f .change) ∷ 0 ∷ []
+callWords f = f .refusal ∷ f .offset ∷ f .value ∷ complement (f .change) ∷ cond (f .isNone) 1 0 ∷ []
 
 -- the five words of the check's figures
 abbrev pub checkWords : Figures → List ℕ
@@ -73,8 +74,13 @@ answerOut Done = callWords (figuresOf Done)
 answerOut (Granted block change) = callWords (figuresOf (Granted block change))
 answerOut (Returned change) = callWords (figuresOf (Returned change))
 answerOut (Told value) = callWords (figuresOf (Told value))
+answerOut ToldNone = callWords (figuresOf ToldNone)
 answerOut (Counted counts) = checkWords (figuresOf (Counted counts))
 answerOut (Refused refusal) = callWords (figuresOf (Refused refusal))
+
+-- what a question told, as C reads it from the answer's words: none where the last is 1, else the value
+unfoldable pub toldIn : List ℕ → Option ℕ
+toldIn words = cond (eqb (getD words 4 0) 1) none (some (getD words 2 0))
 
 -- what the call returns beside: the refusal's number, 0 for none
 abbrev pub refusalOut : Answer → ℕ

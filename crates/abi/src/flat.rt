@@ -121,6 +121,7 @@ pub fn answer_words(answer: Answer) -> [u32; ANSWER_WORDS]
         Answer::Granted(block, change) => [0, block.0, 0, twos_complement(change), 0],
         Answer::Returned(change) => [0, 0, 0, twos_complement(change), 0],
         Answer::Told(value) => [0, 0, value, 0, 0],
+        Answer::ToldNone => [0, 0, 0, 0, 1],
         Answer::Counted(counts) => [0, counts.chunks, counts.ordinary, counts.used, counts.free],
         Answer::Refused(refusal) => [number(refusal), 0, 0, 0, 0],
     }

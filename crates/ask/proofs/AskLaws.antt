@@ -17,7 +17,7 @@ use Rattle.seek.specs.declared.Place.{Place}
 use Rattle.seek.specs.declared.Sought.{Sought}
 use Rattle.seek.specs.declared.Sought.the-variants.{Found, NotFound}
 use Rattle.seek.specs.Seek.{soughtM, hasBlockM}
-use Rattle.details.specs.Details.{ofChunkM}
+use Rattle.details.specs.Details.{linkToldM, ofChunkM}
 use Rattle.ask.specs.Questions.{toldOf, holderOf, askChunkM, askBinM}
 
 -- what is answered of a place that was sought, a. It is a record, so that the checker finds by itself what was asked
@@ -42,9 +42,9 @@ module _ {found sought : Sought} (ef : found ≡ sought) where
     unfolding toldOf
     no-place e = record { is = rw (← ef, e) }
 
-    pub place-told : {x : Place} → found ≡ Found x → {v : ℕ} → v ≡ ofChunkM ws table s q x → ToldOf ws table s q sought (Told v)
+    pub place-told : {x : Place} → found ≡ Found x → {a : Answer} → a ≡ ofChunkM ws table s q x → ToldOf ws table s q sought a
     unfolding toldOf
-    place-told e ev = record { is = rw (← ef, e, ev) }
+    place-told e ea = record { is = rw (← ef, e) ea }
 
 -- the answer about a chunk, a; a record for the same reason
 pub record ChunkAnswer (ws table : List ℕ) (s : Summary) (q place : ℕ) (a : Answer) : Type 0 where
@@ -121,15 +121,15 @@ module _ {ws heads tails : List ℕ} {s : Summary} {q i : ℕ} where
     count-told is en = record { is = rw (lt-leb (s .bins) i inside, eq-eqb q 1 is, ← ef, en) }
 
     module _ (not-one : q ≡ 1 → ⊥) where
-      pub first-told : q ≡ 2 → BinAnswer ws heads tails s q i (Told f)
+      pub first-told : q ≡ 2 → {a : Answer} → a ≡ linkToldM f → BinAnswer ws heads tails s q i a
       unfolding askBinM
-      first-told is = record { is = rw (lt-leb (s .bins) i inside, ne-eqb q 1 not-one, eq-eqb q 2 is, ef) }
+      first-told is ea = record { is = rw (lt-leb (s .bins) i inside, ne-eqb q 1 not-one, eq-eqb q 2 is, ← ef) ea }
 
       module _ (not-two : q ≡ 2 → ⊥) where
-        pub last-told : q ≡ 3 → {l : ℕ} → l ≡ getD tails i 0 → BinAnswer ws heads tails s q i (Told l)
+        pub last-told : q ≡ 3 → {l : ℕ} → l ≡ getD tails i 0 → {a : Answer} → a ≡ linkToldM l → BinAnswer ws heads tails s q i a
         unfolding askBinM
-        last-told is el =
-            record { is = rw (lt-leb (s .bins) i inside, ne-eqb q 1 not-one, ne-eqb q 2 not-two, eq-eqb q 3 is, el) }
+        last-told is el ea =
+            record { is = rw (lt-leb (s .bins) i inside, ne-eqb q 1 not-one, ne-eqb q 2 not-two, eq-eqb q 3 is, ← el) ea }
 
         pub no-question : (q ≡ 3 → ⊥) → BinAnswer ws heads tails s q i (Refused NotThere)
         unfolding askBinM

@@ -5,7 +5,7 @@ use mathlib.Core.List.{List}
 use Prim.Native.Nat.{ℕ}
 use lib.Dec.{eqb, leb}
 use lib.ListN.{length, getD}
-use Rattle.details.specs.Details.{ofChunkM}
+use Rattle.details.specs.Details.{linkToldM, ofChunkM}
 use Rattle.record.specs.declared.answers.Answer.{Answer}
 use Rattle.record.specs.declared.answers.Answer.the-variants.{Told, Refused}
 use Rattle.record.specs.declared.answers.Refusal.the-variants.{NotThere}
@@ -18,7 +18,7 @@ use Rattle.seek.specs.Seek.{soughtM, hasBlockM}
 
 -- what is asked of the chunk that was found
 unfoldable pub toldOf : List ℕ → List ℕ → Summary → ℕ → Sought → Answer
-toldOf ws table s q (Found x) = Told (ofChunkM ws table s q x)
+toldOf ws table s q (Found x) = ofChunkM ws table s q x
 toldOf ws table s q NotFound = Refused NotThere
 
 -- the chunk of a live block
@@ -36,5 +36,5 @@ unfoldable pub askBinM : List ℕ → List ℕ → List ℕ → Summary → ℕ 
 askBinM ws heads tails s q i =
     cond (leb (s .bins) i) (Refused NotThere)
     (cond (eqb q 1) (Told (length (membersFrom (s .bytes) ws (getD heads i 0))))
-    (cond (eqb q 2) (Told (getD heads i 0))
-    (cond (eqb q 3) (Told (getD tails i 0)) (Refused NotThere))))
+    (cond (eqb q 2) (linkToldM (getD heads i 0))
+    (cond (eqb q 3) (linkToldM (getD tails i 0)) (Refused NotThere))))

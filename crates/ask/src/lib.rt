@@ -7,6 +7,7 @@ ghost use Rattle.rules.specs.Shape.{membersFrom, shape};
 ghost use Rattle.seek.specs.Seek.{hasBlockM, soughtM};
 ghost use Rattle.ask.specs.Questions.{askBinM, askChunkM, holderOf, toldOf};
 use bins::list_end;
+use details::link_told;
 use details::of_chunk;
 use record::answers::Answer;
 use record::answers::Refusal;
@@ -42,7 +43,7 @@ fn ask_place(region: &[u32], table: &[u32], summary: Summary, question: u32, pla
     let Sought::Found(found) = sought else {
         return Answer::Refused(Refusal::NotThere);
     };
-    Answer::Told(of_chunk(region, table, summary, question, found))
+    of_chunk(region, table, summary, question, found)
 }
 
 // The questions are numbered from ASK_BIN to ASK_TYPE; ASK_CHUNK alone is asked of a block.
@@ -101,10 +102,10 @@ pub fn ask_bin(
         return Answer::Told(count_members(region, first, summary.bytes));
     }
     if question == ASK_FIRST {
-        return Answer::Told(first);
+        return link_told(first);
     }
     if question == ASK_LAST {
-        return Answer::Told(list_end(tails, bin as usize));
+        return link_told(list_end(tails, bin as usize));
     }
     Answer::Refused(Refusal::NotThere)
 }

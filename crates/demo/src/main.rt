@@ -10,21 +10,24 @@ use record::questions::ASK_SIZE;
 use record::questions::ASK_TYPE;
 use region::Block;
 
-fn told(answer: Answer) -> u32 {
-    match answer {
-        Answer::Done => 0,
-        Answer::Granted(_, _) => 0,
-        Answer::Returned(_) => 0,
-        Answer::Told(value) => value,
-        Answer::Counted(_) => 0,
-        Answer::Refused(_) => 0,
-    }
-}
-
+// Asked where there is a value.
 fn ask(region: &mut [u32], heap: Heap, question: u32, chunk: u32) -> u32 {
     let reply = heap::ask_chunk(region, heap, question, chunk);
     let answer = reply.answer;
-    told(answer)
+    let Answer::Told(value) = answer else {
+        return 0;
+    };
+    value
+}
+
+// Whether a chunk is above this one: at the end there is none.
+fn has_next(region: &mut [u32], heap: Heap, chunk: u32) -> bool {
+    let reply = heap::ask_chunk(region, heap, ASK_NEXT, chunk);
+    let answer = reply.answer;
+    let Answer::Told(_) = answer else {
+        return false;
+    };
+    true
 }
 
 fn print_number(n: u32) {
@@ -52,7 +55,7 @@ fn print_kind(region: &mut [u32], heap: Heap, chunk: u32) {
         write_all(1, b"start\n");
         return;
     }
-    if ask(region, heap, ASK_NEXT, chunk) == 0 {
+    if !has_next(region, heap, chunk) {
         write_all(1, b"end\n");
         return;
     }
@@ -80,10 +83,10 @@ fn print_chunks(region: &mut [u32], heap: Heap) {
     let mut left = MOST_CHUNKS;
     while left != 0 {
         print_chunk(region, heap, chunk);
-        chunk = ask(region, heap, ASK_NEXT, chunk);
-        if chunk == 0 {
+        if !has_next(region, heap, chunk) {
             return;
         }
+        chunk = ask(region, heap, ASK_NEXT, chunk);
         left -= 1;
     }
 }

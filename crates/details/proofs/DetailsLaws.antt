@@ -6,6 +6,8 @@ use Prim.Native.Nat.{ℕ, _%_}
 use lib.Dec.{eqb}
 use borrow.Author.Tests.{eq-eqb, ne-eqb, not-true, not-false}
 use Rattle.chain.specs.Chain.{kindM}
+use Rattle.record.specs.declared.answers.Answer.{Answer}
+use Rattle.record.specs.declared.answers.Answer.the-variants.{Told, ToldNone}
 use Rattle.record.specs.declared.heap.Summary.{Summary}
 use Rattle.record.specs.declared.kinds.Kind.{Kind}
 use Rattle.record.specs.declared.table.Binned.{Binned}
@@ -18,49 +20,62 @@ use Rattle.rules.specs.Kinds.{ordinaryKind}
 use Rattle.rules.specs.Shape.{entry}
 use Rattle.seek.specs.declared.Place.{Place}
 use Rattle.seek.specs.Seek.{liveM, sizeIn}
-use Rattle.details.specs.Details.{binNumberM, ofPlaceM, asksOfBinM, ofMemberM, ofChunkM}
+use Rattle.details.specs.Details.{binToldM, linkToldM, ofPlaceM, asksOfBinM, ofMemberM, ofChunkM}
 
--- the number of the bin that takes a size, and 0 if none does
+-- the number of the bin that takes a size
 module _ (table : List ℕ) (s : ℕ) {r : Binned} (k : TakenBy table s r) where
-  pub number-of-bin : {i : ℕ} → r ≡ Bin i → i % 32 ≡ binNumberM table s
-  unfolding binNumberM
-  number-of-bin e = rw (← bin-is table s r k, e)
+  pub bin-told : {i : ℕ} → r ≡ Bin i → Told (i % 32) ≡ binToldM table s
+  unfolding binToldM
+  bin-told e = rw (← bin-is table s r k, e)
 
-  pub number-of-none : r ≡ NoBin → 0 ≡ binNumberM table s
-  unfolding binNumberM
-  number-of-none e = rw (← bin-is table s r k, e)
+  pub no-bin : r ≡ NoBin → ToldNone ≡ binToldM table s
+  unfolding binToldM
+  no-bin e = rw (← bin-is table s r k, e)
+
+-- what a link names
+pub no-link : (v : ℕ) → v ≡ 0 → ToldNone ≡ linkToldM v
+unfolding linkToldM
+no-link v z = rw (eq-eqb v 0 z)
+
+pub link-told : (v : ℕ) → (v ≡ 0 → ⊥) → Told v ≡ linkToldM v
+unfolding linkToldM
+link-told v n = rw (ne-eqb v 0 n)
 
 -- what the place tells by itself
 module _ (bytes q : ℕ) (x : Place) where
   module _ (is : q ≡ 2) {t : Bool} (et : t ≡ liveM bytes (x .chunk .0) (x .flags)) where
-    pub no-block : not t ≡ true → 0 ≡ ofPlaceM bytes q x
+    pub no-block : not t ≡ true → ToldNone ≡ ofPlaceM bytes q x
     unfolding ofPlaceM
     no-block h = rw (eq-eqb q 2 is, ← et, not-true t h)
 
-    pub block-told : not t ≡ false → {b : ℕ} → b ≡ blockAt (x .chunk .0) → b ≡ ofPlaceM bytes q x
+    pub block-told : not t ≡ false → {b : ℕ} → b ≡ blockAt (x .chunk .0) → Told b ≡ ofPlaceM bytes q x
     unfolding ofPlaceM
-    block-told h eb = rw (eq-eqb q 2 is, ← et, not-false t h) eb
+    block-told h eb = rw (eq-eqb q 2 is, ← et, not-false t h, eb)
 
   module _ (not-two : q ≡ 2 → ⊥) where
-    pub no-next : q ≡ 4 → x .end ≡ bytes → 0 ≡ ofPlaceM bytes q x
+    pub no-next : q ≡ 4 → x .end ≡ bytes → ToldNone ≡ ofPlaceM bytes q x
     unfolding ofPlaceM
     no-next is e = rw (ne-eqb q 2 not-two, eq-eqb q 4 is, eq-eqb (x .end) bytes e)
 
-    pub next-told : q ≡ 4 → (x .end ≡ bytes → ⊥) → x .end ≡ ofPlaceM bytes q x
+    pub next-told : q ≡ 4 → (x .end ≡ bytes → ⊥) → Told (x .end) ≡ ofPlaceM bytes q x
     unfolding ofPlaceM
     next-told is n = rw (ne-eqb q 2 not-two, eq-eqb q 4 is, ne-eqb (x .end) bytes n)
 
     module _ (not-four : q ≡ 4 → ⊥) where
-      pub previous-told : q ≡ 6 → x .before .0 ≡ ofPlaceM bytes q x
+      pub no-previous : q ≡ 6 → x .chunk .0 ≡ 0 → ToldNone ≡ ofPlaceM bytes q x
       unfolding ofPlaceM
-      previous-told is = rw (ne-eqb q 2 not-two, ne-eqb q 4 not-four, eq-eqb q 6 is)
+      no-previous is z = rw (ne-eqb q 2 not-two, ne-eqb q 4 not-four, eq-eqb q 6 is, eq-eqb (x .chunk .0) 0 z)
+
+      pub previous-told : q ≡ 6 → (x .chunk .0 ≡ 0 → ⊥) → Told (x .before .0) ≡ ofPlaceM bytes q x
+      unfolding ofPlaceM
+      previous-told is n = rw (ne-eqb q 2 not-two, ne-eqb q 4 not-four, eq-eqb q 6 is, ne-eqb (x .chunk .0) 0 n)
 
       module _ (not-six : q ≡ 6 → ⊥) where
-        pub size-told : q ≡ 8 → {s : ℕ} → s ≡ sizeIn x → s ≡ ofPlaceM bytes q x
+        pub size-told : q ≡ 8 → {s : ℕ} → s ≡ sizeIn x → Told s ≡ ofPlaceM bytes q x
         unfolding ofPlaceM
-        size-told is es = rw (ne-eqb q 2 not-two, ne-eqb q 4 not-four, ne-eqb q 6 not-six, eq-eqb q 8 is) es
+        size-told is es = rw (ne-eqb q 2 not-two, ne-eqb q 4 not-four, ne-eqb q 6 not-six, eq-eqb q 8 is, es)
 
-        pub type-told : (q ≡ 8 → ⊥) → x .flags ≡ ofPlaceM bytes q x
+        pub type-told : (q ≡ 8 → ⊥) → Told (x .flags) ≡ ofPlaceM bytes q x
         unfolding ofPlaceM
         type-told n = rw (ne-eqb q 2 not-two, ne-eqb q 4 not-four, ne-eqb q 6 not-six, ne-eqb q 8 n)
 
@@ -79,46 +94,46 @@ module _ (q : ℕ) where
     unfolding asksOfBinM
     asks-previous n = rw (ne-eqb q 1 not-one, ne-eqb q 5 n)
 
--- what a member tells, v. It is a record, so that the checker finds by itself what was asked
-pub record OfMember (ws table : List ℕ) (q : ℕ) (x : Place) (v : ℕ) : Type 0 where
-  pub is : v ≡ ofMemberM ws table q x
+-- what a member tells, a. It is a record, so that the checker finds by itself what was asked
+pub record OfMember (ws table : List ℕ) (q : ℕ) (x : Place) (a : Answer) : Type 0 where
+  pub is : a ≡ ofMemberM ws table q x
 
-pub of-member : {ws table : List ℕ} {q : ℕ} {x : Place} {v : ℕ} → OfMember ws table q x v → v ≡ ofMemberM ws table q x
+pub of-member : {ws table : List ℕ} {q : ℕ} {x : Place} {a : Answer} → OfMember ws table q x a → a ≡ ofMemberM ws table q x
 of-member m = m .is
 
 module _ {ws table : List ℕ} {q : ℕ} {x : Place} where
-  pub number-told : q ≡ 1 → {z b : ℕ} → z ≡ sizeIn x → b ≡ binNumberM table z → OfMember ws table q x b
+  pub number-told : q ≡ 1 → {z : ℕ} {a : Answer} → z ≡ sizeIn x → a ≡ binToldM table z → OfMember ws table q x a
   unfolding ofMemberM
-  number-told is ez eb = record { is = rw (eq-eqb q 1 is, ← ez) eb }
+  number-told is ez ea = record { is = rw (eq-eqb q 1 is, ← ez) ea }
 
-  module _ (not-one : q ≡ 1 → ⊥) {w : ℕ} where
-    pub next-member-told : q ≡ 5 → w ≡ word ws (x .chunk .0) nextInBin → OfMember ws table q x w
+  module _ (not-one : q ≡ 1 → ⊥) {w : ℕ} {a : Answer} (ea : a ≡ linkToldM w) where
+    pub next-member-told : q ≡ 5 → w ≡ word ws (x .chunk .0) nextInBin → OfMember ws table q x a
     unfolding ofMemberM
-    next-member-told is ew = record { is = rw (ne-eqb q 1 not-one, eq-eqb q 5 is) ew }
+    next-member-told is ew = record { is = rw (ne-eqb q 1 not-one, eq-eqb q 5 is, ← ew) ea }
 
-    pub previous-member-told : (q ≡ 5 → ⊥) → w ≡ word ws (x .chunk .0) previousInBin → OfMember ws table q x w
+    pub previous-member-told : (q ≡ 5 → ⊥) → w ≡ word ws (x .chunk .0) previousInBin → OfMember ws table q x a
     unfolding ofMemberM
-    previous-member-told n ew = record { is = rw (ne-eqb q 1 not-one, ne-eqb q 5 n) ew }
+    previous-member-told n ew = record { is = rw (ne-eqb q 1 not-one, ne-eqb q 5 n, ← ew) ea }
 
--- what a chunk tells, v; a record for the same reason
-pub record OfChunk (ws table : List ℕ) (s : Summary) (q : ℕ) (x : Place) (v : ℕ) : Type 0 where
-  pub is : v ≡ ofChunkM ws table s q x
+-- what a chunk tells, a; a record for the same reason
+pub record OfChunk (ws table : List ℕ) (s : Summary) (q : ℕ) (x : Place) (a : Answer) : Type 0 where
+  pub is : a ≡ ofChunkM ws table s q x
 
-pub of-chunk : {ws table : List ℕ} {s : Summary} {q : ℕ} {x : Place} {v : ℕ} → OfChunk ws table s q x v → v ≡ ofChunkM ws table s q x
+pub of-chunk : {ws table : List ℕ} {s : Summary} {q : ℕ} {x : Place} {a : Answer} → OfChunk ws table s q x a → a ≡ ofChunkM ws table s q x
 of-chunk c = c .is
 
 -- what the place tells, or what it tells as a member if it is ordinary
 module _ {ws table : List ℕ} {s : Summary} {q : ℕ} {x : Place} {t : Bool} (et : t ≡ asksOfBinM q) where
-  pub of-place-told : not t ≡ true → {v : ℕ} → v ≡ ofPlaceM (s .bytes) q x → OfChunk ws table s q x v
+  pub of-place-told : not t ≡ true → {a : Answer} → a ≡ ofPlaceM (s .bytes) q x → OfChunk ws table s q x a
   unfolding ofChunkM
-  of-place-told h ev = record { is = rw (← et, not-true t h) ev }
+  of-place-told h ea = record { is = rw (← et, not-true t h) ea }
 
   module _ (ht : not t ≡ false) {k : Kind} (ek : (z : ℕ) → k ≡ kindM s (entry (x .chunk .0) z (x .flags)))
       {u : Bool} (eu : u ≡ ordinaryKind k) where
-    pub no-member : not u ≡ true → OfChunk ws table s q x 0
+    pub no-member : not u ≡ true → OfChunk ws table s q x ToldNone
     unfolding ofChunkM
     no-member h = record { is = rw (← et, not-false t ht, ← ek (sizeIn x), ← eu, not-true u h) }
 
-    pub member-told : not u ≡ false → {v : ℕ} → v ≡ ofMemberM ws table q x → OfChunk ws table s q x v
+    pub member-told : not u ≡ false → {a : Answer} → a ≡ ofMemberM ws table q x → OfChunk ws table s q x a
     unfolding ofChunkM
-    member-told h ev = record { is = rw (← et, not-false t ht, ← ek (sizeIn x), ← eu, not-false u h) ev }
+    member-told h ea = record { is = rw (← et, not-false t ht, ← ek (sizeIn x), ← eu, not-false u h) ea }

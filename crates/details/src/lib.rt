@@ -1,10 +1,11 @@
-// What one chunk tells: of itself and its neighbours on the chain, and as a member of its bin. Where it is was found on the chain before.
-// Nothing is written.
+// What one chunk tells: of itself and its neighbours on the chain, and as a member of its bin; a value, or that there is none.
+// Where the chunk is was found on the chain before. Nothing is written.
 ghost use mathlib.Core.Path.{_≡_};
-ghost use Rattle.details.specs.Details.{asksOfBinM, binNumberM, ofChunkM, ofMemberM, ofPlaceM};
+ghost use Rattle.details.specs.Details.{asksOfBinM, binToldM, linkToldM, ofChunkM, ofMemberM, ofPlaceM};
 ghost use Rattle.seek.specs.Seek.{sizeIn};
 use chain::is_ordinary;
 use chain::kind_of;
+use record::answers::Answer;
 use record::heap::PLACES;
 use record::heap::Summary;
 use record::questions::ASK_BIN;
@@ -34,39 +35,53 @@ fn size_of(place: Place) -> u32
 }
 
 // A table has at most 32 sizes, so that the remainder changes no bin's number. With it the number fits, whatever the table.
-fn bin_number(table: &[u32], size: u32) -> u32
-    ensures { λ r. ⌜ r ≡ binNumberM (now (table .entry)) size ⌝ }
+fn bin_told(table: &[u32], size: u32) -> Answer
+    ensures { λ r. ⌜ r ≡ binToldM (now (table .entry)) size ⌝ }
 {
     let binned = bin_of(table, size);
     let Binned::Bin(bin) = binned else {
-        return 0;
+        return Answer::ToldNone;
     };
-    (bin % PLACES) as u32
+    Answer::Told((bin % PLACES) as u32)
+}
+
+// What a bin link, a head or a tail names. There 0 is none: the chunk at 0 is the start, which is in no bin.
+pub fn link_told(link: u32) -> Answer
+    ensures { λ r. ⌜ r ≡ linkToldM link ⌝ }
+{
+    if link == 0 {
+        return Answer::ToldNone;
+    }
+    Answer::Told(link)
 }
 
 // What the place tells by itself: block, next, previous, size and type.
-fn of_place(bytes: u32, question: u32, place: Place) -> u32
+fn of_place(bytes: u32, question: u32, place: Place) -> Answer
     ensures { λ r. ⌜ r ≡ ofPlaceM bytes question place ⌝ }
 {
     if question == ASK_BLOCK {
         if !has_live_block(bytes, place.chunk, place.flags) {
-            return 0;
+            return Answer::ToldNone;
         }
-        return block_of(place.chunk).0;
+        return Answer::Told(block_of(place.chunk).0);
     }
     if question == ASK_NEXT {
         if place.end == bytes {
-            return 0;
+            return Answer::ToldNone;
         }
-        return place.end;
+        return Answer::Told(place.end);
     }
     if question == ASK_PREVIOUS {
-        return place.before.0;
+        // The start has none before it; the chunk above it has the start, which is at 0.
+        if place.chunk.0 == 0 {
+            return Answer::ToldNone;
+        }
+        return Answer::Told(place.before.0);
     }
     if question == ASK_SIZE {
-        return size_of(place);
+        return Answer::Told(size_of(place));
     }
-    place.flags
+    Answer::Told(place.flags)
 }
 
 fn asks_of_bin(question: u32) -> bool
@@ -82,20 +97,26 @@ fn asks_of_bin(question: u32) -> bool
 }
 
 // What an ordinary chunk tells as a member of its bin.
-fn of_member(region: &[u32], table: &[u32], question: u32, place: Place) -> u32
+fn of_member(region: &[u32], table: &[u32], question: u32, place: Place) -> Answer
     ensures { λ r. ⌜ r ≡ ofMemberM (now (region .entry)) (now (table .entry)) question place ⌝ }
 {
     if question == ASK_BIN {
-        return bin_number(table, size_of(place));
+        return bin_told(table, size_of(place));
     }
     if question == ASK_NEXT_IN_BIN {
-        return word(region, place.chunk, NEXT_IN_BIN);
+        return link_told(word(region, place.chunk, NEXT_IN_BIN));
     }
-    word(region, place.chunk, PREVIOUS_IN_BIN)
+    link_told(word(region, place.chunk, PREVIOUS_IN_BIN))
 }
 
 // A chunk in use, the donor, the top and the ends are in no bin.
-pub fn of_chunk(region: &[u32], table: &[u32], summary: Summary, question: u32, place: Place) -> u32
+pub fn of_chunk(
+    region: &[u32],
+    table: &[u32],
+    summary: Summary,
+    question: u32,
+    place: Place,
+) -> Answer
     ensures { λ r. ⌜ r ≡ ofChunkM (now (region .entry)) (now (table .entry)) summary question place ⌝ }
 {
     if !asks_of_bin(question) {
@@ -103,7 +124,7 @@ pub fn of_chunk(region: &[u32], table: &[u32], summary: Summary, question: u32, 
     }
     let kind = kind_of(summary, place.chunk, place.flags);
     if !is_ordinary(kind) {
-        return 0;
+        return Answer::ToldNone;
     }
     of_member(region, table, question, place)
 }

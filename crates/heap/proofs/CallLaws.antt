@@ -8,7 +8,7 @@ use native.Mathlib.Omega.{arith}
 use lib.Dec.{ltb}
 use lib.ListN.{length, take}
 use Rattle.record.specs.declared.answers.Answer.{Answer}
-use Rattle.record.specs.declared.answers.Answer.the-variants.{Done, Told}
+use Rattle.record.specs.declared.answers.Answer.the-variants.{Done}
 use Rattle.record.specs.declared.answers.Refusal.the-variants.{HeapFails, NotThere}
 use Rattle.record.specs.declared.answers.Reply.{Reply}
 use Rattle.record.specs.declared.heap.Heap.{Heap}
@@ -27,12 +27,12 @@ use Rattle.ask.proofs.AskMeaning.{ask-chunk-is, ask-bin-is}
 use Rattle.replies.specs.Replies.{reply, refusedReply}
 
 -- a question leaves the heap as it came, refused or not
-question-keeps : (h : Heap) (t u : Bool) (v : ℕ)
-    → let o : Outcome = judged h ((t, HeapFails) ∷ (u, NotThere) ∷ []) (unchanged h (Told v)) in
+question-keeps : (h : Heap) (t u : Bool) (a : Answer)
+    → let o : Outcome = judged h ((t, HeapFails) ∷ (u, NotThere) ∷ []) (unchanged h a) in
     (o .heap ≡ h) × (o .stores ≡ [])
-question-keeps h true u v = (refl, refl)
-question-keeps h false true v = (refl, refl)
-question-keeps h false false v = (refl, refl)
+question-keeps h true u a = (refl, refl)
+question-keeps h false true a = (refl, refl)
+question-keeps h false false a = (refl, refl)
 
 pub tells : (ws : List ℕ) (h : Heap) (o : Outcome) (a : Answer) → (o .heap ≡ h) × (o .stores ≡ []) → a ≡ o .answer
     → Meets ws o (reply h a) ws

@@ -68,6 +68,22 @@ module _ {A : Type 0} (q : A → Bool) where
       go true k f = List·Memᴰ·tail k
       go false k f = List·Memᴰ·tail (f k)
 
+  -- the parts of a list before and after the first member for which the test holds
+  module _ (xs : List A) (c : A) (ys : List A) (others : (d : A) → Mem d xs → q d ≡ false) (holds : q c ≡ true) where
+    pub up-to-first : upTo q (xs ++ c ∷ ys) ≡ xs
+    up-to-first = go xs others
+      where
+        go : (zs : List A) → ((d : A) → Mem d zs → q d ≡ false) → upTo q (zs ++ c ∷ ys) ≡ zs
+        go [] f = rw holds
+        go (z ∷ zs) f = rw (f z (List·Memᴰ·head refl)) (ap (λ (l : List A). z ∷ l) (go zs (λ d m. f d (List·Memᴰ·tail m))))
+
+    pub past-first : past q (xs ++ c ∷ ys) ≡ ys
+    past-first = go xs others
+      where
+        go : (zs : List A) → ((d : A) → Mem d zs → q d ≡ false) → past q (zs ++ c ∷ ys) ≡ ys
+        go [] f = rw holds
+        go (z ∷ zs) f = rw (f z (List·Memᴰ·head refl)) (go zs (λ d m. f d (List·Memᴰ·tail m)))
+
 -- split at a member
 pub split-at-member : {c : ℕ} {cs : List ℕ} → Mem c cs → cs ≡ upTo (eqb c) cs ++ c ∷ past (eqb c) cs
 split-at-member {c} {cs} m =

@@ -1,4 +1,4 @@
--- The check's counts and the answers about a bin are right (`counting`): all lists together have as many members as there are ordinary chunks,
+-- The check's counts are right (`counting`): all lists together have as many members as there are ordinary chunks,
 -- and used + free + 16 = heap bytes. Assumes nothing.
 use mathlib.Core.Path.{_≡_, refl, sym, ap, _∙_}
 use mathlib.Core.Bool.{true, cond}
@@ -6,28 +6,25 @@ use mathlib.Core.List.{List, [], _∷_, List·Memᴰ·head, List·Memᴰ·tail, 
 use Prim.Native.Nat.{ℕ, _+_, _<_}
 use native.Mathlib.Omega.{arith}
 use lib.ListN.{length, length-map, drop}
-use borrow.Author.Tests.{lt-ltb}
 use Rattle.books.proofs.HeapBooks.{member-entry, lists-apart, ordinary-listed}
-use Rattle.lists.specs.Lists.{Mem, headOr, lastOr, keep, total, numbersFrom, gathered, Distinct}
+use Rattle.lists.specs.Lists.{Mem, headOr, keep, total, numbersFrom, gathered, Distinct}
 use Rattle.lists.proofs.MembersLaws.{kept-from, kept-has}
 use Rattle.lists.proofs.CountLaws.{distinct-fits, gathered-length, gathered-from, gathered-has, gathered-once}
-use Rattle.record.specs.declared.answers.Answer.the-variants.{Counted, Told}
+use Rattle.record.specs.declared.answers.Answer.the-variants.{Counted}
 use Rattle.record.specs.declared.heap.Heap.{Heap}
 use Rattle.record.specs.declared.kinds.Kind.{Kind}
 use Rattle.record.specs.declared.kinds.Kind.the-variants.{Start, InUse, Ordinary, Donor, Top, End}
 use Rattle.rules.specs.Shape.{Entry, shape, binList, chunkEnd}
 use Rattle.rules.specs.Kinds.{kindOf, liveKind, freeKind, ordinary, isFree, live, outside}
 use Rattle.rules.specs.Check.{Passes, passes, usedBytes, freeBytes, countsOf}
-use Rattle.rules.specs.Draft.{asRead}
 use Rattle.rules.specs.Merge.{check, checked}
-use Rattle.rules.specs.Ask.{placesOf, askBin}
-use Rattle.rules.specs.Calls.{Check, AskBin, step}
+use Rattle.rules.specs.Ask.{placesOf}
+use Rattle.rules.specs.Calls.{Check, step}
 use Rattle.rules.proofs.ChainLaws.{places-once, shape-chain}
 use Rattle.rules.proofs.CheckLaws.{passes-iff}
 use Rattle.rules.proofs.KindsLaws.{Being, being, kind-start}
 use Rattle.rules.proofs.SpotLaws.{Inside, Between, tiled, inside, between, bounds, ends}
 use Rattle.rules.proofs.TiledLaws.{Tiled, tiled-none}
-use Rattle.rules.proofs.AskLaws.{shown-first, shown-last}
 use Rattle.promises.specs.Ways.{ours}
 use Rattle.promises.specs.Counting.{Right, Counting}
 
@@ -123,24 +120,5 @@ module _ (ws : List ℕ) (h : Heap) (p : Passes ws h) where
   unfolding ours step check checked
   checks = rw well
 
-  module _ (i : ℕ) (l : i < h .bins) where
-    counts : ours (AskBin 1 i) ws h .answer ≡ Told (length (binList ws h i))
-    unfolding ours step askBin asRead
-    counts = rw (well, lt-ltb i (h .bins) l)
-
-    firsts : ours (AskBin 2 i) ws h .answer ≡ Told (headOr 0 (binList ws h i))
-    unfolding ours step askBin asRead
-    firsts = rw (well, lt-ltb i (h .bins) l) (ap Told (sym (shown-first (binList ws h i))))
-
-    lasts : ours (AskBin 3 i) ws h .answer ≡ Told (lastOr 0 (binList ws h i))
-    unfolding ours step askBin asRead
-    lasts = rw (well, lt-ltb i (h .bins) l) (ap Told (sym (shown-last (binList ws h i))))
-
 pub counting : Counting ours
-counting =
-    record {
-      check = λ ws h p. (countsOf h (shape ws (h .bytes)), checks ws h p, right ws h p);
-      count = counts;
-      first = firsts;
-      last = lasts;
-    }
+counting ws h p = (countsOf h (shape ws (h .bytes)), checks ws h p, right ws h p)

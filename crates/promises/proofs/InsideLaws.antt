@@ -11,7 +11,7 @@ use lib.ListN.{length}
 use borrow.Author.Tests.{lt-ltb, not-false}
 use Rattle.record.specs.declared.heap.Heap.{Heap}
 use Rattle.record.specs.declared.answers.Answer.{Answer}
-use Rattle.record.specs.declared.answers.Answer.the-variants.{Done, Told}
+use Rattle.record.specs.declared.answers.Answer.the-variants.{Done}
 use Rattle.record.specs.declared.answers.Refusal.the-variants.{NotThere}
 use Rattle.record.specs.Heap.{empty, withMerge}
 use Rattle.region.specs.Words.{Store, word}
@@ -203,8 +203,8 @@ module _ (ws : List ℕ) (h : Heap) where
   stores-below (AskChunk q p) =
       let d = asRead ws h in
       let answers = chunkAnswers d (askedSpot d q p) in
-      question-below (Told (answerTo q answers)) (not (isAsked q answers) || not (isThere d q p))
+      question-below (answerTo q answers) (not (isAsked q answers) || not (isThere d q p))
   stores-below (AskBin q i) =
       let answers = binAnswers (asRead ws h .lists i) in
-      question-below (Told (answerTo q answers)) (not (isAsked q answers) || not (ltb i (h .bins)))
+      question-below (answerTo q answers) (not (isAsked q answers) || not (ltb i (h .bins)))
   stores-below (Patrol f) = patrol-below ws h f

@@ -12,7 +12,7 @@ use Rattle.drafts.proofs.SourceLaws.{need-grantable}
 use Rattle.drafts.proofs.GrantedChunk.{granted-filled}
 use Rattle.lists.specs.Lists.{Mem}
 use Rattle.record.specs.declared.answers.Answer.{Answer}
-use Rattle.record.specs.declared.answers.Answer.the-variants.{Done, Granted, Returned, Told, Counted, Refused}
+use Rattle.record.specs.declared.answers.Answer.the-variants.{Done, Granted, Returned, Told, ToldNone, Counted, Refused}
 use Rattle.record.specs.declared.heap.Heap.{Heap}
 use Rattle.record.specs.Heap.{empty, withMerge, withPatrol}
 use Rattle.record.specs.Table.{validTable}
@@ -33,7 +33,7 @@ use Rattle.rules.specs.Allocate.{sourceOf, grant, asFound, cleared, allocateWit
 use Rattle.rules.specs.Free.{isLive, blockSpot, freeBlock, free, freeRefusals, freed}
 use Rattle.rules.specs.Reallocate.{moved, resized, resize, reallocate, resizeRefusals, resizedTo}
 use Rattle.rules.specs.Merge.{setMerge, checked, check}
-use Rattle.rules.specs.Ask.{askChunk, askBin, chunkAnswers, askedSpot, isThere, binAnswers, askRefusals, asked}
+use Rattle.rules.specs.Ask.{askChunk, askBin, chunkAnswers, askedSpot, isThere, binAnswers, answerTo, askRefusals, asked}
 use Rattle.rules.specs.Patrol.{patrol}
 use Rattle.rules.specs.Calls.{Call, Setup, Allocate, AllocateCleared, Free, Reallocate, SetMerge, Check, AskChunk, AskBin, Patrol, State, recordAfter, step}
 use Rattle.rules.proofs.OutcomeLaws.{Failed, judged-so}
@@ -61,6 +61,7 @@ same-record h Done = refl
 same-record h (Granted b c) = refl
 same-record h (Returned c) = refl
 same-record h (Told v) = refl
+same-record h ToldNone = refl
 same-record h (Counted c) = refl
 same-record h (Refused r) = refl
 
@@ -204,10 +205,10 @@ module _ (ws : List ℕ) (h : Heap) (p : Passes ws h) where
   step-passes (AskChunk q c) =
       let d = asRead ws h in
       let answers = chunkAnswers d (askedSpot d q c) in
-      judged-passes h (asked h q answers) (askRefusals (heapFails ws h) q answers (isThere d q c)) (λ _. p)
+      judged-passes h (asked h q answers) (askRefusals (heapFails ws h) q answers (isThere d q c)) (λ _. told-passes (answerTo q answers))
   step-passes (AskBin q i) =
       let answers = binAnswers (asRead ws h .lists i) in
-      judged-passes h (asked h q answers) (askRefusals (heapFails ws h) q answers (ltb i (h .bins))) (λ _. p)
+      judged-passes h (asked h q answers) (askRefusals (heapFails ws h) q answers (ltb i (h .bins))) (λ _. told-passes (answerTo q answers))
   step-passes (Patrol f) = patrol-passes f
 
 -- after a store into a live block the heap is read as before, so the next store is into a live block too

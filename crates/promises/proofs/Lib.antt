@@ -7,6 +7,9 @@ pub mod RefusingLaws
 pub mod ResizedLaws
 pub mod RoomLaws
 pub mod CountingLaws
+pub mod TellingLaws
+pub mod OneAnswerLaws
+pub mod ZeroLaws
 pub mod DeterminedLaws
 pub mod GrantedLaws
 pub mod InsideLaws
@@ -26,4 +29,5 @@ pub mod RetracedLaws
 pub mod MendedLaws
 pub mod WrongLaws
 pub mod WrongPatrolLaws
+pub mod WrongToldLaws
 pub mod SignLaws

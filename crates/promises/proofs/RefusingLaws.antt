@@ -27,6 +27,7 @@ use Rattle.rules.specs.Outcome.{Outcome, unchanged, judged, heapFails}
 use Rattle.rules.specs.Setup.{setup, donorFits, setupRefusals, opened}
 use Rattle.rules.specs.Merge.{setMerge, checked, check}
 use Rattle.rules.specs.Ask.{askChunk, askBin, chunkAnswers, askedSpot, isThere, isAsked, binAnswers, askRefusals, asked}
+use Rattle.rules.proofs.AskLaws.{answer-accepted}
 use Rattle.rules.specs.Calls.{Call, Setup, Allocate, AllocateCleared, Free, Reallocate, SetMerge, Check, AskChunk, AskBin, Patrol, step}
 use Rattle.promises.specs.Ways.{ours}
 use Rattle.promises.specs.Refusing.{Because, setupLength, setupTable, setupDonor, fails, askNoChunk, askNoBin, asksCheck, First, refusedRecord, Refusing}
@@ -83,7 +84,7 @@ module _ (ws : List ℕ) (h : Heap) where
       record {
         tests = askRefusals (heapFails ws h) q answers there;
         made = asked h q answers;
-        accepted = accepts refl;
+        accepted = accepts (answer-accepted q answers);
         is = is;
         rising = omega arith;
         stands = stands;

@@ -1,4 +1,5 @@
--- Each of the first five wrong programs breaks a promise, shown on the demonstration's heap. Those of the patrol are in `WrongPatrolLaws`.
+-- Each of the first five wrong programs breaks a promise, shown on the demonstration's heap. Those of the patrol are in `WrongPatrolLaws`, those of the questions in
+-- `WrongToldLaws`.
 -- Assumes nothing.
 use mathlib.Core.Path.{_≡_, refl, sym, ap, _∙_}
 use mathlib.Core.Logic.{_⊎_, inl, inr}
@@ -33,6 +34,7 @@ use Rattle.rules.proofs.NamedLaws.{live-between}
 use Rattle.promises.specs.Ways.{Way, ours}
 use Rattle.promises.specs.Room.{HoldsBlock, Room}
 use Rattle.promises.specs.Counting.{Counting}
+use Rattle.promises.specs.Telling.{Telling}
 use Rattle.promises.specs.Apart.{Apart}
 use Rattle.promises.specs.Wrong.{refusesAlways, sameBlock, idleFree, inventedCount, inventedUsed}
 use Rattle.promises.proofs.ReasonLaws.{live-iff}
@@ -121,11 +123,11 @@ seventh-count : (2 < afterCalls 7 .heap .bins) × (length (binList (afterCalls 7
 unfolding computes
 seventh-count = (ltb-true 2 4 refl, refl)
 
-pub counts-refute-invented-count : (n : ℕ) → Counting (inventedCount n) → ⊥
-counts-refute-invented-count n promised =
+pub telling-refutes-invented-count : (n : ℕ) → Telling (inventedCount n) → ⊥
+telling-refutes-invented-count n promised =
     let value : Answer → ℕ = λ a. figuresOf a .value in
-    let none = ap value (promised .count (afterCalls 0 .words) (afterCalls 0 .heap) fresh-passes 2 (fresh-count .0)) in
-    let one = ap value (promised .count (afterCalls 7 .words) (afterCalls 7 .heap) seventh-passes 2 (seventh-count .0)) in
+    let none = ap value (promised (afterCalls 0 .words) (afterCalls 0 .heap) fresh-passes .count 2 (fresh-count .0)) in
+    let one = ap value (promised (afterCalls 7 .words) (afterCalls 7 .heap) seventh-passes .count 2 (seventh-count .0)) in
     omega (arith, none ∙ fresh-count .1, one ∙ seventh-count .1)
 
 -- used bytes that are the same each time: none in the fresh heap, 24 after call 1
@@ -139,7 +141,7 @@ first-used = refl
 
 invented-used : (n : ℕ) → Counting (inventedUsed n) → (ws : List ℕ) (h : Heap) → Passes ws h → n ≡ h .used
 invented-used n promised ws h p =
-    let (c, q, right) = promised .check ws h p in
+    let (c, q, right) = promised ws h p in
     ap (λ (a : Answer). figuresOf a .counts .used) q ∙ right .recorded
 
 pub counts-refute-invented-used : (n : ℕ) → Counting (inventedUsed n) → ⊥

@@ -1,6 +1,8 @@
 pub mod Ways
 pub mod Room
 pub mod Counting
+pub mod Telling
+pub mod Zero
 pub mod Determined
 pub mod Refusing
 pub mod NeverNine

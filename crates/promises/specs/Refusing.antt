@@ -177,7 +177,7 @@ pub record Refusing (way : Way) : Type 0 where
       → (way call ws h .answer ≡ Refused r) ↔ First ws h call r
   -- offset, value, change and counts are 0
   pub figures : (call : Call) (ws : List ℕ) (h : Heap) (r : Refusal) → way call ws h .answer ≡ Refused r
-      → figuresOf (way call ws h .answer) ≡ figures (numberOf r) 0 0 (pos 0) noCounts
+      → figuresOf (way call ws h .answer) ≡ figures (numberOf r) 0 0 false (pos 0) noCounts
   pub heap : (call : Call) (ws : List ℕ) (h : Heap) (r : Refusal) → way call ws h .answer ≡ Refused r
       → way call ws h .heap ≡ refusedRecord call h
   pub words : (call : Call) (ws : List ℕ) (h : Heap) (r : Refusal) → way call ws h .answer ≡ Refused r

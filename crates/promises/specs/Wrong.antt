@@ -1,12 +1,13 @@
--- Wrong programs (document 01, "How far each statement reaches"; document 02, request Two): nine ways of answering that the promises must rule out.
--- Each answers one call wrongly and the others by the rules.
+-- Wrong programs (document 01, "How far each statement reaches"; document 02, requests One and Two): twelve ways of answering that the
+-- promises must rule out. Each answers one call, or the questions, wrongly and the other calls by the rules.
 use mathlib.Core.Bool.{Bool, true, false, cond}
 use mathlib.Core.List.{List}
+use mathlib.Core.Option.{Option, some, none}
 use Prim.Native.Nat.{ℕ, _-_}
 use lib.Dec.{eqb}
 use lib.IntN.{pos}
 use Rattle.record.specs.declared.answers.Answer.{Answer}
-use Rattle.record.specs.declared.answers.Answer.the-variants.{Done, Granted, Returned, Told, Counted, Refused}
+use Rattle.record.specs.declared.answers.Answer.the-variants.{Done, Granted, Returned, Told, ToldNone, Counted, Refused}
 use Rattle.record.specs.declared.answers.Refusal.the-variants.{NoRoom}
 use Rattle.record.specs.declared.heap.Heap.{Heap}
 use Rattle.region.specs.declared.Block.{Block}
@@ -24,34 +25,50 @@ use Rattle.promises.specs.Ways.{Way, ours}
 abbrev pub Doing : Type 0
 Doing = List ℕ → Heap → Left
 
--- allocate, free, the check, the questions about a bin and the patrol as given, the other calls by the rules
-abbrev pub done : (ℕ → Doing) → (ℕ → Doing) → Doing → (ℕ → ℕ → Doing) → (ℕ → Doing) → Way
-done allocate free check askBin patrol (Setup table donor merge) = ours (Setup table donor merge)
-done allocate free check askBin patrol (Allocate z) = allocate z
-done allocate free check askBin patrol (AllocateCleared count size) = ours (AllocateCleared count size)
-done allocate free check askBin patrol (Free b) = free b
-done allocate free check askBin patrol (Reallocate b z) = ours (Reallocate b z)
-done allocate free check askBin patrol (SetMerge on) = ours (SetMerge on)
-done allocate free check askBin patrol Check = check
-done allocate free check askBin patrol (AskChunk q p) = ours (AskChunk q p)
-done allocate free check askBin patrol (AskBin q i) = askBin q i
-done allocate free check askBin patrol (Patrol f) = patrol f
+-- allocate, free, the check, the questions about a chunk and about a bin, and the patrol as given, the other calls by the rules
+abbrev pub done : (ℕ → Doing) → (ℕ → Doing) → Doing → (ℕ → ℕ → Doing) → (ℕ → ℕ → Doing) → (ℕ → Doing) → Way
+done allocate free check askChunk askBin patrol (Setup table donor merge) = ours (Setup table donor merge)
+done allocate free check askChunk askBin patrol (Allocate z) = allocate z
+done allocate free check askChunk askBin patrol (AllocateCleared count size) = ours (AllocateCleared count size)
+done allocate free check askChunk askBin patrol (Free b) = free b
+done allocate free check askChunk askBin patrol (Reallocate b z) = ours (Reallocate b z)
+done allocate free check askChunk askBin patrol (SetMerge on) = ours (SetMerge on)
+done allocate free check askChunk askBin patrol Check = check
+done allocate free check askChunk askBin patrol (AskChunk q p) = askChunk q p
+done allocate free check askChunk askBin patrol (AskBin q i) = askBin q i
+done allocate free check askChunk askBin patrol (Patrol f) = patrol f
 
--- all by the rules, but for allocate; but for free; but for the check; but for the questions about a bin; but for the patrol
+-- the rules' own of these
+abbrev allocates : ℕ → Doing
+allocates z = ours (Allocate z)
+
+abbrev frees : ℕ → Doing
+frees b = ours (Free b)
+
+abbrev asksChunk : ℕ → ℕ → Doing
+asksChunk q p = ours (AskChunk q p)
+
+abbrev asksBin : ℕ → ℕ → Doing
+asksBin q i = ours (AskBin q i)
+
+abbrev patrols : ℕ → Doing
+patrols f = ours (Patrol f)
+
+-- all by the rules, but for allocate; but for free; but for the check; but for the questions; but for the patrol
 abbrev pub butAllocate : (ℕ → Doing) → Way
-butAllocate allocate = done allocate (λ b. ours (Free b)) (ours Check) (λ q i. ours (AskBin q i)) (λ f. ours (Patrol f))
+butAllocate allocate = done allocate frees (ours Check) asksChunk asksBin patrols
 
 abbrev pub butFree : (ℕ → Doing) → Way
-butFree free = done (λ z. ours (Allocate z)) free (ours Check) (λ q i. ours (AskBin q i)) (λ f. ours (Patrol f))
+butFree free = done allocates free (ours Check) asksChunk asksBin patrols
 
 abbrev pub butCheck : Doing → Way
-butCheck check = done (λ z. ours (Allocate z)) (λ b. ours (Free b)) check (λ q i. ours (AskBin q i)) (λ f. ours (Patrol f))
+butCheck check = done allocates frees check asksChunk asksBin patrols
 
-abbrev pub butAskBin : (ℕ → ℕ → Doing) → Way
-butAskBin askBin = done (λ z. ours (Allocate z)) (λ b. ours (Free b)) (ours Check) askBin (λ f. ours (Patrol f))
+abbrev pub butQuestions : (ℕ → ℕ → Doing) → (ℕ → ℕ → Doing) → Way
+butQuestions askChunk askBin = done allocates frees (ours Check) askChunk askBin patrols
 
 abbrev pub butPatrol : (ℕ → Doing) → Way
-butPatrol patrol = done (λ z. ours (Allocate z)) (λ b. ours (Free b)) (ours Check) (λ q i. ours (AskBin q i)) patrol
+butPatrol patrol = done allocates frees (ours Check) asksChunk asksBin patrol
 
 -- an answer that changes nothing
 abbrev pub merely : Answer → Doing
@@ -75,7 +92,7 @@ idleFree = butFree (λ b ws h. merely (ours (Free b) ws h .answer) ws h)
 
 -- 4: every bin is said to have n chunks; the other questions are answered by the rules
 abbrev pub inventedCount : ℕ → Way
-inventedCount n = butAskBin (λ q i ws h. cond (eqb q 1) (merely (Told n) ws h) (ours (AskBin q i) ws h))
+inventedCount n = butQuestions asksChunk (λ q i ws h. cond (eqb q 1) (merely (Told n) ws h) (asksBin q i ws h))
 
 -- 5: the check says that n bytes are used; its other counts are right
 abbrev pub inventedUsed : ℕ → Way
@@ -103,6 +120,7 @@ isRefused Done = false
 isRefused (Granted block change) = false
 isRefused (Returned change) = false
 isRefused (Told value) = false
+isRefused ToldNone = false
 isRefused (Counted counts) = false
 isRefused (Refused refusal) = true
 
@@ -125,3 +143,39 @@ sizesAll =
     let left = ours (Patrol f) ws h in
     let c = h .patrol .0 in
     record { answer = left .answer; heap = left .heap; words = store (left .words) c size (word ws c forward - c) })
+
+-- the questions, with what the rules tell told in another way: a value, or none. A refused question stays refused
+abbrev pub retold : (Option ℕ → Answer) → Answer → Answer
+retold tell Done = Done
+retold tell (Granted block change) = Granted block change
+retold tell (Returned change) = Returned change
+retold tell (Told value) = tell (some value)
+retold tell ToldNone = tell none
+retold tell (Counted counts) = Counted counts
+retold tell (Refused refusal) = Refused refusal
+
+abbrev pub butTold : (Option ℕ → Answer) → Way
+butTold tell =
+    butQuestions
+    (λ q p ws h. merely (retold tell (asksChunk q p ws h .answer)) ws h)
+    (λ q i ws h. merely (retold tell (asksBin q i ws h .answer)) ws h)
+
+-- 10: 0 is told where there is none, as document 01 had it
+abbrev pub zeroIfNone : Option ℕ → Answer
+zeroIfNone (some v) = Told v
+zeroIfNone none = Told 0
+
+abbrev pub zeroForNone : Way
+zeroForNone = butTold zeroIfNone
+
+-- 11: none is told where the value is 0
+abbrev pub noneIfZero : Option ℕ → Answer
+noneIfZero (some v) = cond (eqb v 0) ToldNone (Told v)
+noneIfZero none = ToldNone
+
+abbrev pub noneForZero : Way
+noneForZero = butTold noneIfZero
+
+-- 12: 0 is told, whatever the question
+abbrev pub alwaysZero : Way
+alwaysZero = butTold (λ v. Told 0)

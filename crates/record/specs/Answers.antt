@@ -1,9 +1,10 @@
 -- The number of each refusal, and the figures that each answer stands for
--- (document 01, "Numbers of refusal", "The calls", "The check").
+-- (document 01, "Numbers of refusal", "The calls", "The check"; document 02, request One: an answer of none).
+use mathlib.Core.Bool.{Bool, true, false}
 use Prim.Native.Nat.{ℕ}
 use lib.IntN.{ℤ, pos}
 use Rattle.record.specs.declared.answers.Answer.{Answer}
-use Rattle.record.specs.declared.answers.Answer.the-variants.{Done, Granted, Returned, Told, Counted, Refused}
+use Rattle.record.specs.declared.answers.Answer.the-variants.{Done, Granted, Returned, Told, ToldNone, Counted, Refused}
 use Rattle.record.specs.declared.answers.Counts.{Counts}
 use Rattle.record.specs.declared.answers.Refusal.{Refusal}
 use Rattle.record.specs.declared.answers.Refusal.the-variants.{RegionLength, BadTable, DonorSize, HeapFails, BlockSize, NotLive, NoRoom, NotThere, NoBinTakes, RunSize, BeyondMending}
@@ -31,17 +32,20 @@ pub record Figures : Type 0 where
   pub refusal : ℕ
   pub offset : ℕ
   pub value : ℕ
+  -- there is none: then the value is 0, and means nothing
+  pub isNone : Bool
   pub change : ℤ
   pub counts : Counts
 
-abbrev pub figures : ℕ → ℕ → ℕ → ℤ → Counts → Figures
-figures r o v d c = record { refusal = r; offset = o; value = v; change = d; counts = c }
+abbrev pub figures : ℕ → ℕ → ℕ → Bool → ℤ → Counts → Figures
+figures r o v n d c = record { refusal = r; offset = o; value = v; isNone = n; change = d; counts = c }
 
 -- parts that a call does not name are 0; a refusal has its number alone
 abbrev pub figuresOf : Answer → Figures
-figuresOf Done = figures 0 0 0 (pos 0) noCounts
-figuresOf (Granted block change) = figures 0 (block .0) 0 change noCounts
-figuresOf (Returned change) = figures 0 0 0 change noCounts
-figuresOf (Told value) = figures 0 0 value (pos 0) noCounts
-figuresOf (Counted counts) = figures 0 0 0 (pos 0) counts
-figuresOf (Refused refusal) = figures (numberOf refusal) 0 0 (pos 0) noCounts
+figuresOf Done = figures 0 0 0 false (pos 0) noCounts
+figuresOf (Granted block change) = figures 0 (block .0) 0 false change noCounts
+figuresOf (Returned change) = figures 0 0 0 false change noCounts
+figuresOf (Told value) = figures 0 0 value false (pos 0) noCounts
+figuresOf ToldNone = figures 0 0 0 true (pos 0) noCounts
+figuresOf (Counted counts) = figures 0 0 0 false (pos 0) counts
+figuresOf (Refused refusal) = figures (numberOf refusal) 0 0 false (pos 0) noCounts

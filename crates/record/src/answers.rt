@@ -32,6 +32,8 @@ pub enum Answer {
     Granted(Block, i32),
     Returned(i32),
     Told(u32),
+    // A question's answer where there is no such chunk, block or bin. It is not a value of 0: that names the start, or the first bin.
+    ToldNone,
     Counted(Counts),
     Refused(Refusal),
 }

@@ -1,4 +1,5 @@
 -- Questions about a chunk and about a bin (document 01, "The calls": Questions); refusals 4, then 8.
+-- An answer is a value or none, and none is not 0 (document 02, request One): 0 is the start's place, and a bin's number.
 use mathlib.Core.Bool.{Bool, true, false, not, cond, _&&_, _||_}
 use mathlib.Core.List.{List, [], _∷_, map}
 use mathlib.Core.Option.{Option, some, none}
@@ -6,7 +7,8 @@ use Prim.Native.Nat.{ℕ, _-_}
 use lib.Dec.{eqb, leb, ltb}
 use lib.ListN.{length, getD}
 use Rattle.lists.specs.Lists.{lastOr, any, upTo, past}
-use Rattle.record.specs.declared.answers.Answer.the-variants.{Told}
+use Rattle.record.specs.declared.answers.Answer.{Answer}
+use Rattle.record.specs.declared.answers.Answer.the-variants.{Told, ToldNone}
 use Rattle.record.specs.declared.answers.Refusal.{Refusal}
 use Rattle.record.specs.declared.answers.Refusal.the-variants.{NotThere}
 use Rattle.record.specs.declared.heap.Heap.{Heap}
@@ -20,10 +22,10 @@ use Rattle.rules.specs.Draft.{Draft, asRead, Spot, spot}
 use Rattle.rules.specs.Outcome.{Outcome, Refusals, judged, heapFails, unchanged}
 use Rattle.rules.specs.Free.{isLive, blockSpot}
 
--- none is shown as 0
-abbrev pub shown : Option ℕ → ℕ
-shown none = 0
-shown (some v) = v
+-- the answer that says so
+abbrev pub told : Option ℕ → Answer
+told (some v) = Told v
+told none = ToldNone
 
 -- answers that may be absent: a value under a condition, the first and the last of a list, a bin's number;
 -- and the list of a bin, empty where there is no bin
@@ -92,9 +94,9 @@ isThere d q p = cond (eqb q 3) (isLive d p) (any (isAt p) (d .chain))
 abbrev pub isAsked : ℕ → List (Option ℕ) → Bool
 isAsked q answers = leb 1 q && leb q (length answers)
 
--- the answer to question q; 0 where there is none
-abbrev pub answerTo : ℕ → List (Option ℕ) → ℕ
-answerTo q answers = shown (getD answers (q - 1) none)
+-- the answer to question q
+abbrev pub answerTo : ℕ → List (Option ℕ) → Answer
+answerTo q answers = told (getD answers (q - 1) none)
 
 -- the refusals in their order, behind `fails`, that of a heap that fails; `there` says whether the chunk, block or bin exists
 abbrev pub askRefusals : Bool × Refusal → ℕ → List (Option ℕ) → Bool → Refusals
@@ -102,7 +104,7 @@ askRefusals fails q answers there = fails ∷ (not (isAsked q answers) || not th
 
 -- the outcome of an accepted question, which changes nothing
 abbrev pub asked : Heap → ℕ → List (Option ℕ) → Outcome
-asked h q answers = unchanged h (Told (answerTo q answers))
+asked h q answers = unchanged h (answerTo q answers)
 
 -- question q about the chunk at p, or about the live block there
 unfoldable pub askChunk : List ℕ → Heap → ℕ → ℕ → Outcome

@@ -3,7 +3,7 @@ use mathlib.Core.Bool.{Bool}
 use mathlib.Core.List.{List, [], _∷_}
 use Prim.Native.Nat.{ℕ}
 use Rattle.record.specs.declared.answers.Answer.{Answer}
-use Rattle.record.specs.declared.answers.Answer.the-variants.{Done, Granted, Returned, Told, Counted, Refused}
+use Rattle.record.specs.declared.answers.Answer.the-variants.{Done, Granted, Returned, Told, ToldNone, Counted, Refused}
 use Rattle.record.specs.declared.heap.Heap.{Heap}
 use Rattle.region.specs.Words.{written}
 use Rattle.rules.specs.Outcome.{Outcome}
@@ -58,6 +58,7 @@ recordAfter before after Done = after
 recordAfter before after (Granted b c) = after
 recordAfter before after (Returned c) = after
 recordAfter before after (Told v) = after
+recordAfter before after ToldNone = after
 recordAfter before after (Counted c) = after
 recordAfter before after (Refused r) = before
 

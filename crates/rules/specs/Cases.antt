@@ -133,18 +133,18 @@ sameHeap g h =
 abbrev sameFigures : Figures → Figures → Bool
 sameFigures f g =
     eqb (f .refusal) (g .refusal) && eqb (f .offset) (g .offset) && eqb (f .value) (g .value)
-    && sameInt (f .change) (g .change)
+    && sameBool (f .isNone) (g .isNone) && sameInt (f .change) (g .change)
     && eqb (f .counts .chunks) (g .counts .chunks) && eqb (f .counts .ordinary) (g .counts .ordinary)
     && eqb (f .counts .used) (g .counts .used) && eqb (f .counts .free) (g .counts .free)
 
 abbrev refuses : ℕ → Heap → Outcome → Bool
 refuses r h o =
-    sameFigures (figuresOf (o .answer)) (figures r 0 0 (pos 0) noCounts)
+    sameFigures (figuresOf (o .answer)) (figures r 0 0 false (pos 0) noCounts)
     && sameHeap (o .heap) h && eqb (length (o .stores)) 0
 
 abbrev holds : State → Outcome → Fact → Bool
 holds s o (Gives offset change) =
-    sameFigures (figuresOf (o .answer)) (figures 0 offset 0 change noCounts)
+    sameFigures (figuresOf (o .answer)) (figures 0 offset 0 false change noCounts)
 holds s o (Refuses r) = refuses r (s .heap) o
 holds s o (RefusesSetup r) = refuses r empty o
 holds s o Sound = passes (written (s .words) (o .stores)) (o .heap)

@@ -43,14 +43,17 @@ fn block(view: &View, random: &mut Random) -> u32 {
     }
 }
 
-/// Mostly a chunk or a live block.
+/// Mostly a chunk or a live block; often a chunk in a bin, since its neighbours there are asked for too.
 fn place(view: &View, random: &mut Random) -> u32 {
-    match random.below(12) {
+    let ordinary = view.ordinary();
+    match random.below(16) {
         0 => 0,
-        1 => view.donor,
-        2 => view.top,
-        3 => view.top.wrapping_add(view.size_at(view.top)),
-        4..=6 => block(view, random),
+        1 => HEADER_BYTES, // the chunk above the start
+        2 => view.donor,
+        3 => view.top,
+        4 => view.top.wrapping_add(view.size_at(view.top)),
+        5..=7 => block(view, random),
+        8..=12 if !ordinary.is_empty() => random.of(&ordinary).place,
         _ if view.chunks.is_empty() => random.word(),
         _ => random.of(&view.chunks).place,
     }
@@ -107,7 +110,7 @@ pub fn numbered(number: u32, words: usize, view: &View, table: &[u32], random: &
 
 /// One of the calls, each with its weight.
 pub fn any(words: usize, view: &View, table: &[u32], random: &mut Random) -> Call {
-    let number = match random.below(208) {
+    let number = match random.below(240) {
         0 => 0,
         1..=69 => 1,
         70..=81 => 2,
@@ -115,8 +118,8 @@ pub fn any(words: usize, view: &View, table: &[u32], random: &mut Random) -> Cal
         130..=167 => 4,
         168..=173 => 5,
         174..=177 => 6,
-        178..=191 => 7,
-        192..=199 => 8,
+        178..=219 => 7,
+        220..=230 => 8,
         _ => 9,
     };
     numbered(number, words, view, table, random)

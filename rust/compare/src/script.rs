@@ -134,6 +134,28 @@ impl Script {
         self.call(Call::Check);
     }
 
+    /// Every question about every place, block and bin of the demonstration's heap, and those that there are not: each
+    /// none and each 0 that is a place or a bin.
+    fn questions(&mut self) {
+        self.demonstration_to(9);
+        self.name("every question about that heap");
+        self.call(Call::Allocate { z: 24 });
+        self.call(Call::SetMerge { on: false });
+        for block in [16, 80] {
+            self.call(Call::Free { block });
+        }
+        for place in (0..=256).step_by(8) {
+            for question in 0..=10 {
+                self.call(Call::AskChunk { question, place });
+            }
+        }
+        for bin in 0..=4 {
+            for question in 0..=4 {
+                self.call(Call::AskBin { question, bin });
+            }
+        }
+    }
+
     /// The record of the largest heap over a region that is one word longer.
     fn one_word_too_long(&mut self) {
         self.heap("16,385 words under the record of the largest heap", MOST_WORDS + 1, &[24], 0);
@@ -210,6 +232,7 @@ pub fn stored() -> Script {
     let mut script = Script::new();
     script.demonstration_to(11);
     script.both_sides();
+    script.questions();
     script.patrols();
     for number in 0..CASES {
         script.name(&format!("case {number}"));

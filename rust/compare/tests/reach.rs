@@ -1,11 +1,14 @@
-//! The cases reach what they must: every call accepted and refused with every number that it can give, every m, long
-//! chains, damage that the check refuses, every turn of the patrol's rule, and joinings that swallow its place.
+//! The cases reach what they must: every call accepted and refused with every number that it can give, every question
+//! with none, 0 and more where it can tell that, every m, long chains, damage that the check refuses, every turn of the
+//! patrol's rule, and joinings that swallow its place.
 
 use compare::case::{self, Stage};
 use compare::judge::{Link, Walk, Words};
 use compare::side::{Action, Side};
 use compare::view::{heap_bytes, index, BACKWARD, IN_USE, SIZE};
-use kruzhvela::flat::{Answer, Record, ANSWER_OFFSET, ANSWER_REFUSAL, BINS, BYTES, CHECK_CHUNKS, PATROL, SIZES};
+use kruzhvela::flat::{
+    Answer, Record, ANSWER_NONE, ANSWER_OFFSET, ANSWER_REFUSAL, ANSWER_VALUE, BINS, BYTES, CHECK_CHUNKS, PATROL, SIZES,
+};
 use kruzhvela::limits::{ALIGNMENT, FEWEST_WORDS, LEAST_CHUNK, MOST_BINS, MOST_WORDS};
 use second::Call;
 use std::collections::BTreeMap;
@@ -15,11 +18,29 @@ struct Tally {
     side: Side,
     /// Counts by the call's name and the refusal's number.
     answers: BTreeMap<(&'static str, u32), u64>,
+    /// Counts of what accepted questions tell, by the call's name and the question's number.
+    told: BTreeMap<(&'static str, u32, Told), u64>,
     /// Counts of accepted setups by m.
     setups: BTreeMap<usize, u64>,
     most_chunks: u32,
     /// Counts of the turns of patrols, and of swallowed places by the call that joined.
     turns: BTreeMap<&'static str, u64>,
+}
+
+/// What a question tells.
+#[derive(Clone, Copy, Debug, PartialEq, Eq, PartialOrd, Ord)]
+enum Told {
+    Nothing,
+    Zero,
+    More,
+}
+
+fn told(answer: Answer) -> Told {
+    match (answer[ANSWER_NONE], answer[ANSWER_VALUE]) {
+        (1, _) => Told::Nothing,
+        (_, 0) => Told::Zero,
+        _ => Told::More,
+    }
 }
 
 fn name(call: &Call) -> &'static str {
@@ -145,6 +166,7 @@ impl Tally {
         Tally {
             side: Side::new(second::apply),
             answers: BTreeMap::new(),
+            told: BTreeMap::new(),
             setups: BTreeMap::new(),
             most_chunks: 0,
             turns: BTreeMap::new(),
@@ -155,6 +177,11 @@ impl Tally {
         *self.answers.entry((name(call), answer[ANSWER_REFUSAL])).or_default() += 1;
         if matches!(call, Call::Setup { .. }) && answer[ANSWER_REFUSAL] == 0 {
             *self.setups.entry(small_bins(&self.side.record)).or_default() += 1;
+        }
+        if let Call::AskChunk { question, .. } | Call::AskBin { question, .. } = *call {
+            if answer[ANSWER_REFUSAL] == 0 {
+                *self.told.entry((name(call), question, told(answer))).or_default() += 1;
+            }
         }
         if *call == Call::Check {
             self.most_chunks = self.most_chunks.max(answer[CHECK_CHUNKS]);
@@ -201,6 +228,23 @@ const NUMBERS: [(&str, &[u32]); 10] = [
     ("ask_chunk", &[0, 4, 8]),
     ("ask_bin", &[0, 4, 8]),
     ("patrol", &[0, 4, 10, 12]),
+];
+
+/// All that each question can tell, by the call and the question's number. So a chunk of a live block is never at 0, for
+/// one, and a size is never none.
+const TOLD: [(&str, u32, &[Told]); 12] = [
+    ("ask_chunk", 1, &[Told::Nothing, Told::Zero, Told::More]),
+    ("ask_chunk", 2, &[Told::Nothing, Told::More]),
+    ("ask_chunk", 3, &[Told::More]),
+    ("ask_chunk", 4, &[Told::Nothing, Told::More]),
+    ("ask_chunk", 5, &[Told::Nothing, Told::More]),
+    ("ask_chunk", 6, &[Told::Nothing, Told::Zero, Told::More]),
+    ("ask_chunk", 7, &[Told::Nothing, Told::More]),
+    ("ask_chunk", 8, &[Told::More]),
+    ("ask_chunk", 9, &[Told::Zero, Told::More]),
+    ("ask_bin", 1, &[Told::Zero, Told::More]),
+    ("ask_bin", 2, &[Told::Nothing, Told::More]),
+    ("ask_bin", 3, &[Told::Nothing, Told::More]),
 ];
 
 /// Every turn of the patrol's rule, and every joining that can swallow the place.
@@ -251,6 +295,14 @@ fn the_cases_reach_every_answer() {
         }
     }
     assert!(tally.answers.is_empty(), "no call may give these: {:?}", tally.answers);
+    println!("{:#?}", tally.told);
+    for (name, question, kinds) in TOLD {
+        for &kind in kinds {
+            let times = tally.told.remove(&(name, question, kind)).unwrap_or(0);
+            assert!(times > 50, "{name}, question {question}: {kind:?} only {times} times");
+        }
+    }
+    assert!(tally.told.is_empty(), "no question may tell these: {:?}", tally.told);
     assert_eq!(tally.setups.len(), MOST_BINS, "m from 0 to 31: {:?}", tally.setups);
     assert!(tally.most_chunks > 1_500, "the longest chain has {} chunks", tally.most_chunks);
     println!("{:#?}", tally.turns);

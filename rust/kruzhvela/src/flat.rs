@@ -45,6 +45,9 @@ pub const ANSWER_OFFSET: usize = 1;
 pub const ANSWER_VALUE: usize = 2;
 /// The answer's word that holds the change in used bytes, in two's complement.
 pub const ANSWER_CHANGE: usize = 3;
+/// The answer's word that holds 1 where a question has no value to tell: there is none. It is 0 else; the check alone
+/// has another figure there.
+pub const ANSWER_NONE: usize = 4;
 
 /// The word of the check's answer that holds the number of chunks.
 pub const CHECK_CHUNKS: usize = 1;

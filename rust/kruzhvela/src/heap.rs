@@ -47,39 +47,39 @@ pub struct Counts {
     pub free: u32,
 }
 
-/// A question about the chunk at an offset in bytes. The answer is 0 where there is none.
+/// A question about the chunk at an offset in bytes. Chunk 0 is the start chunk, and bin 0 the first bin.
 #[derive(Clone, Copy, Debug, PartialEq, Eq)]
 #[repr(u32)]
 pub enum ChunkQuestion {
-    /// Its bin, if it is in one.
+    /// Its bin. Start, end, donor, top and chunks in use have none.
     Bin = 1,
-    /// Its block, if that is live.
+    /// Its block. Free chunks, start and end have none.
     Block = 2,
-    /// The chunk of the live block at the offset.
+    /// The chunk of the live block at the offset; there always is one.
     ChunkOfBlock = 3,
-    /// The chunk after it.
+    /// The chunk after it. The end chunk has none.
     Next = 4,
-    /// The chunk after it in its bin.
+    /// The chunk after it in its bin's list. The list's last chunk has none, nor has a chunk in no bin.
     NextInBin = 5,
-    /// The chunk before it.
+    /// The chunk before it. The start chunk has none.
     Previous = 6,
-    /// The chunk before it in its bin.
+    /// The chunk before it in its bin's list. The list's first chunk has none, nor has a chunk in no bin.
     PreviousInBin = 7,
-    /// Its size in bytes.
+    /// Its size in bytes; there always is one.
     Size = 8,
-    /// 0 if it is free, 1 if it is in use.
+    /// 0 if it is free, 1 if it is in use; there always is one of them.
     Type = 9,
 }
 
-/// A question about a bin. For an empty bin the answer is 0.
+/// A question about a bin.
 #[derive(Clone, Copy, Debug, PartialEq, Eq)]
 #[repr(u32)]
 pub enum BinQuestion {
-    /// How many chunks it has.
+    /// How many chunks it has, 0 if it is empty.
     Count = 1,
-    /// Its first chunk.
+    /// Its first chunk. An empty bin has none.
     First = 2,
-    /// Its last chunk.
+    /// Its last chunk. An empty bin has none.
     Last = 3,
 }
 
@@ -126,6 +126,11 @@ fn change(answer: Answer) -> i32 {
 
 fn granted(answer: Answer) -> Granted {
     Granted { block: Block(answer[flat::ANSWER_OFFSET]), change: change(answer) }
+}
+
+/// What a question tells: a value, or that there is none.
+fn told(answer: Answer) -> Option<u32> {
+    (answer[flat::ANSWER_NONE] == 0).then_some(answer[flat::ANSWER_VALUE])
 }
 
 impl<W: AsRef<[u32]> + AsMut<[u32]>> Heap<W> {
@@ -226,24 +231,47 @@ impl<W: AsRef<[u32]> + AsMut<[u32]>> Heap<W> {
     }
 
     /// Answers a question about the chunk at an offset; for [`ChunkQuestion::ChunkOfBlock`] the offset is a block's.
-    pub fn ask_chunk(&mut self, question: ChunkQuestion, offset: u32) -> Result<u32, Refusal> {
-        accepted(flat::ask_chunk(self.words.as_mut(), &mut self.record, question as u32, offset))
-            .map(|answer| answer[flat::ANSWER_VALUE])
-    }
-
-    /// Answers a question about a bin.
+    /// `None` says that there is none, `Some(0)` that it is the start chunk or the first bin.
     ///
     /// ```
-    /// use kruzhvela::{BinQuestion, Heap};
+    /// use kruzhvela::ChunkQuestion::{Bin, Next, Previous};
+    /// use kruzhvela::{Heap, Refusal};
+    /// let mut heap = Heap::setup(vec![0; 64], &[24, 64], 0, false)?;
+    /// let block = heap.allocate(8)?.block;
+    /// assert_eq!(heap.ask_chunk(Bin, 8)?, None); // in use
+    /// heap.free(block)?;
+    /// assert_eq!(heap.ask_chunk(Bin, 8)?, Some(0));
+    ///
+    /// assert_eq!(heap.ask_chunk(Previous, 8)?, Some(0));
+    /// assert_eq!(heap.ask_chunk(Previous, 0)?, None);
+    /// assert_eq!(heap.ask_chunk(Previous, 16), Err(Refusal::NotThere)); // a block's offset, not a chunk's
+    ///
+    /// // all chunks, from the start chunk up
+    /// let mut chunks = vec![0];
+    /// while let Some(next) = heap.ask_chunk(Next, chunks[chunks.len() - 1])? {
+    ///     chunks.push(next);
+    /// }
+    /// assert_eq!(chunks, [0, 8, 32, 248]);
+    /// # Ok::<(), kruzhvela::Refusal>(())
+    /// ```
+    pub fn ask_chunk(&mut self, question: ChunkQuestion, offset: u32) -> Result<Option<u32>, Refusal> {
+        accepted(flat::ask_chunk(self.words.as_mut(), &mut self.record, question as u32, offset)).map(told)
+    }
+
+    /// Answers a question about a bin. `None` says that there is no such chunk.
+    ///
+    /// ```
+    /// use kruzhvela::BinQuestion::{Count, First};
+    /// use kruzhvela::Heap;
     /// let mut heap = Heap::setup(vec![0; 64], &[24, 64], 0, false)?;
     /// let block = heap.allocate(8)?.block;
     /// heap.free(block)?;
-    /// assert_eq!(heap.ask_bin(BinQuestion::Count, 0)?, 1);
+    /// assert_eq!([heap.ask_bin(Count, 0)?, heap.ask_bin(First, 0)?], [Some(1), Some(8)]);
+    /// assert_eq!([heap.ask_bin(Count, 1)?, heap.ask_bin(First, 1)?], [Some(0), None]);
     /// # Ok::<(), kruzhvela::Refusal>(())
     /// ```
-    pub fn ask_bin(&mut self, question: BinQuestion, bin: u32) -> Result<u32, Refusal> {
-        accepted(flat::ask_bin(self.words.as_mut(), &mut self.record, question as u32, bin))
-            .map(|answer| answer[flat::ANSWER_VALUE])
+    pub fn ask_bin(&mut self, question: BinQuestion, bin: u32) -> Result<Option<u32>, Refusal> {
+        accepted(flat::ask_bin(self.words.as_mut(), &mut self.record, question as u32, bin)).map(told)
     }
 
     /// One run of the patrol: handles `chunks` chunks going up from the patrol's place, and returns whether the end chunk
@@ -309,9 +337,14 @@ impl<W: AsRef<[u32]> + AsMut<[u32]>> Heap<W> {
         Ok(&mut self.words.as_mut()[place])
     }
 
+    /// The answer to a question that always has a value.
+    fn value_of(&mut self, question: ChunkQuestion, offset: u32) -> Result<u32, Refusal> {
+        Ok(self.ask_chunk(question, offset)?.expect("every chunk has a size, and every live block a chunk"))
+    }
+
     fn range_of(&mut self, block: Block) -> Result<Range<usize>, Refusal> {
-        let chunk = self.ask_chunk(ChunkQuestion::ChunkOfBlock, block.0)?;
-        let size = self.ask_chunk(ChunkQuestion::Size, chunk)?;
+        let chunk = self.value_of(ChunkQuestion::ChunkOfBlock, block.0)?;
+        let size = self.value_of(ChunkQuestion::Size, chunk)?;
         Ok((block.0 / WORD_BYTES) as usize..((chunk + size) / WORD_BYTES) as usize)
     }
 

@@ -83,7 +83,7 @@ fn decode_chunk(region: &[u32], place: u32, below: u32, end: u32) -> Option<Chun
 
 /// The top is the chunk below the end. A donor is another chunk, and so lies below the top.
 fn donor_and_top_hold(heap: &Heap, region: &[u32]) -> bool {
-    heap.previous(heap.chain.len() - 1) == heap.top
+    heap.previous(heap.chain.len() - 1) == Some(heap.top)
         && stays_out_of_bins(heap, region, heap.top, Kind::Top)
         && (heap.donor == 0 || stays_out_of_bins(heap, region, heap.donor, Kind::Donor))
 }

@@ -76,14 +76,14 @@ impl Heap {
         (self.kind(at) == Kind::InUse).then_some(at)
     }
 
-    /// The place of the chunk above, 0 for the end chunk.
-    pub fn next(&self, at: usize) -> u32 {
-        self.chain.get(at + 1).map_or(0, |chunk| chunk.place)
+    /// The place of the chunk above; the end chunk has none.
+    pub fn next(&self, at: usize) -> Option<u32> {
+        self.chain.get(at + 1).map(|chunk| chunk.place)
     }
 
-    /// The place of the chunk below, 0 for the start chunk.
-    pub fn previous(&self, at: usize) -> u32 {
-        at.checked_sub(1).map_or(0, |below| self.chain[below].place)
+    /// The place of the chunk below; the start chunk has none.
+    pub fn previous(&self, at: usize) -> Option<u32> {
+        at.checked_sub(1).map(|below| self.chain[below].place)
     }
 
     /// The free chunks other than donor and top. The ends are in use.

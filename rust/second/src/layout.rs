@@ -84,8 +84,9 @@ pub const ASK_COUNT: u32 = 1;
 pub const ASK_FIRST: u32 = 2;
 pub const ASK_LAST: u32 = 3;
 
-/// The four figures of an accepted call (offset, value, change and 0, or the
-/// four counts of the check), or the number of the refusal.
+/// The four figures of an accepted call (offset, value, change, and 1 where a
+/// question has none to tell; or the four counts of the check), or the number of
+/// the refusal.
 pub type Outcome = Result<[u32; ANSWER_WORDS - 1], u32>;
 
 /// The outcome of an accepted call that names no figure.

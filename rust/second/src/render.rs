@@ -8,15 +8,16 @@ use super::layout::{
 };
 use super::table;
 
+/// In a link 0 stands for none.
 pub fn forward_link(heap: &Heap, region: &mut [u32], at: usize) {
-    region[index(heap.chain[at].place, FORWARD)] = heap.next(at);
+    region[index(heap.chain[at].place, FORWARD)] = heap.next(at).unwrap_or(0);
 }
 
 /// The backward link with the chunk's in-use bit.
 pub fn backward_link(heap: &Heap, region: &mut [u32], at: usize) {
     let chunk = heap.chain[at];
     let flag = if chunk.in_use { IN_USE } else { 0 };
-    region[index(chunk.place, BACKWARD)] = heap.previous(at) + flag;
+    region[index(chunk.place, BACKWARD)] = heap.previous(at).unwrap_or(0) + flag;
 }
 
 /// The two words that every chunk has.

@@ -143,8 +143,8 @@ fn grant(heap: &mut Heap, region: &mut [u32], need: u32) -> Result<usize, u32> {
     if cut {
         split(heap, at, need);
         match kind {
-            Kind::Donor => heap.donor = heap.next(at),
-            Kind::Top => heap.top = heap.next(at),
+            Kind::Donor => heap.donor = heap.chain[at + 1].place,
+            Kind::Top => heap.top = heap.chain[at + 1].place,
             _ => {}
         }
     }

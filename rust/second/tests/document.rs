@@ -94,7 +94,7 @@ fn refusals_of_setup() {
     World::fresh(64, &long[..32], 216, true);
     World::fresh(64, &[24], 24, true);
     let mut vast = World::fresh(64, &[24, 32, 65_544, 0xFFFF_FFF8], 0, true);
-    assert_eq!(vast.bin_value(1, 3), 0);
+    assert_eq!(vast.bin_tells(1, 3), Some(0));
     assert_eq!(World::new(10).setup(&[24], 24, true)[0], 3);
     assert_eq!(World::new(9).setup(&[], 1, true)[0], 1);
 }
@@ -149,21 +149,35 @@ fn no_such_chunk_block_bin_or_question() {
 fn questions_about_each_kind() {
     let mut world = after_nine();
     let expected = [
-        (0, [0, 0, 8, 0, 0, 0, 8, 1]),
-        (8, [0, 16, 32, 0, 0, 0, 24, 1]),
-        (32, [0, 0, 72, 0, 8, 0, 40, 0]),
-        (96, [2, 0, 152, 0, 72, 0, 56, 0]),
-        (224, [0, 0, 248, 0, 152, 0, 24, 0]),
-        (248, [0, 0, 0, 0, 224, 0, 8, 1]),
+        (0, [None, None, Some(8), None, None, None, Some(8), Some(1)]),
+        (8, [None, Some(16), Some(32), None, Some(0), None, Some(24), Some(1)]),
+        (32, [None, None, Some(72), None, Some(8), None, Some(40), Some(0)]),
+        (96, [Some(2), None, Some(152), None, Some(72), None, Some(56), Some(0)]),
+        (224, [None, None, Some(248), None, Some(152), None, Some(24), Some(0)]),
+        (248, [None, None, None, None, Some(224), None, Some(8), Some(1)]),
     ];
-    for (place, values) in expected {
-        for (question, value) in [1, 2, 4, 5, 6, 7, 8, 9].into_iter().zip(values) {
-            assert_eq!(world.value(question, place), value, "{question} of {place}");
+    for (place, told) in expected {
+        for (question, told) in [1, 2, 4, 5, 6, 7, 8, 9].into_iter().zip(told) {
+            assert_eq!(world.tells(question, place), told, "{question} of {place}");
         }
     }
-    assert_eq!(world.value(3, 160), 152);
-    assert_eq!([1, 2, 3].map(|q| world.bin_value(q, 2)), [1, 96, 96]);
-    assert_eq!([1, 2, 3].map(|q| world.bin_value(q, 0)), [0, 0, 0]);
+    assert_eq!(world.tells(3, 160), Some(152));
+    assert_eq!([1, 2, 3].map(|q| world.bin_tells(q, 2)), [Some(1), Some(96), Some(96)]);
+    assert_eq!([1, 2, 3].map(|q| world.bin_tells(q, 0)), [Some(0), None, None]);
+}
+
+#[test]
+fn zero_is_a_place_and_a_bin() {
+    let mut world = six(&[24, 32], false);
+    assert_eq!([0, 8].map(|place| world.tells(6, place)), [None, Some(0)]);
+    world.free(16);
+    world.free(64);
+    assert_eq!([8, 56].map(|place| world.tells(1, place)), [Some(0); 2]);
+    let (top, end) = (world.top(), world.record[0] - 8);
+    assert_eq!([0, 32, top, end].map(|place| world.tells(1, place)), [None; 4]);
+    assert_eq!([56, 8].map(|place| world.tells(5, place)), [Some(8), None]);
+    assert_eq!([56, 8].map(|place| world.tells(7, place)), [None, Some(56)]);
+    assert_eq!([1, 2, 3].map(|q| world.bin_tells(q, 1)), [Some(0), None, None]);
 }
 
 #[test]
@@ -173,7 +187,7 @@ fn put_at_head_in_the_small_array_and_at_tail_elsewhere() {
         for block in [16, 64, 112] {
             assert_eq!(world.free(block), freed(-24));
         }
-        assert_eq!([1, 2, 3].map(|q| world.bin_value(q, 0)), [3, first, last], "{table:?}");
+        assert_eq!([1, 2, 3].map(|q| world.bin_tells(q, 0)), [3, first, last].map(Some), "{table:?}");
         let after = |place| if first == 8 { place } else { 112 - place };
         assert_eq!(world.value(5, after(8)), 56);
         assert_eq!(world.value(7, after(104)), 56);
@@ -260,8 +274,8 @@ fn a_large_bin_is_searched_in_list_order() {
     assert_eq!(world.allocate(64), granted(blocks[2], 72));
     // 112 for 64 leaves 48, which is put behind the 48 already there.
     assert_eq!(world.allocate(56), granted(blocks[4], 64));
-    assert_eq!(world.bin_value(1, 0), 2);
-    assert_eq!(world.bin_value(3, 0), blocks[4] - 8 + 64);
+    assert_eq!(world.bin_tells(1, 0), Some(2));
+    assert_eq!(world.bin_tells(3, 0), Some(blocks[4] - 8 + 64));
     // A rest of 16 is no chunk: all 48 are granted for 32.
     assert_eq!(world.allocate(20), granted(blocks[0], 48));
 }

@@ -16,15 +16,19 @@ returns-2 c =
 
 returns-3 : tie.Need-returns-3
 returns-3 c =
+    let read = c .before .before .before in
     bin-answer
-    (first-told (c .before .before .before .if1 .left) (c .before .before .list-end .ensures) (c .before .if2 .left) (c .if3 .taken))
+    (first-told (read .before .if1 .left) (read .list-end .ensures) (c .before .before .if2 .left) (c .before .if3 .taken)
+    (c .link-told .ensures))
 
 returns-4 : tie.Need-returns-4
 returns-4 c =
-    let read = c .before .before .before .before in
+    let tail = c .before in
+    let read = tail .before .before .before .before in
     bin-answer
     (last-told (read .before .if1 .left) (read .list-end .ensures)
-    (c .before .before .before .if2 .left) (c .before .before .if3 .left) (c .before .if4 .taken) (c .list-end2 .ensures))
+    (tail .before .before .before .if2 .left) (tail .before .before .if3 .left) (tail .before .if4 .taken) (tail .list-end2 .ensures)
+    (c .link-told2 .ensures))
 
 returns-5 : tie.Need-returns-5
 returns-5 c =
@@ -41,7 +45,9 @@ ask-bin-spec =
     (λ c κs. search needs)
     (λ c κs. search needs)
     returns-2
+    (λ c κs. search needs)
     returns-3
+    (λ c κs. search needs)
     (λ c κs. search needs)
     returns-4
     returns-5)

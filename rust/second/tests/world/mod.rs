@@ -82,17 +82,18 @@ impl World {
         self.call(&Call::AskBin { question, bin })
     }
 
-    /// The value of a question, which must be accepted.
-    pub fn value(&mut self, question: u32, place: u32) -> u32 {
-        let answer = self.ask(question, place);
-        assert_eq!([answer[0], answer[1], answer[3], answer[4]], [0; 4]);
-        answer[2]
+    /// What a question about a chunk tells: a value or none. It must be accepted.
+    pub fn tells(&mut self, question: u32, place: u32) -> Option<u32> {
+        told(self.ask(question, place))
     }
 
-    pub fn bin_value(&mut self, question: u32, bin: u32) -> u32 {
-        let answer = self.ask_bin(question, bin);
-        assert_eq!([answer[0], answer[1], answer[3], answer[4]], [0; 4]);
-        answer[2]
+    pub fn bin_tells(&mut self, question: u32, bin: u32) -> Option<u32> {
+        told(self.ask_bin(question, bin))
+    }
+
+    /// The value that a question tells, where there is one.
+    pub fn value(&mut self, question: u32, place: u32) -> u32 {
+        self.tells(question, place).expect("a value")
     }
 
     pub fn word(&self, byte: u32) -> u32 {
@@ -125,12 +126,11 @@ impl World {
         let mut place = 0;
         loop {
             let size = self.value(8, place);
-            let next = self.value(4, place);
             text += &format!("{place} {size} {}\n", self.kind(place));
-            if next == 0 {
-                return text;
+            match self.tells(4, place) {
+                Some(next) => place = next,
+                None => return text,
             }
-            place = next;
         }
     }
 
@@ -156,6 +156,15 @@ impl World {
         let before = self.clone();
         assert_eq!(self.call(&call), [number, 0, 0, 0, 0], "{call:?}");
         assert!(*self == before, "{call:?} changed something");
+    }
+}
+
+/// An accepted question has the value, or 1 in the last word for none.
+fn told(answer: Answer) -> Option<u32> {
+    match answer {
+        [0, 0, value, 0, 0] => Some(value),
+        [0, 0, 0, 0, 1] => None,
+        _ => panic!("no question is answered so: {answer:?}"),
     }
 }
 
@@ -194,7 +203,7 @@ pub fn after_nine() -> World {
     assert_eq!(world.free(80), freed(-32));
     assert_eq!(world.free(112), freed(-48));
     assert_eq!(world.words(72, 6), [152, 8 + 24, 80, 0, 0, 16]);
-    assert_eq!(world.bin_value(2, 2), 72);
+    assert_eq!(world.bin_tells(2, 2), Some(72));
     world.refuses(6, Call::Free { block: 112 });
     assert_eq!(world.word(108), 73);
     assert_eq!(world.allocate(16), granted(80, 24));

@@ -181,17 +181,17 @@ impl Run {
     pub fn bins_hold(&mut self) {
         let mut counted = 0;
         for bin in 0..self.world.record[1] {
-            let (mut before, mut place) = (0, self.world.bin_value(2, bin));
+            let (mut before, mut here) = (None, self.world.bin_tells(2, bin));
             let mut count = 0;
-            while place != 0 {
-                assert_eq!(self.world.value(7, place), before);
-                assert_eq!(self.world.value(1, place), bin);
+            while let Some(place) = here {
+                assert_eq!(self.world.tells(7, place), before);
+                assert_eq!(self.world.tells(1, place), Some(bin));
                 assert!(self.world.value(8, place) >= self.world.record[6 + bin as usize]);
                 count += 1;
-                (before, place) = (place, self.world.value(5, place));
+                (before, here) = (here, self.world.tells(5, place));
             }
-            assert_eq!(self.world.bin_value(3, bin), before);
-            assert_eq!(self.world.bin_value(1, bin), count);
+            assert_eq!(self.world.bin_tells(3, bin), before);
+            assert_eq!(self.world.bin_tells(1, bin), Some(count));
             counted += count;
         }
         assert_eq!(self.world.check()[2], counted);
