@@ -59,7 +59,14 @@ unfoldable pub complement : ℤ → ℕ
 complement (pos n) = n % 2 ^ 32
 complement (negsuc n) = (2 ^ 32 - suc n % 2 ^ 32) % 2 ^ 32
 
--- the five words of an answer to any call but the check; the last is 1 where there is none
+-- where the value of an answer stands, and where 1 says that there is none
+abbrev pub valuePlace : ℕ
+valuePlace = 2
+
+abbrev pub nonePlace : ℕ
+nonePlace = 4
+
+-- the five words of an answer to any call but the check
 abbrev pub callWords : Figures → List ℕ
 callWords f = f .refusal ∷ f .offset ∷ f .value ∷ complement (f .change) ∷ cond (f .isNone) 1 0 ∷ []
 
@@ -78,9 +85,9 @@ answerOut ToldNone = callWords (figuresOf ToldNone)
 answerOut (Counted counts) = checkWords (figuresOf (Counted counts))
 answerOut (Refused refusal) = callWords (figuresOf (Refused refusal))
 
--- what a question told, as C reads it from the answer's words: none where the last is 1, else the value
+-- what a question told, as C reads it from the answer's words
 unfoldable pub toldIn : List ℕ → Option ℕ
-toldIn words = cond (eqb (getD words 4 0) 1) none (some (getD words 2 0))
+toldIn words = cond (eqb (getD words nonePlace 0) 1) none (some (getD words valuePlace 0))
 
 -- what the call returns beside: the refusal's number, 0 for none
 abbrev pub refusalOut : Answer → ℕ

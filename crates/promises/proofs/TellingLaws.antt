@@ -26,12 +26,15 @@ use Rattle.rules.specs.Calls.{step}
 use Rattle.rules.specs.Outcome.{judged, heapFails, unchanged}
 use Rattle.rules.proofs.AskLaws.{question-answer, last-in}
 use Rattle.rules.proofs.CheckLaws.{passes-iff}
-use Rattle.rules.proofs.SpotLaws.{spot-at, tiled-at, inside}
-use Rattle.rules.proofs.TiledLaws.{tiled-in}
+use Rattle.rules.proofs.SpotLaws.{spot-at, spot-cut, inside}
 use Rattle.promises.specs.Ways.{ours}
 use Rattle.promises.specs.Room.{HoldsBlock}
 use Rattle.promises.specs.Telling.{Adjacent, StartsWith, EndsWith, ofChunk, ofBin, TellingAt, Telling}
 use Rattle.promises.proofs.ReasonLaws.{live-iff, here-holds, one-block}
+
+-- the questions about a chunk: 1 to 9 but for 3, which is about a block
+abbrev OfChunks : ℕ → Type 0
+OfChunks q = (1 ≤ q) × (q ≤ 9) × (q ≡ 3 → ⊥)
 
 -- a chain cut at a chunk
 abbrev cutAt : List Entry → Entry → List Entry → Spot
@@ -55,35 +58,19 @@ module _ (ws : List ℕ) (h : Heap) (p : Passes ws h) where
 
   -- questions about a chunk, with the chain cut at it
   module _ (low : List Entry) (e : Entry) (high : List Entry) (split : es ≡ low ++ e ∷ high) where
-    -- no chunk below it has its place, so it is the one that is found
-    lower : (d : Entry) → Mem d low → isAt (e .place) d ≡ false
-    lower d m =
-        let t = tiled-at ws h p low e high split in
-        let (_, large, ends) = tiled-in 0 (t .from) low (t .below) m in
-        ne-eqb (d .place) (e .place) (omega (arith, t .place))
-
-    itself : isAt (e .place) e ≡ true
-    itself = eq-eqb (e .place) (e .place) refl
-
-    found-cut : spot (isAt (e .place)) es ≡ cutAt low e high
-    found-cut =
-        let at = spot-at ws h p (e .place) e (in-split low e high split) refl in
-        let below : upTo (isAt (e .place)) es ≡ low = ap (upTo (isAt (e .place))) split ∙ up-to-first (isAt (e .place)) low e high lower itself in
-        let above : past (isAt (e .place)) es ≡ high = ap (past (isAt (e .place))) split ∙ past-first (isAt (e .place)) low e high lower itself in
-        rw (at .here, below, above) refl
-
     abbrev answers : ℕ → List (Option ℕ)
     answers q = chunkAnswers (asRead ws h) (askedSpot (asRead ws h) q (e .place))
 
-    module _ (q : ℕ) (lo : 1 ≤ q) (hi : q ≤ 9) (n : q ≡ 3 → ⊥) where
+    module _ (q : ℕ) (k : OfChunks q) where
       accepted : (not (isAsked q (answers q)) || not (isThere (asRead ws h) q (e .place))) ≡ false
       unfolding asRead
       accepted =
-          rw (le-leb 1 q lo, le-leb q 9 hi, ne-eqb q 3 n, spot-at ws h p (e .place) e (in-split low e high split) refl .found)
+          let found = spot-at ws h p (e .place) e (in-split low e high split) refl .found in
+          rw (le-leb 1 q (k .0), le-leb q 9 (k .1), ne-eqb q 3 (k .2), found)
 
       asked-cut : askedSpot (asRead ws h) q (e .place) ≡ cutAt low e high
       unfolding asRead
-      asked-cut = rw (ne-eqb q 3 n) found-cut
+      asked-cut = rw (ne-eqb q 3 (k .2)) (spot-cut ws h p low e high split)
 
       cut-told : ofChunk ours ws h q (e .place) ≡ answerTo q (chunkAnswers (asRead ws h) (cutAt low e high))
       unfolding ours step askChunk
@@ -99,15 +86,14 @@ module _ (ws : List ℕ) (h : Heap) (p : Passes ws h) where
     abbrev highs : List Entry
     highs = spot (isAt (e .place)) es .high
 
-    chunk-told : (q : ℕ) → 1 ≤ q → q ≤ 9 → (q ≡ 3 → ⊥)
-        → ofChunk ours ws h q (e .place) ≡ answerTo q (chunkAnswers (asRead ws h) (cutAt lows e highs))
+    chunk-told : (q : ℕ) → OfChunks q → ofChunk ours ws h q (e .place) ≡ answerTo q (chunkAnswers (asRead ws h) (cutAt lows e highs))
     chunk-told = cut-told lows e highs (spot-at ws h p (e .place) e m refl .split)
 
     size-told : ofChunk ours ws h 8 (e .place) ≡ Told (e .size)
-    size-told = chunk-told 8 (omega arith) (omega arith) (omega arith)
+    size-told = chunk-told 8 (omega arith)
 
     type-told : (v : ℕ) → e .flags ≡ v → ofChunk ours ws h 9 (e .place) ≡ Told v
-    type-told v f = chunk-told 9 (omega arith) (omega arith) (omega arith) ∙ ap Told f
+    type-told v f = chunk-told 9 (omega arith) ∙ ap Told f
 
     used-told : inUse e ≡ true → ofChunk ours ws h 9 (e .place) ≡ Told 1
     unfolding inUse
@@ -119,39 +105,39 @@ module _ (ws : List ℕ) (h : Heap) (p : Passes ws h) where
 
     no-block-told : live h e ≡ false → ofChunk ours ws h 2 (e .place) ≡ ToldNone
     unfolding asRead
-    no-block-told l = chunk-told 2 (omega arith) (omega arith) (omega arith) ∙ rw l refl
+    no-block-told l = chunk-told 2 (omega arith) ∙ rw l refl
 
     block-told : live h e ≡ true → ofChunk ours ws h 2 (e .place) ≡ Told (blockOf e)
     unfolding asRead
-    block-told l = chunk-told 2 (omega arith) (omega arith) (omega arith) ∙ rw l refl
+    block-told l = chunk-told 2 (omega arith) ∙ rw l refl
 
     module _ (o : ordinary h e ≡ false) where
       no-bin-told : ofChunk ours ws h 1 (e .place) ≡ ToldNone
       unfolding asRead
-      no-bin-told = chunk-told 1 (omega arith) (omega arith) (omega arith) ∙ rw o refl
+      no-bin-told = chunk-told 1 (omega arith) ∙ rw o refl
 
       not-listed : (ofChunk ours ws h 5 (e .place) ≡ ToldNone) × (ofChunk ours ws h 7 (e .place) ≡ ToldNone)
       unfolding asRead
       not-listed = (
-        chunk-told 5 (omega arith) (omega arith) (omega arith) ∙ rw o refl,
-        chunk-told 7 (omega arith) (omega arith) (omega arith) ∙ rw o refl,
+        chunk-told 5 (omega arith) ∙ rw o refl,
+        chunk-told 7 (omega arith) ∙ rw o refl,
       )
 
   -- neighbours on the chain
   module _ (e d : Entry) where
     next-told : Adjacent es e d → ofChunk ours ws h 4 (e .place) ≡ Told (d .place)
-    next-told (before, after, s) = cut-told before e (d ∷ after) s 4 (omega arith) (omega arith) (omega arith)
+    next-told (before, after, s) = cut-told before e (d ∷ after) s 4 (omega arith)
 
     previous-told : Adjacent es e d → ofChunk ours ws h 6 (d .place) ≡ Told (e .place)
     previous-told (before, after, s) =
-        cut-told (before ++ e ∷ []) d after (second-of before e d after s) 6 (omega arith) (omega arith) (omega arith)
+        cut-told (before ++ e ∷ []) d after (second-of before e d after s) 6 (omega arith)
         ∙ ap told (last-place before e)
 
   no-next-told : (e : Entry) → EndsWith es e → ofChunk ours ws h 4 (e .place) ≡ ToldNone
-  no-next-told e (before, s) = cut-told before e [] s 4 (omega arith) (omega arith) (omega arith)
+  no-next-told e (before, s) = cut-told before e [] s 4 (omega arith)
 
   no-previous-told : (e : Entry) → StartsWith es e → ofChunk ours ws h 6 (e .place) ≡ ToldNone
-  no-previous-told e (after, s) = cut-told [] e after s 6 (omega arith) (omega arith) (omega arith)
+  no-previous-told e (after, s) = cut-told [] e after s 6 (omega arith)
 
   -- the chunk of a live block: one chunk holds it
   holder-told : (b : ℕ) (e : Entry) → HoldsBlock ws h b e → ofChunk ours ws h 3 b ≡ Told (e .place)
@@ -179,21 +165,21 @@ module _ (ws : List ℕ) (h : Heap) (p : Passes ws h) where
     unfolding asRead
     next-in-bin =
         let (e, r) = listed in
-        ap (ofChunk ours ws h 5) (sym (r .place)) ∙ chunk-told e (r .member) 5 (omega arith) (omega arith) (omega arith)
+        ap (ofChunk ours ws h 5) (sym (r .place)) ∙ chunk-told e (r .member) 5 (omega arith)
         ∙ rw (r .kind, r .takes, r .place) (ap (λ (cs : List ℕ). told (firstIn cs)) after-it)
 
     previous-in-bin : ofChunk ours ws h 7 c ≡ told (lastIn xs)
     unfolding asRead
     previous-in-bin =
         let (e, r) = listed in
-        ap (ofChunk ours ws h 7) (sym (r .place)) ∙ chunk-told e (r .member) 7 (omega arith) (omega arith) (omega arith)
+        ap (ofChunk ours ws h 7) (sym (r .place)) ∙ chunk-told e (r .member) 7 (omega arith)
         ∙ rw (r .kind, r .takes, r .place) (ap (λ (cs : List ℕ). told (lastIn cs)) before-it)
 
   bin-told : (i c : ℕ) → i < h .bins → Mem c (binList ws h i) → ofChunk ours ws h 1 c ≡ Told i
   unfolding asRead
   bin-told i c l m =
       let (e, r) = member-entry ws h p i c l m in
-      ap (ofChunk ours ws h 1) (sym (r .place)) ∙ chunk-told e (r .member) 1 (omega arith) (omega arith) (omega arith) ∙ rw (r .kind, r .takes) refl
+      ap (ofChunk ours ws h 1) (sym (r .place)) ∙ chunk-told e (r .member) 1 (omega arith) ∙ rw (r .kind, r .takes) refl
 
   -- a bin, by what its list is
   module _ (i : ℕ) (l : i < h .bins) where

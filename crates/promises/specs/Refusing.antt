@@ -175,7 +175,7 @@ refusedRecord (Patrol f) h = h
 pub record Refusing (way : Way) : Type 0 where
   pub exactly : (call : Call) (ws : List ℕ) (h : Heap) (r : Refusal)
       → (way call ws h .answer ≡ Refused r) ↔ First ws h call r
-  -- offset, value, change and counts are 0
+  -- offset, value, change and counts are 0, and it is no answer of none
   pub figures : (call : Call) (ws : List ℕ) (h : Heap) (r : Refusal) → way call ws h .answer ≡ Refused r
       → figuresOf (way call ws h .answer) ≡ figures (numberOf r) 0 0 false (pos 0) noCounts
   pub heap : (call : Call) (ws : List ℕ) (h : Heap) (r : Refusal) → way call ws h .answer ≡ Refused r

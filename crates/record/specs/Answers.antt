@@ -32,7 +32,7 @@ pub record Figures : Type 0 where
   pub refusal : ℕ
   pub offset : ℕ
   pub value : ℕ
-  -- there is none: then the value is 0, and means nothing
+  -- a question was answered none; the value is then 0
   pub isNone : Bool
   pub change : ℤ
   pub counts : Counts

@@ -1,16 +1,16 @@
 -- Where the chunks of a heap that passes lie: they tile the heap bytes, so no two overlap, and each chunk's links name its neighbours.
 -- Also start and end, and the chain split at one of its chunks. What is known of a chunk by its kind is in `NamedLaws`. Assumes nothing.
-use mathlib.Core.Path.{_≡_, sym, ap, _∙_}
+use mathlib.Core.Path.{_≡_, refl, sym, ap, _∙_}
 use mathlib.Core.Logic.{_⊎_, inl, inr}
-use mathlib.Core.Bool.{Bool, true}
+use mathlib.Core.Bool.{Bool, true, false}
 use mathlib.Core.List.{List, [], _∷_, _++_, append-assoc, List·Memᴰ·not-nil}
 use Prim.Native.Nat.{ℕ, _+_, _*_, _-_, _%_, _≤_, _<_}
 use native.Mathlib.Omega.{arith}
 use lib.ListN.{length, drop}
-use borrow.Author.Tests.{eqb-true}
-use Rattle.lists.specs.Lists.{Mem, headOr, lastOr, butLast, any}
+use borrow.Author.Tests.{eqb-true, eq-eqb, ne-eqb}
+use Rattle.lists.specs.Lists.{Mem, headOr, lastOr, butLast, any, upTo, past}
 use Rattle.lists.proofs.ListsLaws.{number-is, for-some}
-use Rattle.lists.proofs.SplitLaws.{begins-with, ends-with, in-split, first-splits}
+use Rattle.lists.proofs.SplitLaws.{begins-with, ends-with, in-split, first-splits, up-to-first, past-first}
 use Rattle.record.specs.declared.heap.Heap.{Heap}
 use Rattle.region.specs.Words.{word, forward, backward}
 use Rattle.rules.specs.Shape.{Entry, flagsAt, shape, chunkEnd}
@@ -208,6 +208,21 @@ module _ (ws : List ℕ) (h : Heap) (p : Passes ws h) where
       let s = spot-splits (isAt c) es a in
       let i : spot (isAt c) es .here ≡ e = one-chunk _ e (spot-member (isAt c) es a) m (eqb-true _ _ (s .1) ∙ sym q) in
       record { found = a; here = i; split = s .0 ∙ ap (λ (x : Entry). spot (isAt c) es .low ++ x ∷ spot (isAt c) es .high) i }
+
+  -- where the chain is cut at a chunk, the chunk's spot is that cut: no chunk below has its place
+  module _ (low : List Entry) (e : Entry) (high : List Entry) (split : es ≡ low ++ e ∷ high) where
+    none-below : (d : Entry) → Mem d low → isAt (e .place) d ≡ false
+    none-below d m =
+        let t = tiled-at low e high split in
+        let (_, some, end) = tiled-in 0 (t .from) low (t .below) m in
+        ne-eqb (d .place) (e .place) (omega (arith, t .place))
+
+    pub spot-cut : spot (isAt (e .place)) es ≡ record { low = low; here = e; high = high }
+    spot-cut =
+        let itself = eq-eqb (e .place) (e .place) refl in
+        let below : upTo (isAt (e .place)) es ≡ low = ap (upTo (isAt (e .place))) split ∙ up-to-first (isAt (e .place)) low e high none-below itself in
+        let above : past (isAt (e .place)) es ≡ high = ap (past (isAt (e .place))) split ∙ past-first (isAt (e .place)) low e high none-below itself in
+        rw (spot-at (e .place) e (in-split low e high split) refl .here, below, above) refl
 
   -- `sizeOn` is the size of the chunk at c
   pub size-on : (c : ℕ) (e : Entry) → Mem e es → e .place ≡ c → sizeOn es c ≡ e .size

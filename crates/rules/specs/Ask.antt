@@ -1,5 +1,5 @@
 -- Questions about a chunk and about a bin (document 01, "The calls": Questions); refusals 4, then 8.
--- An answer is a value or none, and none is not 0 (document 02, request One): 0 is the start's place, and a bin's number.
+-- What is asked for is a value or none, and none is not 0 (document 02, request One): 0 is the start's place and a bin's number.
 use mathlib.Core.Bool.{Bool, true, false, not, cond, _&&_, _||_}
 use mathlib.Core.List.{List, [], _∷_, map}
 use mathlib.Core.Option.{Option, some, none}
@@ -22,7 +22,7 @@ use Rattle.rules.specs.Draft.{Draft, asRead, Spot, spot}
 use Rattle.rules.specs.Outcome.{Outcome, Refusals, judged, heapFails, unchanged}
 use Rattle.rules.specs.Free.{isLive, blockSpot}
 
--- the answer that says so
+-- a value and none, as answers
 abbrev pub told : Option ℕ → Answer
 told (some v) = Told v
 told none = ToldNone
