@@ -65,22 +65,15 @@ module _ (ws : List ℕ) (c : ℕ) where
       go (no n) (List·Memᴰ·tail k) f = rw (ne-eqb c d n) (f k)
 
 -- 0, which a link has for none, is no member's place
-module _ (cs : List ℕ) (places : (c : ℕ) → Mem c cs → 0 < c) where
-  first-told : linkToldM (headOr 0 cs) ≡ told (firstIn cs)
-  unfolding linkToldM
-  first-told = go cs places
-    where
-      go : (xs : List ℕ) → ((c : ℕ) → Mem c xs → 0 < c) → cond (eqb (headOr 0 xs) 0) ToldNone (Told (headOr 0 xs)) ≡ told (firstIn xs)
-      go [] f = refl
-      go (x ∷ xs) f = let n = f x (List·Memᴰ·head refl) in rw (ne-eqb x 0 (omega arith))
+first-told : (cs : List ℕ) → ((c : ℕ) → Mem c cs → 0 < c) → linkToldM (headOr 0 cs) ≡ told (firstIn cs)
+unfolding linkToldM
+first-told [] f = refl
+first-told (x ∷ xs) f = let n = f x (List·Memᴰ·head refl) in rw (ne-eqb x 0 (omega arith))
 
-  last-told : linkToldM (lastOr 0 cs) ≡ told (lastIn cs)
-  unfolding linkToldM
-  last-told = go cs places
-    where
-      go : (xs : List ℕ) → ((c : ℕ) → Mem c xs → 0 < c) → cond (eqb (lastOr 0 xs) 0) ToldNone (Told (lastOr 0 xs)) ≡ told (lastIn xs)
-      go [] f = refl
-      go (x ∷ xs) f = let n = f (lastOr x xs) (last-member x xs) in rw (ne-eqb (lastOr x xs) 0 (omega arith))
+last-told : (cs : List ℕ) → ((c : ℕ) → Mem c cs → 0 < c) → linkToldM (lastOr 0 cs) ≡ told (lastIn cs)
+unfolding linkToldM
+last-told [] f = refl
+last-told (x ∷ xs) f = let n = f (lastOr x xs) (last-member x xs) in rw (ne-eqb (lastOr x xs) 0 (omega arith))
 
 -- so the links of a member name its neighbours in the list, or none
 module _ (ws : List ℕ) (c : ℕ) (cs : List ℕ) (links : Linked ws 0 cs) (places : (d : ℕ) → Mem d cs → 0 < d) (m : Mem c cs) where

@@ -1,5 +1,5 @@
 -- Joining (coalescing) by the kinds of a chunk's two neighbours; and the chunk of a live block between its neighbours. Assumes nothing.
-use mathlib.Core.Path.{_≡_, refl, sym, ap, _∙_}
+use mathlib.Core.Path.{_≡_, refl, ap, _∙_}
 use mathlib.Core.Logic.{_⊎_, inl, inr}
 use mathlib.Core.Bool.{Bool, true, false, cond, _&&_, false≢true, and-false}
 use mathlib.Core.List.{List, [], _∷_, _++_, append-assoc}
@@ -10,7 +10,7 @@ use lib.Dec.{ltb}
 use lib.ListN.{drop}
 use borrow.Author.Tests.{lt-ltb, le-ltb}
 use Rattle.lists.specs.Lists.{Mem, headOr, lastOr, butLast}
-use Rattle.lists.proofs.SplitLaws.{in-split}
+use Rattle.lists.proofs.SplitLaws.{in-split, split-second}
 use Rattle.record.specs.declared.heap.Heap.{Heap}
 use Rattle.record.specs.declared.kinds.Kind.{Kind}
 use Rattle.record.specs.declared.kinds.Kind.the-variants.{Start, InUse, Ordinary, Donor, Top, End}
@@ -141,7 +141,7 @@ module _ {ws : List ℕ} {h : Heap} {low : List Entry} {e : Entry} {high : List 
 
   pub split-high : es ≡ (low ++ e ∷ []) ++ above ∷ drop 1 high
   split-high =
-      chunk .split ∙ ap (λ (x : List Entry). low ++ e ∷ x) (sides .highs) ∙ sym (append-assoc low (e ∷ []) (above ∷ drop 1 high))
+      split-second low e above (drop 1 high) (chunk .split ∙ ap (λ (x : List Entry). low ++ e ∷ x) (sides .highs))
 
   pub summit : (u : Bool) → (u ≡ true → isFree h above ≡ true)
       → Summit es e (cond u (chunkEnd above) (chunkEnd e)) (cond u (word ws (chunkEnd e) forward) (chunkEnd e)) (headOr outside (cond u (drop 1 high) high))

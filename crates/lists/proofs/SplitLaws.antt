@@ -2,7 +2,7 @@
 use mathlib.Core.Path.{_≡_, refl, sym, ap, _∙_}
 use mathlib.Core.Logic.{_⊎_, inl, inr}
 use mathlib.Core.Bool.{Bool, true, false, cond, _||_, false≢true}
-use mathlib.Core.List.{List, [], _∷_, _++_, List·Memᴰ·head, List·Memᴰ·tail, List·Memᴰ·not-nil, List·Memᴰ·append-cases, List·Memᴰ·eq-of-singleton, Memᴰ·append-left, Memᴰ·append-right}
+use mathlib.Core.List.{List, [], _∷_, _++_, append-assoc, List·Memᴰ·head, List·Memᴰ·tail, List·Memᴰ·not-nil, List·Memᴰ·append-cases, List·Memᴰ·eq-of-singleton, Memᴰ·append-left, Memᴰ·append-right}
 use Prim.Native.Nat.{ℕ}
 use lib.Dec.{eqb}
 use lib.ListN.{drop}
@@ -35,6 +35,16 @@ last-stays b c (y ∷ ys) n = refl
 
 pub in-split : {A : Type 0} {l : List A} (low : List A) (e : A) (high : List A) → l ≡ low ++ e ∷ high → Mem e l
 in-split low e high s = rw s (Memᴰ·append-right low (List·Memᴰ·head refl))
+
+-- split at the second of two neighbours, and at the one before a member
+module _ {A : Type 0} {l : List A} where
+  pub split-second : (before : List A) (x y : A) (after : List A) → l ≡ before ++ x ∷ y ∷ after → l ≡ (before ++ x ∷ []) ++ y ∷ after
+  split-second before x y after s = s ∙ sym (append-assoc before (x ∷ []) (y ∷ after))
+
+  pub split-before : (o : A) (low : List A) (e : A) (high : List A) → (low ≡ [] → ⊥) → l ≡ low ++ e ∷ high
+      → l ≡ butLast low ++ lastOr o low ∷ e ∷ high
+  split-before o low e high n s =
+      s ∙ ap (λ (xs : List A). xs ++ e ∷ high) (ends-with o low n) ∙ append-assoc (butLast low) (lastOr o low ∷ []) (e ∷ high)
 
 -- split at the first member for which a test holds
 module _ {A : Type 0} (q : A → Bool) where

@@ -2,14 +2,14 @@
 -- (`one-of-chunk`, `one-of-bin`). Assumes nothing.
 use mathlib.Core.Path.{_≡_, refl, sym, ap, _∙_}
 use mathlib.Core.Bool.{Bool, true, false}
-use mathlib.Core.List.{List, [], _∷_, _++_, append-assoc, cons≢nil}
+use mathlib.Core.List.{List, [], _∷_, _++_, cons≢nil}
 use Prim.Native.Nat.{ℕ, zero, suc, _≤_, _<_}
 use native.Mathlib.Decide.{ℕ-discrete}
 use native.Mathlib.Omega.{arith}
 use lib.Dec.{eqb}
 use lib.ListN.{length}
 use Rattle.lists.specs.Lists.{Mem, lastOr, butLast, upTo, past}
-use Rattle.lists.proofs.SplitLaws.{ends-with, split-at-member}
+use Rattle.lists.proofs.SplitLaws.{ends-with, split-before, split-at-member}
 use Rattle.record.specs.declared.answers.Answer.{Answer}
 use Rattle.record.specs.declared.answers.Answer.the-variants.{Told, ToldNone}
 use Rattle.record.specs.declared.heap.Heap.{Heap}
@@ -22,15 +22,9 @@ use Rattle.promises.specs.Ways.{Way}
 use Rattle.promises.specs.Refusing.{AskedOf}
 use Rattle.promises.specs.Telling.{ofChunk, ofBin, Telling}
 
--- every way that keeps the promise gives one answer
+-- there is an answer that every way gives which keeps the promise
 abbrev pub OneAnswer : (Way → Answer) → Type 0
 OneAnswer given = (a : Answer) × ((way : Way) → Telling way → given way ≡ a)
-
--- a list that does not end before e ends with d, the chunk or place before it
-cut-before : {A : Type 0} {l : List A} (d : A) (low : List A) (e : A) (high : List A) → l ≡ d ∷ low ++ e ∷ high
-    → l ≡ butLast (d ∷ low) ++ lastOr d low ∷ e ∷ high
-cut-before {A} d low e high s =
-    s ∙ ap (λ (xs : List A). xs ++ e ∷ high) (ends-with d (d ∷ low) cons≢nil) ∙ append-assoc (butLast (d ∷ low)) (lastOr d low ∷ []) (e ∷ high)
 
 module _ (ws : List ℕ) (h : Heap) (p : Passes ws h) where
   abbrev es : List Entry
@@ -47,7 +41,7 @@ module _ (ws : List ℕ) (h : Heap) (p : Passes ws h) where
   before : (low : List Entry) (e : Entry) (high : List Entry) → es ≡ low ++ e ∷ high → OfChunk 6 (e .place)
   before [] e high s = (ToldNone, λ way t. t ws h p .noPrevious e (high, s))
   before (d ∷ low) e high s =
-      (Told (lastOr d low .place), λ way t. t ws h p .previous (lastOr d low) e (butLast (d ∷ low), high, cut-before d low e high s))
+      (Told (lastOr d low .place), λ way t. t ws h p .previous (lastOr d low) e (butLast (d ∷ low), high, split-before d (d ∷ low) e high cons≢nil s))
 
   -- in the list of bin i, cut at c
   module _ (i : ℕ) (l : i < h .bins) where
@@ -58,7 +52,7 @@ module _ (ws : List ℕ) (h : Heap) (p : Passes ws h) where
     before-in-bin : (low : List ℕ) (c : ℕ) (high : List ℕ) → binList ws h i ≡ low ++ c ∷ high → OfChunk 7 c
     before-in-bin [] c high s = (ToldNone, λ way t. t ws h p .noPreviousInBin i c l (high, s))
     before-in-bin (d ∷ low) c high s =
-        (Told (lastOr d low), λ way t. t ws h p .previousInBin i (lastOr d low) c l (butLast (d ∷ low), high, cut-before d low c high s))
+        (Told (lastOr d low), λ way t. t ws h p .previousInBin i (lastOr d low) c l (butLast (d ∷ low), high, split-before d (d ∷ low) c high cons≢nil s))
 
   -- by the kind of a chunk
   module _ (e : Entry) (m : Mem e es) where

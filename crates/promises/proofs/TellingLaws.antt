@@ -1,7 +1,7 @@
 -- The answers to the twelve questions are those of the chain and the lists (`telling`). Assumes nothing.
 use mathlib.Core.Path.{_≡_, refl, sym, ap, _∙_}
 use mathlib.Core.Bool.{true, false, not, cond, _||_}
-use mathlib.Core.List.{List, [], _∷_, _++_, append-assoc, map-append, List·Memᴰ·head}
+use mathlib.Core.List.{List, [], _∷_, _++_, map-append, List·Memᴰ·head}
 use mathlib.Core.Option.{Option, some}
 use Prim.Native.Nat.{ℕ, _%_, _≤_, _<_}
 use native.Mathlib.Omega.{arith}
@@ -11,7 +11,7 @@ use borrow.Author.Tests.{eqb-true, eqb-false, eq-eqb, ne-eqb, le-leb, lt-ltb}
 use Rattle.books.proofs.HeapBooks.{Member, member-entry}
 use Rattle.lists.specs.Lists.{Mem, upTo, past}
 use Rattle.lists.proofs.MembersLaws.{distinct-parts}
-use Rattle.lists.proofs.SplitLaws.{in-split, up-to-first, past-first}
+use Rattle.lists.proofs.SplitLaws.{in-split, split-second, up-to-first, past-first}
 use Rattle.record.specs.declared.answers.Answer.{Answer}
 use Rattle.record.specs.declared.answers.Answer.the-variants.{Told, ToldNone, Refused}
 use Rattle.record.specs.declared.answers.Refusal.the-variants.{NotThere}
@@ -41,13 +41,8 @@ abbrev cutAt : List Entry → Entry → List Entry → Spot
 cutAt low e high = record { low = low; here = e; high = high }
 
 -- the place of the last chunk is the last of the places
-last-place : (low : List Entry) (e : Entry) → lastIn (placesOf (low ++ e ∷ [])) ≡ some (e .place)
-last-place low e = ap lastIn (map-append (λ (x : Entry). x .place) low (e ∷ [])) ∙ last-in (placesOf low) (e .place)
-
--- two neighbours, with the list cut at the second
-second-of : {A : Type 0} {l : List A} (before : List A) (x y : A) (after : List A) → l ≡ before ++ x ∷ y ∷ after
-    → l ≡ (before ++ x ∷ []) ++ y ∷ after
-second-of before x y after s = s ∙ sym (append-assoc before (x ∷ []) (y ∷ after))
+last-of-places : (low : List Entry) (e : Entry) → lastIn (placesOf (low ++ e ∷ [])) ≡ some (e .place)
+last-of-places low e = ap lastIn (map-append (λ (x : Entry). x .place) low (e ∷ [])) ∙ last-in (placesOf low) (e .place)
 
 module _ (ws : List ℕ) (h : Heap) (p : Passes ws h) where
   abbrev es : List Entry
@@ -130,8 +125,8 @@ module _ (ws : List ℕ) (h : Heap) (p : Passes ws h) where
 
     previous-told : Adjacent es e d → ofChunk ours ws h 6 (d .place) ≡ Told (e .place)
     previous-told (before, after, s) =
-        cut-told (before ++ e ∷ []) d after (second-of before e d after s) 6 (omega arith)
-        ∙ ap told (last-place before e)
+        cut-told (before ++ e ∷ []) d after (split-second before e d after s) 6 (omega arith)
+        ∙ ap told (last-of-places before e)
 
   no-next-told : (e : Entry) → EndsWith es e → ofChunk ours ws h 4 (e .place) ≡ ToldNone
   no-next-told e (before, s) = cut-told before e [] s 4 (omega arith)
@@ -215,7 +210,7 @@ module _ (ws : List ℕ) (h : Heap) (p : Passes ws h) where
         noPrevious = no-previous-told;
         nextInBin = λ i c d l (before, after, s). next-in-bin i l before c (d ∷ after) s;
         noNextInBin = λ i c l (before, s). next-in-bin i l before c [] s;
-        previousInBin = λ i c d l (before, after, s). previous-in-bin i l (before ++ c ∷ []) d after (second-of before c d after s) ∙ ap told (last-in before c);
+        previousInBin = λ i c d l (before, after, s). previous-in-bin i l (before ++ c ∷ []) d after (split-second before c d after s) ∙ ap told (last-in before c);
         noPreviousInBin = λ i c l (after, s). previous-in-bin i l [] c after s;
         notListed = not-listed;
         size = size-told;

@@ -1,5 +1,5 @@
 -- Each of the three wrong ways of the questions breaks a promise, shown on the smallest heap, of 10 words: at its start chunk, which is at 0,
--- and at the chunk above. Assumes nothing.
+-- and at the chunk above. What breaks `Zero` breaks `Telling` too, from which it follows. Assumes nothing.
 use mathlib.Core.Path.{_≡_, sym, ap, _∙_}
 use mathlib.Core.Bool.{false≢true}
 use Prim.Native.Nat.{ℕ}
@@ -12,37 +12,30 @@ use Rattle.rules.specs.Shape.{Entry, shape}
 use Rattle.rules.specs.Kinds.{outside}
 use Rattle.rules.proofs.SpotLaws.{ends}
 use Rattle.promises.specs.Ways.{Way, ours}
-use Rattle.promises.specs.Telling.{ofChunk, Telling}
-use Rattle.promises.specs.Zero.{ZeroAt}
+use Rattle.promises.specs.Telling.{Telling}
+use Rattle.promises.specs.Zero.{ZeroAt, Zero}
 use Rattle.promises.specs.Wrong.{retold, zeroIfNone, noneIfZero, zeroForNone, noneForZero, alwaysZero}
 use Rattle.promises.proofs.TellingLaws.{telling}
-use Rattle.promises.proofs.ZeroLaws.{zero-follows, zero}
+use Rattle.promises.proofs.ZeroLaws.{zero}
 use Rattle.promises.proofs.WrongPatrolLaws.{smallest, smallest-passes}
 
--- a question about the chunk at c of the smallest heap, answered in some way
-abbrev asked : Way → ℕ → ℕ → Answer
-asked way q c = ofChunk way (smallest .words) (smallest .heap) q c
-
--- what a way that keeps its promise says of 0 there
-zero-of : (way : Way) → Telling way → ZeroAt way (smallest .words) (smallest .heap)
-zero-of way promised = zero-follows way promised (smallest .words) (smallest .heap) smallest-passes
-
-abbrev ourZero : ZeroAt ours (smallest .words) (smallest .heap)
-ourZero = zero (smallest .words) (smallest .heap) smallest-passes
+-- what a way that keeps the promise tells of 0 there, and so ours
+there : (way : Way) → Zero way → ZeroAt way (smallest .words) (smallest .heap)
+there way promised = promised (smallest .words) (smallest .heap) smallest-passes
 
 -- a value is not none
 not-none : (v : ℕ) → Told v ≡ ToldNone → ⊥
 not-none v e = false≢true (ap (λ (a : Answer). figuresOf a .isNone) e)
 
 -- 10: the start's previous is none, and 0 is told
-pub telling-refutes-zero-for-none : Telling zeroForNone → ⊥
-telling-refutes-zero-for-none promised =
-    not-none 0 (sym (ap (retold zeroIfNone) (ourZero .ofStart)) ∙ zero-of zeroForNone promised .ofStart)
+pub zero-refutes-zero-for-none : Zero zeroForNone → ⊥
+zero-refutes-zero-for-none promised =
+    not-none 0 (sym (ap (retold zeroIfNone) (there ours zero .ofStart)) ∙ there zeroForNone promised .ofStart)
 
 -- 11: the previous of the chunk above it is the start, at 0, and none is told
-pub telling-refutes-none-for-zero : Telling noneForZero → ⊥
-telling-refutes-none-for-zero promised =
-    not-none 0 (sym (zero-of noneForZero promised .aboveStart) ∙ ap (retold noneIfZero) (ourZero .aboveStart))
+pub zero-refutes-none-for-zero : Zero noneForZero → ⊥
+zero-refutes-none-for-zero promised =
+    not-none 0 (sym (there noneForZero promised .aboveStart) ∙ ap (retold noneIfZero) (there ours zero .aboveStart))
 
 -- 12: the size of the start is 8, and 0 is told
 abbrev start : Entry

@@ -2,7 +2,7 @@
 -- writes nothing and goes from chunk to chunk (`run-quiet`; chunk by chunk `run-steps`, `run-last`). Assumes nothing.
 use mathlib.Core.Path.{_≡_, refl, sym, ap, subst, _∙_}
 use mathlib.Core.Bool.{Bool, true, false}
-use mathlib.Core.List.{List, [], _∷_, _++_, append-assoc}
+use mathlib.Core.List.{List, [], _∷_, _++_}
 use mathlib.Core.Option.{Option, some}
 use Prim.Native.Nat.{ℕ, zero, suc, _+_, _-_, _%_, _≤_, _<_}
 use native.Mathlib.Decide.{ℕ-discrete, decLt}
@@ -10,7 +10,7 @@ use native.Mathlib.Omega.{arith}
 use lib.ListN.{drop}
 use borrow.Author.Tests.{eqb-false}
 use Rattle.lists.specs.Lists.{Mem, headOr, lastOr, butLast}
-use Rattle.lists.proofs.SplitLaws.{ends-with, in-split}
+use Rattle.lists.proofs.SplitLaws.{in-split, split-second, split-before}
 use Rattle.record.specs.declared.answers.Refusal.{Refusal}
 use Rattle.record.specs.declared.heap.Heap.{Heap}
 use Rattle.region.specs.Words.{word, backward}
@@ -77,7 +77,7 @@ module _ (ws : List ℕ) (h : Heap) (p : Passes ws h) where
       go : (low high : List Entry) → es ≡ low ++ e ∷ high → (d : Entry) × Mem d es × NextIs ws e d
       go low [] q = let t = tiled-at ws h p low e [] q .above in let n = chunk-next e m l in absurd (omega arith)
       go low (d ∷ high) q =
-          (d, in-split (low ++ e ∷ []) d high (q ∙ sym (append-assoc low (e ∷ []) (d ∷ high))), next-is ws h p low e d high q)
+          (d, in-split (low ++ e ∷ []) d high (split-second low e d high q), next-is ws h p low e d high q)
 
   -- the chunk below a chunk above the start
   pub below-it : (d : Entry) → Mem d es → 0 < d .place → (e : Entry) × Mem e es × NextIs ws e d
@@ -90,8 +90,7 @@ module _ (ws : List ℕ) (h : Heap) (p : Passes ws h) where
           let t = tiled-at ws h p low d high q in
           let filled : low ≡ [] → ⊥ = λ z. let k = tiled-empty 0 (t .from) low (t .below) z in omega arith in
           let e = lastOr outside low in
-          let split : es ≡ butLast low ++ e ∷ d ∷ high =
-          q ∙ ap (λ (l : List Entry). l ++ d ∷ high) (ends-with outside low filled) ∙ append-assoc (butLast low) (e ∷ []) (d ∷ high) in
+          let split = split-before outside low d high filled q in
           (e, in-split (butLast low) e (d ∷ high) split, next-is ws h p (butLast low) e d high split)
 
   pub chunk-right : (e : Entry) → Mem e es → e .place + 8 < h .bytes → Right ws (e .place) (chunkEnd e)

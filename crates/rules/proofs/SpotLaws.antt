@@ -3,14 +3,14 @@
 use mathlib.Core.Path.{_≡_, refl, sym, ap, _∙_}
 use mathlib.Core.Logic.{_⊎_, inl, inr}
 use mathlib.Core.Bool.{Bool, true, false}
-use mathlib.Core.List.{List, [], _∷_, _++_, append-assoc, List·Memᴰ·not-nil}
+use mathlib.Core.List.{List, [], _∷_, _++_, List·Memᴰ·not-nil}
 use Prim.Native.Nat.{ℕ, _+_, _*_, _-_, _%_, _≤_, _<_}
 use native.Mathlib.Omega.{arith}
 use lib.ListN.{length, drop}
 use borrow.Author.Tests.{eqb-true, eq-eqb, ne-eqb}
 use Rattle.lists.specs.Lists.{Mem, headOr, lastOr, butLast, any, upTo, past}
 use Rattle.lists.proofs.ListsLaws.{number-is, for-some}
-use Rattle.lists.proofs.SplitLaws.{begins-with, ends-with, in-split, first-splits, up-to-first, past-first}
+use Rattle.lists.proofs.SplitLaws.{begins-with, ends-with, in-split, split-second, split-before, first-splits, up-to-first, past-first}
 use Rattle.record.specs.declared.heap.Heap.{Heap}
 use Rattle.region.specs.Words.{word, forward, backward}
 use Rattle.rules.specs.Shape.{Entry, flagsAt, shape, chunkEnd}
@@ -234,18 +234,17 @@ module _ (ws : List ℕ) (h : Heap) (p : Passes ws h) where
   around low e high s lo hi =
       let b = between e (in-split low e high s) lo hi in
       let c = tiled-at low e high s in
-      let ls = ends-with outside low (λ z. let k = tiled-empty 0 (c .from) low (c .below) z in omega arith) in
+      let some : low ≡ [] → ⊥ = λ z. let k = tiled-empty 0 (c .from) low (c .below) z in omega arith in
       let hs = begins-with outside high (λ z. let k = tiled-empty (chunkEnd e) (h .bytes) high (c .above) z in omega arith) in
-      let es-low : es ≡ butLast low ++ lastOr outside low ∷ e ∷ high =
-      s ∙ ap (λ (l : List Entry). l ++ e ∷ high) ls ∙ append-assoc (butLast low) (lastOr outside low ∷ []) (e ∷ high) in
+      let es-low = split-before outside low e high some s in
       let es-high : es ≡ low ++ e ∷ headOr outside high ∷ drop 1 high = s ∙ ap (λ (l : List Entry). low ++ e ∷ l) hs in
       let down = next-is (butLast low) (lastOr outside low) e high es-low in
       let up = next-is low e (headOr outside high) (drop 1 high) es-high in
       record {
-        lows = ls;
+        lows = ends-with outside low some;
         highs = hs;
         below = in-split (butLast low) _ (e ∷ high) es-low;
-        above = in-split (low ++ e ∷ []) _ (drop 1 high) (es-high ∙ sym (append-assoc low (e ∷ []) _));
+        above = in-split (low ++ e ∷ []) _ (drop 1 high) (split-second low e _ (drop 1 high) es-high);
         belowEnd = sym (down .place);
         abovePlace = up .place;
         ownForward = up .forth;
