@@ -40,6 +40,13 @@ OfChunks q = (1 ≤ q) × (q ≤ 9) × (q ≡ 3 → ⊥)
 abbrev cutAt : List Entry → Entry → List Entry → Spot
 cutAt low e high = record { low = low; here = e; high = high }
 
+-- the first and the last of a list, as answers
+abbrev toldFirst : List ℕ → Answer
+toldFirst cs = told (firstIn cs)
+
+abbrev toldLast : List ℕ → Answer
+toldLast cs = told (lastIn cs)
+
 -- the place of the last chunk is the last of the places
 last-of-places : (low : List Entry) (e : Entry) → lastIn (placesOf (low ++ e ∷ [])) ≡ some (e .place)
 last-of-places low e = ap lastIn (map-append (λ (x : Entry). x .place) low (e ∷ [])) ∙ last-in (placesOf low) (e .place)
@@ -83,6 +90,11 @@ module _ (ws : List ℕ) (h : Heap) (p : Passes ws h) where
 
     chunk-told : (q : ℕ) → OfChunks q → ofChunk ours ws h q (e .place) ≡ answerTo q (chunkAnswers (asRead ws h) (cutAt lows e highs))
     chunk-told = cut-told lows e highs (spot-at ws h p (e .place) e m refl .split)
+
+    -- the same where the chunk is known by its place
+    told-at : (c : ℕ) → e .place ≡ c → (q : ℕ) → OfChunks q
+        → ofChunk ours ws h q c ≡ answerTo q (chunkAnswers (asRead ws h) (cutAt lows e highs))
+    told-at c place q k = ap (ofChunk ours ws h q) (sym place) ∙ chunk-told q k
 
     size-told : ofChunk ours ws h 8 (e .place) ≡ Told (e .size)
     size-told = chunk-told 8 (omega arith)
@@ -160,28 +172,28 @@ module _ (ws : List ℕ) (h : Heap) (p : Passes ws h) where
     unfolding asRead
     next-in-bin =
         let (e, r) = listed in
-        ap (ofChunk ours ws h 5) (sym (r .place)) ∙ chunk-told e (r .member) 5 (omega arith)
-        ∙ rw (r .kind, r .takes, r .place) (ap (λ (cs : List ℕ). told (firstIn cs)) after-it)
+        told-at e (r .member) c (r .place) 5 (omega arith)
+        ∙ rw (r .kind, r .takes, r .place) (ap toldFirst after-it)
 
     previous-in-bin : ofChunk ours ws h 7 c ≡ told (lastIn xs)
     unfolding asRead
     previous-in-bin =
         let (e, r) = listed in
-        ap (ofChunk ours ws h 7) (sym (r .place)) ∙ chunk-told e (r .member) 7 (omega arith)
-        ∙ rw (r .kind, r .takes, r .place) (ap (λ (cs : List ℕ). told (lastIn cs)) before-it)
+        told-at e (r .member) c (r .place) 7 (omega arith)
+        ∙ rw (r .kind, r .takes, r .place) (ap toldLast before-it)
 
   bin-told : (i c : ℕ) → i < h .bins → Mem c (binList ws h i) → ofChunk ours ws h 1 c ≡ Told i
   unfolding asRead
   bin-told i c l m =
       let (e, r) = member-entry ws h p i c l m in
-      ap (ofChunk ours ws h 1) (sym (r .place)) ∙ chunk-told e (r .member) 1 (omega arith) ∙ rw (r .kind, r .takes) refl
+      told-at e (r .member) c (r .place) 1 (omega arith) ∙ rw (r .kind, r .takes) refl
 
   -- a bin, by what its list is
   module _ (i : ℕ) (l : i < h .bins) where
     of-bin : (a : Answer) → cond (not (ltb i (h .bins))) (Refused NotThere) a ≡ a
     of-bin a = rw (lt-ltb i (h .bins) l) refl
 
-    abbrev judged-bin : (a : Answer) → judged h (heapFails ws h ∷ (not (ltb i (h .bins)), NotThere) ∷ []) (unchanged h a) .answer ≡ a
+    judged-bin : (a : Answer) → judged h (heapFails ws h ∷ (not (ltb i (h .bins)), NotThere) ∷ []) (unchanged h a) .answer ≡ a
     judged-bin a = question-answer h (passes ws h) (not (ltb i (h .bins))) a well ∙ of-bin a
 
     count-told : ofBin ours ws h 1 i ≡ Told (length (binList ws h i))
@@ -217,10 +229,10 @@ module _ (ws : List ℕ) (h : Heap) (p : Passes ws h) where
         used = used-told;
         free = free-told;
         count = count-told;
-        first = λ i c l (after, s). first-told i l ∙ ap (λ (cs : List ℕ). told (firstIn cs)) s;
-        noFirst = λ i l s. first-told i l ∙ ap (λ (cs : List ℕ). told (firstIn cs)) s;
-        last = λ i c l (before, s). last-told i l ∙ ap (λ (cs : List ℕ). told (lastIn cs)) s ∙ ap told (last-in before c);
-        noLast = λ i l s. last-told i l ∙ ap (λ (cs : List ℕ). told (lastIn cs)) s;
+        first = λ i c l (after, s). first-told i l ∙ ap toldFirst s;
+        noFirst = λ i l s. first-told i l ∙ ap toldFirst s;
+        last = λ i c l (before, s). last-told i l ∙ ap toldLast s ∙ ap told (last-in before c);
+        noLast = λ i l s. last-told i l ∙ ap toldLast s;
       }
 
 pub telling : Telling ours

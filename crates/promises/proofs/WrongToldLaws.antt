@@ -19,9 +19,9 @@ use Rattle.promises.proofs.TellingLaws.{telling}
 use Rattle.promises.proofs.ZeroLaws.{zero}
 use Rattle.promises.proofs.WrongPatrolLaws.{smallest, smallest-passes}
 
--- what a way that keeps the promise tells of 0 there, and so ours
-there : (way : Way) → Zero way → ZeroAt way (smallest .words) (smallest .heap)
-there way promised = promised (smallest .words) (smallest .heap) smallest-passes
+-- what a way that keeps `Zero` tells of the smallest heap
+on-smallest : (way : Way) → Zero way → ZeroAt way (smallest .words) (smallest .heap)
+on-smallest way promised = promised (smallest .words) (smallest .heap) smallest-passes
 
 -- a value is not none
 not-none : (v : ℕ) → Told v ≡ ToldNone → ⊥
@@ -30,12 +30,12 @@ not-none v e = false≢true (ap (λ (a : Answer). figuresOf a .isNone) e)
 -- 10: the start's previous is none, and 0 is told
 pub zero-refutes-zero-for-none : Zero zeroForNone → ⊥
 zero-refutes-zero-for-none promised =
-    not-none 0 (sym (ap (retold zeroIfNone) (there ours zero .ofStart)) ∙ there zeroForNone promised .ofStart)
+    not-none 0 (sym (ap (retold zeroIfNone) (on-smallest ours zero .ofStart)) ∙ on-smallest zeroForNone promised .ofStart)
 
 -- 11: the previous of the chunk above it is the start, at 0, and none is told
 pub zero-refutes-none-for-zero : Zero noneForZero → ⊥
 zero-refutes-none-for-zero promised =
-    not-none 0 (sym (there noneForZero promised .aboveStart) ∙ ap (retold noneIfZero) (there ours zero .aboveStart))
+    not-none 0 (sym (on-smallest noneForZero promised .aboveStart) ∙ ap (retold noneIfZero) (on-smallest ours zero .aboveStart))
 
 -- 12: the size of the start is 8, and 0 is told
 abbrev start : Entry

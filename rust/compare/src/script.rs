@@ -134,8 +134,8 @@ impl Script {
         self.call(Call::Check);
     }
 
-    /// Every question about every place, block and bin of the demonstration's heap, and those that there are not: each
-    /// none and each 0 that is a place or a bin.
+    /// Every question, and a number below and above them, about every place and bin of the demonstration's heap with two
+    /// chunks in bin 0. So each kind of none is told, and each 0 that is a place or a bin.
     fn questions(&mut self) {
         self.demonstration_to(9);
         self.name("every question about that heap");

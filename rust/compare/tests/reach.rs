@@ -230,8 +230,8 @@ const NUMBERS: [(&str, &[u32]); 10] = [
     ("patrol", &[0, 4, 10, 12]),
 ];
 
-/// All that each question can tell, by the call and the question's number. So a chunk of a live block is never at 0, for
-/// one, and a size is never none.
+/// All that each question can tell, by the call and the question's number. For instance, the chunk of a live block is
+/// never at 0, and a size is never none.
 const TOLD: [(&str, u32, &[Told]); 12] = [
     ("ask_chunk", 1, &[Told::Nothing, Told::Zero, Told::More]),
     ("ask_chunk", 2, &[Told::Nothing, Told::More]),
