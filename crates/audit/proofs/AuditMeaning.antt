@@ -6,6 +6,7 @@ use mathlib.Core.List.{List}
 use Prim.Native.Nat.{ℕ, _*_, _/_, _≤_}
 use native.Mathlib.Omega.{arith}
 use lib.ListN.{length, take}
+use lib.Seq.{length-take-le}
 use Rattle.lists.proofs.ListsLaws.{Decides, at-most, itself, both, not-so, zeros-from, meaning}
 use Rattle.record.specs.declared.answers.Answer.the-variants.{Counted, Refused}
 use Rattle.record.specs.declared.answers.Counts.{Counts}
@@ -21,20 +22,15 @@ use Rattle.rules.specs.Merge.{checked}
 use Rattle.rules.specs.Shape.{Entry, shape}
 use Rattle.rules.proofs.CheckLaws.{passes-iff}
 use Rattle.rules.proofs.EvenLaws.{evenPart, even-passes, even-fits, even-agrees, same-shape}
+use Rattle.sweep.specs.Sweep.{BothEnds}
 use Rattle.audit.specs.declared.Audit.{Audit}
 use Rattle.audit.specs.declared.Audit.the-variants as found
-use Rattle.audit.specs.Audit.{isTabledM, countsIn, walksWell, WalkedIs, AuditIs}
+use Rattle.audit.specs.Audit.{Placed, isTabledM, countsIn, walksWell, WalkedIs, AuditIs}
 use Rattle.audit.proofs.SurveyMeaning.{tally-ordinary, tally-used, tally-free, tallyFor}
 use Rattle.audit.proofs.WalksMeaning.{Rest, well-iff}
 
--- the record's arrays have their places, as every record of the code has
-pub record Places (h : Heap) : Type 0 where
-  pub sizes : length (h .sizes) ≡ 32
-  pub heads : length (h .heads) ≡ 32
-  pub tails : length (h .tails) ≡ 32
-
 -- the test of the table
-tabled-iff : (h : Heap) → Places h → Decides (isTabledM (h .bins) (h .sizes) (h .heads) (h .tails)) (Tabled h)
+tabled-iff : (h : Heap) → Placed (h .sizes) (h .heads) (h .tails) → Decides (isTabledM (h .bins) (h .sizes) (h .heads) (h .tails)) (Tabled h)
 unfolding isTabledM
 tabled-iff h p =
     meaning
@@ -46,16 +42,16 @@ tabled-iff h p =
     (zeros-from (h .bins) (h .tails)))
     (λ ((((bins, valid), sizesEnd), headsEnd), tailsEnd).
     record {
-      sizePlaces = p .sizes;
-      headPlaces = p .heads;
-      tailPlaces = p .tails;
-      bins = omega (arith, p .sizes, bins);
+      sizePlaces = p .sizePlaces;
+      headPlaces = p .headPlaces;
+      tailPlaces = p .tailPlaces;
+      bins = omega (arith, p .sizePlaces, bins);
       valid = valid;
       sizesEnd = sizesEnd;
       headsEnd = headsEnd;
       tailsEnd = tailsEnd;
     })
-    (λ f. ((((omega (arith, p .sizes, f .bins), f .valid), f .sizesEnd), f .headsEnd), f .tailsEnd))
+    (λ f. ((((omega (arith, p .sizePlaces, f .bins), f .valid), f .sizesEnd), f .headsEnd), f .tailsEnd))
 
 -- what is found by each test in turn is what the check of the rules says
 module _ (ws : List ℕ) (h : Heap) where
@@ -63,7 +59,7 @@ module _ (ws : List ℕ) (h : Heap) where
   unfolding AuditIs
   audit-short e = not-so (passes-iff ws h) (λ p. false≢true (sym e ∙ length-iff ws h .1 (p .fits)))
 
-  module _ (places : Places h) where
+  module _ (places : Placed (h .sizes) (h .heads) (h .tails)) where
     pub audit-untabled : isTabledM (h .bins) (h .sizes) (h .heads) (h .tails) ≡ false → AuditIs ws h found.Fails
     unfolding AuditIs
     audit-untabled e = not-so (passes-iff ws h) (λ p. false≢true (sym e ∙ tabled-iff h places .1 (p .table)))
@@ -155,6 +151,14 @@ lent-sizes bins sizes heads tails e =
     (itself (unusedFrom bins tails))
     .0 e in
     enough
+
+-- so every bin has both ends of its list
+pub lent-ends : (bins : ℕ) (sizes heads tails : List ℕ) → Placed sizes heads tails → isTabledM bins sizes heads tails ≡ true
+    → BothEnds (take bins sizes) heads tails
+lent-ends bins sizes heads tails p e =
+    let long = length-take-le bins sizes (lent-sizes bins sizes heads tails e) in
+    let l = lent-sizes bins sizes heads tails e in
+    record { enoughHeads = omega (arith, p .sizePlaces, p .headPlaces); enoughTails = omega (arith, p .sizePlaces, p .tailPlaces) }
 
 -- the answer of the check, by what was found
 module _ (ws : List ℕ) (h : Heap) {r : Audit} (k : AuditIs ws h r) where

@@ -10,7 +10,7 @@ use Rattle.lists.specs.Lists.{total, numbersFrom}
 use Rattle.record.specs.declared.answers.Counts.{Counts}
 use Rattle.record.specs.declared.heap.Heap.{Heap}
 use Rattle.record.specs.declared.heap.Summary.{Summary}
-use Rattle.record.specs.Heap.{recordOf}
+use Rattle.record.specs.Heap.{places, recordOf}
 use Rattle.record.specs.Table.{validTable}
 use Rattle.rules.specs.Check.{unusedFrom, passes, countsOf}
 use Rattle.rules.specs.Shape.{shape}
@@ -19,6 +19,12 @@ use Rattle.survey.specs.Survey.{allSound, markAll, tallyOf}
 use Rattle.sweep.specs.Sweep.{listAt, allWhole}
 use Rattle.audit.specs.declared.Audit.{Audit}
 use Rattle.audit.specs.declared.Audit.the-variants.{Passes, Fails}
+
+-- each of the record's three arrays has its places
+pub record Placed (sizes heads tails : List ℕ) : Type 0 where
+  pub sizePlaces : length sizes ≡ places
+  pub headPlaces : length heads ≡ places
+  pub tailPlaces : length tails ≡ places
 
 unfoldable pub isTabledM : ℕ → List ℕ → List ℕ → List ℕ → Bool
 isTabledM bins sizes heads tails =

@@ -1,7 +1,9 @@
 // The check, in time linear in the chunks: one walk of the chain that marks each ordinary chunk, one walk of each
 // bin's list that clears the marks. Nothing is written into the region.
 ghost use mathlib.Core.Path.{_≡_};
-ghost use Rattle.audit.specs.Audit.{isSettledM, isTabledM, WalkedIs, LookIs};
+ghost use Rattle.audit.specs.Audit.{isSettledM, isTabledM, Placed, WalkedIs, LookIs};
+ghost use Rattle.chain.specs.Length.{Lent};
+ghost use Rattle.sweep.specs.Sweep.{BothEnds};
 ghost use Rattle.rules.specs.Check.{passes, unusedFrom};
 ghost use Rattle.rules.specs.Merge.{checked};
 use chain::length::fits_length;
@@ -39,6 +41,7 @@ pub fn is_unused(array: &[u32], from: usize) -> bool
 
 // The table is valid, and the places past the bin count are unused.
 pub fn is_tabled<'a>(bins: usize, sizes: &[u32], heads: &'a [u32], tails: &'a [u32]) -> bool
+    requires { ⌜ Placed (now sizes) (now heads) (now tails) ⌝ }
     ensures { λ r. ⌜ r ≡ isTabledM bins (now (sizes .entry)) (now (heads .entry)) (now (tails .entry)) ⌝ }
 {
     if sizes.len() < bins {
@@ -83,6 +86,8 @@ pub fn walk_all<'a>(
     tails: &'a [u32],
     summary: Summary,
 ) -> Audit
+    requires { ⌜ Lent (now region) (summary .bytes) ⌝ }
+    requires { ⌜ BothEnds (now table) (now heads) (now tails) ⌝ }
     ensures { λ r. ⌜ WalkedIs (now (region .entry)) (now (table .entry)) (now (heads .entry)) (now (tails .entry)) summary r ⌝ }
 {
     let mut marks = [0u32; MARK_WORDS];
@@ -120,6 +125,7 @@ pub fn look<'a>(
     heads: &'a [u32],
     tails: &'a [u32],
 ) -> Audit
+    requires { ⌜ Placed (now sizes) (now heads) (now tails) ⌝ }
     ensures { λ r. ⌜ LookIs (now (region .entry)) summary (now (sizes .entry)) (now (heads .entry)) (now (tails .entry)) r ⌝ }
 {
     if !fits_length(region.len(), summary.bytes) {

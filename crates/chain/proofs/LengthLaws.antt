@@ -5,12 +5,13 @@ use mathlib.Core.List.{List}
 use Prim.Native.Nat.{ℕ, _*_, _/_, _≤_, _<_}
 use native.Mathlib.Omega.{arith}
 use lib.Dec.{eqb}
-use lib.ListN.{length}
+use lib.ListN.{length, take}
+use lib.Seq.{length-take-le}
 use borrow.Author.Tests.{le-leb, lt-leb}
 use Rattle.lists.proofs.ListsLaws.{Decides, number-is, at-most, both, meaning}
 use Rattle.record.specs.declared.heap.Heap.{Heap}
 use Rattle.rules.specs.Check.{Fits}
-use Rattle.chain.specs.Length.{fitsLengthM}
+use Rattle.chain.specs.Length.{fitsLengthM, Lent}
 
 -- the region's length
 module _ (words bytes : ℕ) where
@@ -36,8 +37,19 @@ length-iff ws h =
     (λ f. ((f .enough, f .notTooMany), omega (arith, f .bytes)))
 
 -- the words of the heap bytes are there
-pub lent-words : (words bytes : ℕ) → fitsLengthM words bytes ≡ true → bytes / 4 ≤ words
-unfolding fitsLengthM
-lent-words words bytes e =
-    let (range, fits) = both (both (at-most 10 words) (at-most words 16384)) (number-is (words / 2 * 8) bytes) .0 e in
-    omega arith
+module _ (words bytes : ℕ) (fits : fitsLengthM words bytes ≡ true) where
+  fitting : (10 ≤ words) × (words ≤ 16384) × (words / 2 * 8 ≡ bytes)
+  unfolding fitsLengthM
+  fitting =
+      let ((enough, most), even) = both (both (at-most 10 words) (at-most words 16384)) (number-is (words / 2 * 8) bytes) .0 fits in
+      (enough, most, even)
+
+  pub lent-words : bytes / 4 ≤ words
+  lent-words = let (enough, most, even) = fitting in omega arith
+
+-- and they are what the walks may rely on
+pub lent-even : (ws : List ℕ) (bytes : ℕ) → fitsLengthM (length ws) bytes ≡ true → Lent (take (bytes / 4) ws) bytes
+lent-even ws bytes fits =
+    let (enough, most, even) = fitting (length ws) bytes fits in
+    let long = length-take-le (bytes / 4) ws (lent-words (length ws) bytes fits) in
+    record { words = omega arith; eights = omega arith; enough = omega arith; notTooMany = omega arith }

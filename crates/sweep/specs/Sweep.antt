@@ -3,7 +3,7 @@
 use mathlib.Core.Path.{_≡_}
 use mathlib.Core.Bool.{Bool, true, false, _&&_}
 use mathlib.Core.List.{List, [], _∷_}
-use Prim.Native.Nat.{ℕ, _*_, _%_, _^_}
+use Prim.Native.Nat.{ℕ, _*_, _%_, _^_, _≤_}
 use lib.Dec.{eqb}
 use lib.ListN.{length, getD}
 use Rattle.lists.specs.Lists.{lastOr, total, numbersFrom}
@@ -54,6 +54,11 @@ module _ (ws table : List ℕ) (i steps : ℕ) where
   unfoldable pub SweptIs : List ℕ → ℕ → List ℕ → Swept → Type 0
   SweptIs ms first after Torn = wholeList ms first ≡ false
   SweptIs ms first after (Whole met last) = WholeIs ms first after met last
+
+-- every bin of the table has both ends of its list
+pub record BothEnds (table heads tails : List ℕ) : Type 0 where
+  pub enoughHeads : length table ≤ length heads
+  pub enoughTails : length table ≤ length tails
 
 module _ (ws table heads tails : List ℕ) (steps : ℕ) where
   abbrev pub listAt : ℕ → List ℕ

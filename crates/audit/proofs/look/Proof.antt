@@ -6,9 +6,9 @@ use lib.Seq.{length-take-le}
 use borrow.Author.Needs.{needs}
 use borrow.Author.Tests.{not-true, not-false}
 use Rattle.chain.specs.Length.{fitsLengthM}
-use Rattle.chain.proofs.LengthLaws.{lent-words}
+use Rattle.chain.proofs.LengthLaws.{lent-words, lent-even}
 use Rattle.audit.specs.Audit.{isTabledM}
-use Rattle.audit.proofs.AuditMeaning.{audit-short, audit-untabled, audit-walked, lent-sizes}
+use Rattle.audit.proofs.AuditMeaning.{audit-short, audit-untabled, audit-walked, lent-sizes, lent-ends}
 use Rattle.audit.proofs.look.Statement.{statement}
 use Rattle.audit.proofs.look.Tie as tie
 
@@ -30,12 +30,20 @@ returns c s h t = audit-short _ _ (sym (c .before .fits-length .ensures) ∙ not
 
 returns-2 : tie.Need-returns-2
 returns-2 c s h t =
-    audit-untabled _ _ (record { sizes = s; heads = h; tails = t }) (sym (c .before .is-tabled .ensures) ∙ not-true _ (c .if2 .taken))
+    audit-untabled _ _ (start (c .before .before .before) .pre) (sym (c .before .is-tabled .ensures) ∙ not-true _ (c .if2 .taken))
 
 returns-3 : tie.Need-returns-3
 returns-3 c s h t =
     let right = c .before .before .before .before in
-    audit-walked _ _ (record { sizes = s; heads = h; tails = t }) (fits (long right)) (tabled right) _ (c .walk-all .ensures)
+    audit-walked _ _ (start (long right) .pre) (fits (long right)) (tabled right) _ (c .walk-all .ensures)
+
+-- the walks get the words of the heap bytes, and both ends of every bin's list
+walk-all-requires : tie.Need-walk-all-requires
+walk-all-requires c κs =
+    let right = c .before .before .before in (
+      lent-even _ _ (fits (long right)),
+      lent-ends _ _ _ _ (start (long right) .pre) (tabled right),
+    )
 
 pub look-spec : {M : Type 1} → statement M
 look-spec =
@@ -50,5 +58,5 @@ look-spec =
     (λ c. sym (length-take-le _ _ (lent-words _ _ (fits (long (c .before .before))))))
     -- the blanks of `lent-sizes` are the bin count, the sizes, the heads and the tails
     (λ c. sym (length-take-le _ _ (lent-sizes _ _ _ _ (tabled (c .before .before .before)))))
-    (λ c κs. search needs)
+    walk-all-requires
     returns-3)
