@@ -1,6 +1,7 @@
 pub mod ShapeLaws
 pub mod ChainLaws
 pub mod KindsLaws
+pub mod BytesLaws
 pub mod CheckLaws
 pub mod OutcomeLaws
 pub mod TiledLaws
