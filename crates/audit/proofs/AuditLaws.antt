@@ -2,7 +2,7 @@
 use mathlib.Core.Path.{_≡_, refl, sym, _∙_, ap, subst}
 use mathlib.Core.Bool.{Bool, true, false, not, _&&_}
 use mathlib.Core.List.{List}
-use Prim.Native.Nat.{ℕ, suc, _+_, _≤_, _<_}
+use Prim.Native.Nat.{ℕ, suc, _≤_, _<_}
 use lib.Dec.{eqb, leb}
 use lib.ListN.{length, getD, take, drop-of-length-le}
 use lib.Seq.{drop-cons}
@@ -11,17 +11,16 @@ use Rattle.lists.specs.Lists.{numbersFrom}
 use Rattle.record.specs.declared.heap.Summary.{Summary}
 use Rattle.record.specs.Table.{validTable}
 use Rattle.rules.specs.Check.{unusedFrom}
-use Rattle.rules.specs.Shape.{shape}
 use Rattle.survey.specs.declared.Survey.{Survey}
 use Rattle.survey.specs.declared.Survey.the-variants.{Surveyed, Broken}
 use Rattle.survey.specs.declared.Tally.{Tally}
-use Rattle.survey.specs.Survey.{allSound, SurveyedIs, SurveyIs}
+use Rattle.survey.specs.Survey.{wholeChain, SurveyedIs, SurveyIs}
 use Rattle.sweep.specs.declared.Sweep.{Sweep}
 use Rattle.sweep.specs.declared.Sweep.the-variants.{Clean, Dirty}
 use Rattle.sweep.specs.Sweep.{allWhole, CleanIs, SweepIs}
 use Rattle.audit.specs.declared.Audit.{Audit}
 use Rattle.audit.specs.declared.Audit.the-variants.{Passes, Fails}
-use Rattle.audit.specs.Audit.{isTabledM, isSettledM, noMarks, tally, marksOf, walksWell, WalkedIs}
+use Rattle.audit.specs.Audit.{isTabledM, isSettledM, isSharedM, noMarks, tally, marksOf, walksWell, WalkedIs}
 
 -- a conjunction of many parts: a part fails, and the rest does not matter; a part holds, and the next decides
 still : (b : Bool) {a : Bool} → false ≡ a → false ≡ (a && b)
@@ -74,36 +73,31 @@ module _ (bins : ℕ) (sizes heads tails : List ℕ) where
         unfolding isTabledM
         by-tails h ew = hold (hold (hold (hold long (held et ht)) (held eu hu)) (held ev h)) ew
 
--- the tally: the chain reaches the end, and top, patrol's place and donor were met
+-- the tally: top, patrol's place and donor were met
 module _ (t : Tally) (s : Summary) where
-  pub no-end : (t .end + 8 ≡ s .bytes → ⊥) → false ≡ isSettledM t s
+  pub no-top : t .tops ≡ 0 → false ≡ isSettledM t s
   unfolding isSettledM
-  no-end n = still _ (still _ (still _ (sym (ne-eqb (t .end + 8) (s .bytes) n))))
+  no-top e = still _ (still _ {a = not (eqb (t .tops) 0)} (rw (eq-eqb (t .tops) 0 e)))
 
-  module _ (end : t .end + 8 ≡ s .bytes) where
-    pub no-top : t .tops ≡ 0 → false ≡ isSettledM t s
+  module _ (top : t .tops ≡ 0 → ⊥) where
+    topped : true ≡ not (eqb (t .tops) 0)
+    topped = rw (ne-eqb (t .tops) 0 top)
+
+    pub no-patrol : t .patrols ≡ 0 → false ≡ isSettledM t s
     unfolding isSettledM
-    no-top e = still _ (still _ (hold (sym (eq-eqb (t .end + 8) (s .bytes) end)) (rw (eq-eqb (t .tops) 0 e))))
+    no-patrol e = still _ (hold topped (rw (eq-eqb (t .patrols) 0 e)))
 
-    module _ (top : t .tops ≡ 0 → ⊥) where
-      ended : true ≡ (eqb (t .end + 8) (s .bytes) && not (eqb (t .tops) 0))
-      ended = hold (sym (eq-eqb (t .end + 8) (s .bytes) end)) (rw (ne-eqb (t .tops) 0 top))
+    module _ (patrol : t .patrols ≡ 0 → ⊥) where
+      placed : true ≡ (not (eqb (t .tops) 0) && not (eqb (t .patrols) 0))
+      placed = hold topped (rw (ne-eqb (t .patrols) 0 patrol))
 
-      pub no-patrol : t .patrols ≡ 0 → false ≡ isSettledM t s
+      pub no-donor : s .donor .0 ≡ 0 → true ≡ isSettledM t s
       unfolding isSettledM
-      no-patrol e = still _ (hold ended (rw (eq-eqb (t .patrols) 0 e)))
+      no-donor e = hold placed (rw (eq-eqb (s .donor .0) 0 e))
 
-      module _ (patrol : t .patrols ≡ 0 → ⊥) where
-        placed : true ≡ (eqb (t .end + 8) (s .bytes) && not (eqb (t .tops) 0) && not (eqb (t .patrols) 0))
-        placed = hold ended (rw (ne-eqb (t .patrols) 0 patrol))
-
-        pub no-donor : s .donor .0 ≡ 0 → true ≡ isSettledM t s
-        unfolding isSettledM
-        no-donor e = hold placed (rw (eq-eqb (s .donor .0) 0 e))
-
-        pub by-donors : (s .donor .0 ≡ 0 → ⊥) → not (eqb (t .donors) 0) ≡ isSettledM t s
-        unfolding isSettledM
-        by-donors n = hold placed (rw (ne-eqb (s .donor .0) 0 n))
+      pub by-donors : (s .donor .0 ≡ 0 → ⊥) → not (eqb (t .donors) 0) ≡ isSettledM t s
+      unfolding isSettledM
+      by-donors n = hold placed (rw (ne-eqb (s .donor .0) 0 n))
 
 -- what both walks come to, r. It is a record, so that the checker finds by itself what was lent to them
 pub record Walked (ws table heads tails : List ℕ) (s : Summary) (r : Audit) : Type 0 where
@@ -121,7 +115,7 @@ surveyed {ws} {s} {ms} k e = subst (λ (q : Survey). SurveyIs ws s noMarks ms q)
 pub record WalkedChain (ws : List ℕ) (s : Summary) (t : Tally) (ms : List ℕ) : Type 0 where
   pub survey : SurveyedIs ws s noMarks ms t
   pub settled : true ≡ isSettledM t s
-  pub used : t .used ≡ s .used
+  pub used : true ≡ isSharedM (t .free) s
 
 -- what the walk of the chain leaves of the tests that make the whole: their parts so far are true
 module _ (ws table heads tails : List ℕ) (s : Summary) where
@@ -135,15 +129,15 @@ module _ (ws table heads tails : List ℕ) (s : Summary) where
     settles : isSettledM t s ≡ isSettledM whole s
     settles = ap (λ (u : Tally). isSettledM u s) (survey .tally)
 
-    first-two : true ≡ isSettledM t s → true ≡ (allSound ws s 0 (shape ws (s .bytes)) && isSettledM whole s)
-    first-two f = hold (sym (survey .sound)) (f ∙ settles)
+    first-two : true ≡ isSettledM t s → true ≡ (wholeChain ws s && isSettledM whole s)
+    first-two f = hold (sym (survey .whole)) (f ∙ settles)
+
+    shares : isSharedM (t .free) s ≡ isSharedM (whole .free) s
+    shares = ap (λ (u : Tally). isSharedM (u .free) s) (survey .tally)
 
   module _ {ms : List ℕ} {t : Tally} (chain : WalkedChain ws s t ms) where
-    same-used : whole .used ≡ s .used
-    same-used = sym (ap (λ (u : Tally). u .used) (chain .survey .tally)) ∙ chain .used
-
-    first-three : true ≡ (allSound ws s 0 (shape ws (s .bytes)) && isSettledM whole s && eqb (whole .used) (s .used))
-    first-three = hold (first-two (chain .survey) (chain .settled)) (sym (eq-eqb (whole .used) (s .used) same-used))
+    first-three : true ≡ (wholeChain ws s && isSettledM whole s && isSharedM (whole .free) s)
+    first-three = hold (first-two (chain .survey) (chain .settled)) (chain .used ∙ shares (chain .survey))
 
     -- the sweep was of the marks that the walk of the chain made
     swept : (q : Sweep) → SweepIs ws table heads tails (s .bytes) ms q → {d : Sweep} → q ≡ d → SweepIs ws table heads tails (s .bytes) made d
@@ -157,7 +151,7 @@ module _ (ws table heads tails : List ℕ) (s : Summary) where
 
     first-four : {met : ℕ} → CleanIs ws table heads tails (s .bytes) made met
         → true
-        ≡ (allSound ws s 0 (shape ws (s .bytes)) && isSettledM whole s && eqb (whole .used) (s .used)
+        ≡ (wholeChain ws s && isSettledM whole s && isSharedM (whole .free) s
         && allWhole ws table heads tails (s .bytes) made (numbersFrom 0 (length table)))
     first-four c = hold first-three (sym (c .whole))
 
@@ -172,13 +166,12 @@ module _ {ws table heads tails : List ℕ} {s : Summary} where
     pub not-settled : SurveyedIs ws s noMarks ms t → false ≡ isSettledM t s → Walked ws table heads tails s Fails
     unfolding WalkedIs walksWell
     not-settled survey f =
-        record { is = sym (still _ (still _ (still _ (hold (sym (survey .sound)) (f ∙ settles ws table heads tails s survey))))) }
+        record { is = sym (still _ (still _ (still _ (hold (sym (survey .whole)) (f ∙ settles ws table heads tails s survey))))) }
 
-    pub other-used : SurveyedIs ws s noMarks ms t → true ≡ isSettledM t s → (t .used ≡ s .used → ⊥) → Walked ws table heads tails s Fails
+    pub other-used : SurveyedIs ws s noMarks ms t → true ≡ isSettledM t s → false ≡ isSharedM (t .free) s → Walked ws table heads tails s Fails
     unfolding WalkedIs walksWell
-    other-used survey f n =
-        let other : whole ws table heads tails s .used ≡ s .used → ⊥ = λ q. n (ap (λ (u : Tally). u .used) (survey .tally) ∙ q) in
-        record { is = sym (still _ (still _ (hold (first-two ws table heads tails s survey f) (sym (ne-eqb _ (s .used) other))))) }
+    other-used survey f g =
+        record { is = sym (still _ (still _ (hold (first-two ws table heads tails s survey f) (g ∙ shares ws table heads tails s survey)))) }
 
     module _ (chain : WalkedChain ws s t ms) (q : Sweep) (w : SweepIs ws table heads tails (s .bytes) ms q) where
       pub lists-dirty : q ≡ Dirty → Walked ws table heads tails s Fails
@@ -194,7 +187,7 @@ module _ {ws table heads tails : List ℕ} {s : Summary} where
           record { is = sym (hold (first-four ws table heads tails s chain c) (sym (ne-eqb _ _ (λ x. n (c .count ∙ x ∙ sym is-tally))))) }
 
       pub all-well : {met : ℕ} → q ≡ Clean met → met ≡ t .ordinary
-          → Walked ws table heads tails s (Passes (record { chunks = t .chunks; ordinary = t .ordinary; used = t .used; free = t .free }))
+          → Walked ws table heads tails s (Passes (record { chunks = t .chunks; ordinary = t .ordinary; used = s .used; free = t .free }))
       unfolding WalkedIs walksWell
       all-well e m =
           let c = clean ws table heads tails s chain q w e in
@@ -202,6 +195,6 @@ module _ {ws table heads tails : List ℕ} {s : Summary} where
           record {
             is = (
               sym (hold (first-four ws table heads tails s chain c) (sym (eq-eqb _ _ (sym (c .count) ∙ m ∙ ap (λ (u : Tally). u .ordinary) is-tally)))),
-              ap (λ (u : Tally). record { chunks = u .chunks; ordinary = u .ordinary; used = u .used; free = u .free }) is-tally,
+              ap (λ (u : Tally). record { chunks = u .chunks; ordinary = u .ordinary; used = s .used; free = u .free }) is-tally,
             );
           }

@@ -17,7 +17,7 @@ use Rattle.record.specs.Table.{validTable}
 use Rattle.record.proofs.TableLaws.{valid-iff}
 use Rattle.chain.specs.Length.{fitsLengthM}
 use Rattle.chain.proofs.LengthLaws.{length-iff}
-use Rattle.rules.specs.Check.{Tabled, unusedFrom, countsOf, passes, Passes, Fits}
+use Rattle.rules.specs.Check.{Tabled, unusedFrom, usedBytes, countsOf, passes, Passes, Fits}
 use Rattle.rules.specs.Merge.{checked}
 use Rattle.rules.specs.Shape.{Entry, shape}
 use Rattle.rules.proofs.CheckLaws.{passes-iff}
@@ -26,7 +26,7 @@ use Rattle.sweep.specs.Sweep.{BothEnds}
 use Rattle.audit.specs.declared.Audit.{Audit}
 use Rattle.audit.specs.declared.Audit.the-variants as found
 use Rattle.audit.specs.Audit.{Placed, isTabledM, countsIn, walksWell, WalkedIs, AuditIs}
-use Rattle.audit.proofs.SurveyMeaning.{tally-ordinary, tally-used, tally-free, tallyFor}
+use Rattle.audit.proofs.SurveyMeaning.{tally-ordinary, tally-free, tallyFor}
 use Rattle.audit.proofs.WalksMeaning.{Rest, well-iff}
 
 -- the test of the table
@@ -121,13 +121,13 @@ module _ (ws : List ℕ) (h : Heap) where
           → countsIn (evenPart ws) (tableOf h) (h .heads) (h .tails) (summaryOf h) ≡ countsOf h (shape ws (h .bytes))
       counts-are p =
           let s = same-shape ws (evenPart ws) h (even-agrees ws h fits) p in
-          rw s (counts (shape ws (h .bytes)))
+          rw (s, p .used) (counts (shape ws (h .bytes)))
         where
           counts : (ds : List Entry)
               → _≡_ {A = Counts}
-              (record { chunks = length ds; ordinary = tallyFor h ds .ordinary; used = tallyFor h ds .used; free = tallyFor h ds .free })
+              (record { chunks = length ds; ordinary = tallyFor h ds .ordinary; used = usedBytes h ds; free = tallyFor h ds .free })
               (countsOf h ds)
-          counts ds = rw (tally-ordinary h ds, tally-used h ds, tally-free h ds)
+          counts ds = rw (tally-ordinary h ds, tally-free h ds)
 
       pub audit-walked : (r : Audit)
           → WalkedIs (take (h .bytes / 4) ws) (take (h .bins) (h .sizes)) (h .heads) (h .tails) (summaryOf h) r

@@ -17,12 +17,12 @@ use Rattle.record.specs.declared.kinds.Kind.the-variants.{Start, InUse, Ordinar
 use Rattle.record.specs.Heap.{summaryOf}
 use Rattle.region.specs.Words.{word, forward, backward, size, nextInBin, previousInBin, bin}
 use Rattle.rules.specs.Shape.{Entry, flagsAt, shape}
-use Rattle.rules.specs.Kinds.{kindOf, ordinary, isFree, live, ordinaryKind, freeKind, liveKind, outside}
-use Rattle.rules.specs.Check.{Chained, Ended, Backed, Sound, Unbinned, Reserved, TopIs, DonorIs, usedBytes, freeBytes, IsChunk}
+use Rattle.rules.specs.Kinds.{kindOf, ordinary, isFree, ordinaryKind, freeKind, outside}
+use Rattle.rules.specs.Check.{Chained, Ended, Backed, Sound, Unbinned, unbinned, Reserved, TopIs, DonorIs, freeBytes, IsChunk}
 use Rattle.rules.proofs.ChainLaws.{same-place, Chain, shape-chain}
 use Rattle.rules.proofs.KindsLaws.{Being, being, kind-start, kind-end, kind-top, kind-donor}
 use Rattle.survey.specs.declared.Tally.{Tally}
-use Rattle.survey.specs.Chunks.{isBackedM, isSizedM, isStartM, isEndM, isReservedM, isDonorM, isTopM, isSoundM, soundAt}
+use Rattle.survey.specs.Chunks.{isBackedM, isSizedM, isStartM, isEndM, isDonorM, isTopM, isSoundM, soundAt}
 use Rattle.survey.specs.Survey.{shareOf, atPatrolM, allSound, tallyOf}
 
 -- the facts of a heap that passes which speak of the chain alone
@@ -42,7 +42,7 @@ tallyFor h es = tallyOf (summaryOf h) es
 -- what the walk and the tests after it find
 pub record Found (ws : List ℕ) (h : Heap) : Type 0 where
   pub sound : allSound ws (summaryOf h) 0 (shape ws (h .bytes)) ≡ true
-  pub end : tallyFor h (shape ws (h .bytes)) .end + 8 ≡ h .bytes
+  pub end : lastOr outside (shape ws (h .bytes)) .place + 8 ≡ h .bytes
   pub top : 0 < tallyFor h (shape ws (h .bytes)) .tops
   pub donor : 0 < h .donor .0 → 0 < tallyFor h (shape ws (h .bytes)) .donors
   pub patrol : 0 < tallyFor h (shape ws (h .bytes)) .patrols
@@ -74,29 +74,28 @@ module _ (ws : List ℕ) (h : Heap) where
   As e Start = (e .size ≡ 8) × (e .flags ≡ 1)
   As e InUse = 24 ≤ e .size
   As e Ordinary = Sized e
-  As e Donor = (Sized e × Unbinned ws (e .place)) × (h .donor .0 < h .top .0)
-  As e Top = (Sized e × Unbinned ws (e .place)) × (e .place + e .size + 8 ≡ h .bytes)
+  As e Donor = Sized e × (Unbinned ws (e .place) × (h .donor .0 < h .top .0))
+  As e Top = Sized e × (Unbinned ws (e .place) × (e .place + e .size + 8 ≡ h .bytes))
   As e End = (e .flags ≡ 1) × (word ws (e .place) forward ≡ 0)
 
   sized-iff : (e : Entry) → Decides (isSizedM ws (e .place) (e .size)) (Sized e)
   unfolding isSizedM
   sized-iff e = both (at-most 24 (e .size)) (number-is (word ws (e .place) size) (e .size))
 
-  reserved-iff : (e : Entry) → Decides (isReservedM ws (e .place) (e .size)) (Sized e × Unbinned ws (e .place))
-  unfolding isReservedM
-  reserved-iff e =
-      both (sized-iff e) (meaning
+  unbinned-iff : (e : Entry) → Decides (unbinned ws (e .place)) (Unbinned ws (e .place))
+  unbinned-iff e =
+      meaning
       (both (both (number-is (word ws (e .place) nextInBin) 0) (number-is (word ws (e .place) previousInBin) 0)) (number-is (word ws (e .place) bin) 0))
       (λ ((next, previous), bin). record { next = next; previous = previous; bin = bin })
-      (λ u. ((u .next, u .previous), u .bin)))
+      (λ u. ((u .next, u .previous), u .bin))
 
   as-iff : (e : Entry) (k : Kind) → Decides (isSoundM ws (summaryOf h) e k) (As e k)
   unfolding isStartM isEndM isDonorM isTopM
   as-iff e Start = both (number-is (e .size) 8) (number-is (e .flags) 1)
   as-iff e InUse = at-most 24 (e .size)
   as-iff e Ordinary = sized-iff e
-  as-iff e Donor = both (reserved-iff e) (less (h .donor .0) (h .top .0))
-  as-iff e Top = both (reserved-iff e) (number-is (e .place + e .size + 8) (h .bytes))
+  as-iff e Donor = both (sized-iff e) (both (unbinned-iff e) (less (h .donor .0) (h .top .0)))
+  as-iff e Top = both (sized-iff e) (both (unbinned-iff e) (number-is (e .place + e .size + 8) (h .bytes)))
   as-iff e End = both (number-is (e .flags) 1) (number-is (word ws (e .place) forward) 0)
 
   -- what the walk finds of a chunk, but for its backward link
@@ -138,8 +137,8 @@ module _ (ws : List ℕ) (h : Heap) where
     by-kind Start b a = (λ p l. omega arith, λ f. omega arith)
     by-kind InUse b a = (λ p l. a, λ f. omega arith)
     by-kind Ordinary b (least, said) = (λ p l. least, λ f. said)
-    by-kind Donor b (((least, said), out), below) = (λ p l. least, λ f. said)
-    by-kind Top b (((least, said), out), last) = (λ p l. least, λ f. said)
+    by-kind Donor b ((least, said), (out, below)) = (λ p l. least, λ f. said)
+    by-kind Top b ((least, said), (out, last)) = (λ p l. least, λ f. said)
     by-kind End b a = (λ p l. omega arith, λ f. omega arith)
 
     seen-sound : Sound ws h e
@@ -155,12 +154,12 @@ module _ (ws : List ℕ) (h : Heap) where
 
     top-is : Top ≡ kindOf h e → TopIs ws h e
     top-is q =
-        let ((some, below, free, here), ((sized, out), last)) = of-kind q in
+        let ((some, below, free, here), (sized, (out, last))) = of-kind q in
         (reserved (h .top .0) here free out, last)
 
     donor-is : Donor ≡ kindOf h e → DonorIs ws h e
     donor-is q =
-        let ((some, below, free, here), ((sized, out), belowTop)) = of-kind q in
+        let ((some, below, free, here), (sized, (out, belowTop))) = of-kind q in
         (reserved (h .donor .0) here free out, belowTop)
 
   -- the chain that is walked
@@ -228,10 +227,10 @@ module _ (ws : List ℕ) (h : Heap) where
       as-kind Ordinary (some, below, free) = sized some below free
       as-kind Donor (some, below, free, here) =
           let (d, known, (donor, belowTop)) = facts .donor (rw (← here) some) in
-          ((sized some below free, rw here (donor .out)), belowTop)
+          (sized some below free, (rw here (donor .out), belowTop))
       as-kind Top (some, below, free, here) =
           let (t, known, (top, last)) = facts .top in
-          ((sized some below free, rw here (top .out)), rw (same known (here ∙ sym (top .here))) last)
+          (sized some below free, (rw here (top .out), rw (same known (here ∙ sym (top .here))) last))
       as-kind End (some, last) = ends last
 
       all-seen : SeenFacts e
@@ -267,22 +266,18 @@ module _ (ws : List ℕ) (h : Heap) where
 -- what a chunk of each kind counts for
 shares-are : (k : Kind) (s : ℕ)
     → (shareOf k s .ordinary ≡ cond (ordinaryKind k) 1 0)
-    × (shareOf k s .used ≡ cond (liveKind k) s 0)
     × (shareOf k s .free ≡ cond (freeKind k) s 0)
-shares-are Start s = (refl, refl, refl)
-shares-are InUse s = (refl, refl, refl)
-shares-are Ordinary s = (refl, refl, refl)
-shares-are Donor s = (refl, refl, refl)
-shares-are Top s = (refl, refl, refl)
-shares-are End s = (refl, refl, refl)
+shares-are Start s = (refl, refl)
+shares-are InUse s = (refl, refl)
+shares-are Ordinary s = (refl, refl)
+shares-are Donor s = (refl, refl)
+shares-are Top s = (refl, refl)
+shares-are End s = (refl, refl)
 
 -- so the counts are the check's
 module _ (h : Heap) (es : List Entry) where
   pub tally-ordinary : tallyFor h es .ordinary ≡ length (keep (ordinary h) es)
   tally-ordinary = total-kept _ (λ e. 1) (ordinary h) (λ e. shares-are (kindOf h e) (e .size) .0) es ∙ total-ones (keep (ordinary h) es)
 
-  pub tally-used : tallyFor h es .used ≡ usedBytes h es
-  tally-used = total-kept _ (λ e. e .size) (live h) (λ e. shares-are (kindOf h e) (e .size) .1) es
-
   pub tally-free : tallyFor h es .free ≡ freeBytes h es
-  tally-free = total-kept _ (λ e. e .size) (isFree h) (λ e. shares-are (kindOf h e) (e .size) .2) es
+  tally-free = total-kept _ (λ e. e .size) (isFree h) (λ e. shares-are (kindOf h e) (e .size) .1) es

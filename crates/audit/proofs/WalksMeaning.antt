@@ -8,7 +8,7 @@ use Prim.Native.Nat.{ℕ, _+_, _-_, _%_, _^_, _≤_, _<_, max}
 use native.Mathlib.Decide.{ℕ-discrete}
 use native.Mathlib.Omega.{arith}
 use lib.ListN.{length, getD, length-map, length-replicate}
-use Rattle.lists.specs.Lists.{Mem, keep, total, numbersFrom}
+use Rattle.lists.specs.Lists.{Mem, lastOr, keep, total, numbersFrom}
 use Rattle.lists.proofs.ListsLaws.{Decides, number-is, itself, both, or-else, denied, meaning}
 use Rattle.lists.proofs.MembersLaws.{kept-from, kept-has, kept-few}
 use Rattle.marks.specs.Marks.{flipped}
@@ -18,19 +18,20 @@ use Rattle.record.specs.declared.heap.Summary.{Summary}
 use Rattle.record.specs.declared.kinds.Kind.{Kind}
 use Rattle.record.specs.Heap.{tableOf, summaryOf}
 use Rattle.region.specs.Words.{word, size}
-use Rattle.rules.specs.Check.{Tabled, Listed, InItsBin, BelongsTo, usedBytes}
-use Rattle.rules.specs.Kinds.{ordinary, ordinaryKind, kindOf}
+use Rattle.rules.specs.Check.{Tabled, Listed, InItsBin, BelongsTo, usedBytes, freeBytes}
+use Rattle.rules.specs.Kinds.{ordinary, ordinaryKind, kindOf, outside}
 use Rattle.rules.specs.Shape.{Entry, shape, binList, members, membersFrom}
+use Rattle.rules.proofs.BytesLaws.{bytes-shared}
 use Rattle.rules.proofs.CheckLaws.{table-bins}
 use Rattle.rules.proofs.ChainLaws.{shape-chain}
 use Rattle.rules.proofs.KindsLaws.{ordinary-free}
 use Rattle.rules.proofs.ShapeLaws.{shape-is}
-use Rattle.audit.specs.Audit.{isSettledM, noMarks, marksOf, metAll, walksWell}
-use Rattle.survey.specs.Survey.{allSound, markM, markAll}
+use Rattle.audit.specs.Audit.{isSettledM, isSharedM, noMarks, marksOf, metAll, walksWell}
+use Rattle.survey.specs.Survey.{allSound, wholeChain, markM, markAll}
 use Rattle.sweep.specs.Sweep.{listAt, allWhole}
 use Rattle.survey.specs.declared.Tally.{Tally}
 use Rattle.survey.proofs.SurveyLaws.{chunks-few}
-use Rattle.audit.proofs.SurveyMeaning.{ChainFacts, found-facts, facts-found, tally-ordinary, tally-used, tallyFor}
+use Rattle.audit.proofs.SurveyMeaning.{ChainFacts, found-facts, facts-found, tally-ordinary, tally-free, tallyFor}
 use Rattle.audit.proofs.MarksMeaning.{ordinaries, ordinaries-once, marks-are}
 use Rattle.audit.proofs.SweepMeaning.{Marks, MemberFacts, BinIs, Combs, Covered, combs-bins, bins-combs}
 
@@ -50,16 +51,21 @@ marked-long ms k c = go (ordinaryKind k)
     go true = length-flipped ms c
     go false = refl
 
--- the tests after the walk of the chain
-settled-iff : (t : Tally) (s : Summary)
-    → Decides (isSettledM t s) ((t .end + 8 ≡ s .bytes) × (0 < t .tops) × (0 < t .patrols) × (0 < s .donor .0 → 0 < t .donors))
+-- the walk of the chain: every chunk is sound, and the last is the end chunk
+whole-iff : (ws : List ℕ) (s : Summary)
+    → Decides (wholeChain ws s) ((allSound ws s 0 (shape ws (s .bytes)) ≡ true) × (lastOr outside (shape ws (s .bytes)) .place + 8 ≡ s .bytes))
+unfolding wholeChain
+whole-iff ws s = both (itself (allSound ws s 0 (shape ws (s .bytes)))) (number-is (lastOr outside (shape ws (s .bytes)) .place + 8) (s .bytes))
+
+-- the tests after it
+settled-iff : (t : Tally) (s : Summary) → Decides (isSettledM t s) ((0 < t .tops) × (0 < t .patrols) × (0 < s .donor .0 → 0 < t .donors))
 unfolding isSettledM
 settled-iff t s =
     meaning
-    (both (both (both (number-is (t .end + 8) (s .bytes)) (denied (number-is (t .tops) 0))) (denied (number-is (t .patrols) 0)))
+    (both (both (denied (number-is (t .tops) 0)) (denied (number-is (t .patrols) 0)))
     (or-else (number-is (s .donor .0) 0) (denied (number-is (t .donors) 0))))
-    (λ (((end, tops), patrols), donor). (end, omega arith, omega arith, λ l. donors donor l))
-    (λ (end, top, patrol, donor). (((end, λ e. omega arith), λ e. omega arith), back donor (ℕ-discrete (s .donor .0) 0)))
+    (λ ((tops, patrols), donor). (omega arith, omega arith, λ l. donors donor l))
+    (λ (top, patrol, donor). ((λ e. omega arith, λ e. omega arith), back donor (ℕ-discrete (s .donor .0) 0)))
   where
     donors : (s .donor .0 ≡ 0) ⊎ (t .donors ≡ 0 → ⊥) → 0 < s .donor .0 → 0 < t .donors
     donors (inl e) l = absurd (omega arith)
@@ -75,6 +81,9 @@ module _ (ws : List ℕ) (h : Heap) (big : 40 ≤ h .bytes) (small : h .bytes �
 
   abbrev all : List ℕ
   all = ordinaries h es
+
+  some : 0 < h .bytes
+  some = omega arith
 
   -- the marks after the walk of the chain
   abbrev markedAll : List ℕ
@@ -118,7 +127,7 @@ module _ (ws : List ℕ) (h : Heap) (big : 40 ≤ h .bytes) (small : h .bytes �
         meaning (marks-are ws h small facts c e) (λ m. (m, λ k. List·Memᴰ·not-nil k)) (λ t. t .0)
 
     abbrev HasBin : ℕ → Type 0
-    HasBin i = BinIs ws (tableOf h) (table .valid) all (h .heads) (h .tails) (h .bytes) (omega arith) eights bounded i
+    HasBin i = BinIs ws (tableOf h) (table .valid) all (h .heads) (h .tails) (h .bytes) some eights bounded i
 
     -- a bin's list as the walk sees it, and as the check states it
     to-listed : (i : ℕ) → i < h .bins → HasBin i → Listed ws h es i (binList ws h i)
@@ -163,7 +172,7 @@ module _ (ws : List ℕ) (h : Heap) (big : 40 ≤ h .bytes) (small : h .bytes �
 
     -- every ordinary chunk is in a list, as the walk sees it, and as the check states it
     abbrev AllListed : Type 0
-    AllListed = Covered ws (tableOf h) (table .valid) all (h .heads) (h .tails) (h .bytes) (omega arith) eights bounded (h .bins)
+    AllListed = Covered ws (tableOf h) (table .valid) all (h .heads) (h .tails) (h .bytes) some eights bounded (h .bins)
 
     covered-binned : ((i : ℕ) → i < h .bins → HasBin i) → AllListed
         → (e : Entry) → Mem e es → ordinary h e ≡ true → InItsBin ws h e
@@ -187,14 +196,18 @@ module _ (ws : List ℕ) (h : Heap) (big : 40 ≤ h .bytes) (small : h .bytes �
       all-long ms [] l = l
       all-long ms (d ∷ ds) l = all-long (markM ms (kindOf h d) (d .place)) ds (marked-long ms (kindOf h d) (d .place) ∙ l)
 
+  -- used bytes are what free bytes, start and end leave
+  shared-out : ChainFacts ws h es → usedBytes h es + freeBytes h es + 16 ≡ h .bytes
+  shared-out facts = bytes-shared ws h (omega arith) (facts .ends .startSize) (facts .chain .reachesEnd)
+
   -- where both walks come through, the facts hold; and the other way
   rest : ChainFacts ws h es
       → allWhole ws (tableOf h) (h .heads) (h .tails) (h .bytes) markedAll (numbersFrom 0 (length (tableOf h))) ≡ true
       → metAll ws (tableOf h) (h .heads) (h .tails) (summaryOf h) ≡ length (keep (ordinary h) es)
-      → tallyFor h es .used ≡ h .used → Rest ws h
-  rest facts d e u =
+      → tallyFor h es .free + h .used + 16 ≡ h .bytes → Rest ws h
+  rest facts d e shared =
       let (listed, covered) =
-      combs-bins ws (tableOf h) (table .valid) all (h .heads) (h .tails) (h .bytes) (omega arith) (eights facts) bounded (h .bins) markedAll few
+      combs-bins ws (tableOf h) (table .valid) all (h .heads) (h .tails) (h .bytes) some (eights facts) bounded (h .bins) markedAll few
       marks-long (marks facts) (ordinaries-once ws h)
       (record {
         whole = rw (table-bins h table) at d;
@@ -204,34 +217,34 @@ module _ (ws : List ℕ) (h : Heap) (big : 40 ≤ h .bytes) (small : h .bytes �
         chain = facts;
         bins = λ i l. to-listed facts i l (listed i l);
         binned = covered-binned facts listed covered;
-        used = sym u ∙ tally-used h es;
+        used = omega (arith, shared-out facts, tally-free h es);
       }
 
   combs : (r : Rest ws h)
-      → Combs ws (tableOf h) (table .valid) all (h .heads) (h .tails) (h .bytes) (omega arith) (eights (r .chain)) bounded (h .bins) markedAll
+      → Combs ws (tableOf h) (table .valid) all (h .heads) (h .tails) (h .bytes) some (eights (r .chain)) bounded (h .bins) markedAll
   combs r =
-      bins-combs ws (tableOf h) (table .valid) all (h .heads) (h .tails) (h .bytes) (omega arith) (eights (r .chain)) bounded (h .bins) markedAll few
+      bins-combs ws (tableOf h) (table .valid) all (h .heads) (h .tails) (h .bytes) some (eights (r .chain)) bounded (h .bins) markedAll few
       marks-long (marks (r .chain)) (ordinaries-once ws h)
       (λ i l. of-listed (r .chain) i l (r .bins i l)) (binned-covered (r .chain) (r .binned))
 
   -- the walks come through exactly when the facts hold
   pub well-iff : Decides (walksWell ws (tableOf h) (h .heads) (h .tails) (summaryOf h)) (Rest ws h)
-  unfolding walksWell
+  unfolding walksWell isSharedM
   well-iff =
       meaning
       (both (both (both (both
-      (itself (allSound ws (summaryOf h) 0 es))
+      (whole-iff ws (summaryOf h))
       (settled-iff (tallyFor h es) (summaryOf h)))
-      (number-is (tallyFor h es .used) (h .used)))
+      (number-is (tallyFor h es .free + h .used + 16) (h .bytes)))
       (itself (allWhole ws (tableOf h) (h .heads) (h .tails) (h .bytes) markedAll (numbersFrom 0 (length (tableOf h))))))
       (number-is (metAll ws (tableOf h) (h .heads) (h .tails) (summaryOf h)) (tallyFor h es .ordinary)))
-      (λ ((((sound, (end, top, patrol, donor)), used), whole), count).
+      (λ (((((sound, end), (top, patrol, donor)), shared), whole), count).
       rest (found-facts ws h big (record { sound = sound; end = end; top = top; donor = donor; patrol = patrol }))
-      whole (count ∙ tally-ordinary h es) used)
+      whole (count ∙ tally-ordinary h es) shared)
       (λ r.
       let f = facts-found ws h big (r .chain) in
       let c = combs r in (
-        (((f .sound, (f .end, f .top, f .patrol, f .donor)), tally-used h es ∙ sym (r .used)), subst (λ (n : ℕ). allWhole ws (tableOf h) (h .heads) (h .tails) (h .bytes) markedAll (numbersFrom 0 n) ≡ true) (sym (table-bins h table)) (c .whole)),
+        ((((f .sound, f .end), (f .top, f .patrol, f .donor)), omega (arith, shared-out (r .chain), tally-free h es, r .used)), subst (λ (n : ℕ). allWhole ws (tableOf h) (h .heads) (h .tails) (h .bytes) markedAll (numbersFrom 0 n) ≡ true) (sym (table-bins h table)) (c .whole)),
         subst (λ (n : ℕ). total (λ i. length (listAt ws (tableOf h) (h .heads) (h .tails) (h .bytes) i)) (numbersFrom 0 n) % 2 ^ 32 ≡ length all) (sym (table-bins h table)) (c .count)
             ∙ length-map (keep (ordinary h) es) (λ (d : Entry). d .place) ∙ sym (tally-ordinary h es),
       ))

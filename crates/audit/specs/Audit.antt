@@ -15,7 +15,7 @@ use Rattle.record.specs.Table.{validTable}
 use Rattle.rules.specs.Check.{unusedFrom, passes, countsOf}
 use Rattle.rules.specs.Shape.{shape}
 use Rattle.survey.specs.declared.Tally.{Tally}
-use Rattle.survey.specs.Survey.{allSound, markAll, tallyOf}
+use Rattle.survey.specs.Survey.{wholeChain, markAll, tallyOf}
 use Rattle.sweep.specs.Sweep.{listAt, allWhole}
 use Rattle.audit.specs.declared.Audit.{Audit}
 use Rattle.audit.specs.declared.Audit.the-variants.{Passes, Fails}
@@ -33,8 +33,11 @@ isTabledM bins sizes heads tails =
 
 unfoldable pub isSettledM : Tally → Summary → Bool
 isSettledM t s =
-    eqb (t .end + 8) (s .bytes) && not (eqb (t .tops) 0) && not (eqb (t .patrols) 0)
-    && (eqb (s .donor .0) 0 || not (eqb (t .donors) 0))
+    not (eqb (t .tops) 0) && not (eqb (t .patrols) 0) && (eqb (s .donor .0) 0 || not (eqb (t .donors) 0))
+
+-- the used bytes of the record, so many free bytes, and start and end together are the heap bytes
+unfoldable pub isSharedM : ℕ → Summary → Bool
+isSharedM free s = eqb (free + s .used + 16) (s .bytes)
 
 -- no chunk is marked
 abbrev pub noMarks : List ℕ
@@ -52,14 +55,14 @@ module _ (ws table heads tails : List ℕ) (s : Summary) where
   metAll = total (λ i. length (listAt ws table heads tails (s .bytes) i)) (numbersFrom 0 (length table)) % 2 ^ 32
 
   abbrev pub countsIn : Counts
-  countsIn = record { chunks = tally .chunks; ordinary = tally .ordinary; used = tally .used; free = tally .free }
+  countsIn = record { chunks = tally .chunks; ordinary = tally .ordinary; used = s .used; free = tally .free }
 
   -- both walks come through, and what they count agrees
   unfoldable pub walksWell : Bool
   walksWell =
-      allSound ws s 0 (shape ws (s .bytes))
+      wholeChain ws s
       && isSettledM tally s
-      && eqb (tally .used) (s .used)
+      && isSharedM (tally .free) s
       && allWhole ws table heads tails (s .bytes) marksOf (numbersFrom 0 (length table))
       && eqb metAll (tally .ordinary)
 

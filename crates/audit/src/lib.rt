@@ -1,7 +1,7 @@
 // The check, in time linear in the chunks: one walk of the chain that marks each ordinary chunk, one walk of each
 // bin's list that clears the marks. Nothing is written into the region.
 ghost use mathlib.Core.Path.{_≡_};
-ghost use Rattle.audit.specs.Audit.{isSettledM, isTabledM, Placed, WalkedIs, LookIs};
+ghost use Rattle.audit.specs.Audit.{isSettledM, isSharedM, isTabledM, Placed, WalkedIs, LookIs};
 ghost use Rattle.chain.specs.Length.{Lent};
 ghost use Rattle.sweep.specs.Sweep.{BothEnds};
 ghost use Rattle.rules.specs.Check.{passes, unusedFrom};
@@ -20,6 +20,9 @@ use survey::Tally;
 use survey::walk;
 use sweep::Sweep;
 use sweep::sweep_bins;
+
+// The bytes of start and end.
+const ENDS: u64 = 2 * END_SIZE as u64;
 
 pub enum Audit {
     Passes(Counts),
@@ -59,13 +62,10 @@ pub fn is_tabled<'a>(bins: usize, sizes: &[u32], heads: &'a [u32], tails: &'a [u
     is_unused(tails, bins)
 }
 
-// What the walk of the chain must have come to: the end chunk, a top, a chunk at the patrol's place, and a donor if the record names one.
+// What the walk of the chain must have met: a top, a chunk at the patrol's place, and a donor if the record names one.
 pub fn is_settled(tally: Tally, summary: Summary) -> bool
     ensures { λ r. ⌜ r ≡ isSettledM tally summary ⌝ }
 {
-    if tally.end as u64 + END_SIZE as u64 != summary.bytes as u64 {
-        return false;
-    }
     if tally.tops == 0 {
         return false;
     }
@@ -76,6 +76,13 @@ pub fn is_settled(tally: Tally, summary: Summary) -> bool
         return true;
     }
     tally.donors != 0
+}
+
+// The record's used bytes are what start, end and the free bytes leave of the heap bytes, so that nothing need add them up.
+pub fn is_shared(free: u32, summary: Summary) -> bool
+    ensures { λ r. ⌜ r ≡ isSharedM free summary ⌝ }
+{
+    free as u64 + summary.used as u64 + ENDS == summary.bytes as u64
 }
 
 // The two walks, on the even part of the region.
@@ -98,7 +105,7 @@ pub fn walk_all<'a>(
     if !is_settled(tally, summary) {
         return Audit::Fails;
     }
-    if tally.used != summary.used {
+    if !is_shared(tally.free, summary) {
         return Audit::Fails;
     }
     let sweep = sweep_bins(region, &mut marks, table, heads, tails, summary.bytes);
@@ -111,7 +118,7 @@ pub fn walk_all<'a>(
     Audit::Passes(Counts {
         chunks: tally.chunks,
         ordinary: tally.ordinary,
-        used: tally.used,
+        used: summary.used,
         free: tally.free,
     })
 }

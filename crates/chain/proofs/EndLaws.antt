@@ -19,11 +19,11 @@ module _ (ws : List ℕ) (bytes : ℕ) where
   abbrev pub hereAt : ℕ → Entry
   hereAt c = entry c (endAt c - c) (flagsAt ws c)
 
-  end-up : (c : ℕ) → Up ws bytes c → endAt c ≡ word ws c forward
+  pub end-up : (c : ℕ) → Up ws bytes c → endAt c ≡ word ws c forward
   unfolding endM
   end-up c u = rw (lt-ltb c (word ws c forward) (u .0), lt-ltb (word ws c forward) bytes (u .1))
 
-  end-stop : (c : ℕ) → (Up ws bytes c → ⊥) → endAt c ≡ bytes
+  pub end-stop : (c : ℕ) → (Up ws bytes c → ⊥) → endAt c ≡ bytes
   unfolding endM
   end-stop c n = rw (not-so (both (less c (word ws c forward)) (less (word ws c forward) bytes)) n)
 

@@ -1,2 +1,3 @@
 pub mod ChunkLaws
 pub mod SurveyLaws
+pub mod WalkLaws

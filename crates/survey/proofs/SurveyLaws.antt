@@ -1,5 +1,5 @@
 -- The walk of the chain, step by step: what is left to do and what is done always come to the whole. Assumes nothing.
-use mathlib.Core.Path.{_≡_, refl, sym, _∙_, ap}
+use mathlib.Core.Path.{_≡_, refl, _∙_, ap}
 use mathlib.Core.Bool.{Bool, true, false, cond}
 use mathlib.Core.List.{List, [], _∷_}
 use Prim.Native.Nat.{ℕ, suc, _+_, _-_, _%_, _^_, _≤_, _<_, max}
@@ -9,28 +9,26 @@ use native.Mathlib.Omega.{arith}
 use lib.Dec.{eqb}
 use lib.ListN.{length}
 use Rattle.lists.specs.Lists.{lastOr, total}
+use borrow.Author.Tests.{eq-eqb}
+use Rattle.lists.proofs.ListsLaws.{number-is, itself, both, not-so}
 use Rattle.lists.proofs.TotalLaws.{total-le, total-one}
-use Rattle.chain.specs.Chain.{endM, kindM}
-use Rattle.chain.proofs.EndLaws.{endAt, hereAt, chain-here, chain-next, end-link}
+use Rattle.chain.specs.Chain.{kindM}
+use Rattle.chain.proofs.EndLaws.{endAt, hereAt, chain-here, chain-next}
 use Rattle.record.specs.declared.heap.Summary.{Summary}
 use Rattle.record.specs.declared.kinds.Kind.{Kind}
 use Rattle.record.specs.declared.kinds.Kind.the-variants.{Start, InUse, Ordinary, Donor, Top, End}
-use Rattle.region.specs.Words.{word, forward, backward}
 use Rattle.rules.specs.Kinds.{outside}
-use Rattle.rules.specs.Shape.{Entry, shape}
+use Rattle.rules.specs.Shape.{Entry}
 use Rattle.rules.proofs.ShapeLaws.{chainFrom, shape-is, chain-by}
-use Rattle.survey.specs.declared.chunks.Seen.{Seen}
-use Rattle.survey.specs.declared.chunks.Seen.the-variants.{Sound, Unsound}
 use Rattle.survey.specs.declared.Share.{Share}
 use Rattle.survey.specs.declared.Survey.the-variants.{Surveyed}
 use Rattle.survey.specs.declared.Tally.{Tally}
-use Rattle.survey.specs.Chunks.{visited, soundAt, examineM}
-use Rattle.survey.specs.Survey.{shareOf, atPatrolM, addedM, markM, shareAt, allSound, markAll, tallyOf, SurveyIs}
+use Rattle.survey.specs.Chunks.{soundAt}
+use Rattle.survey.specs.Survey.{shareOf, atPatrolM, nothing, addedM, markM, shareAt, allSound, wholeChain, markAll, tallyOf, SurveyIs}
 
 -- no share is larger than the chunk, and none counts more than one
 share-small : (k : Kind) (s : ℕ)
-    → (shareOf k s .used ≤ s) × (shareOf k s .free ≤ s)
-    × (shareOf k s .ordinary ≤ 1) × (shareOf k s .donors ≤ 1) × (shareOf k s .tops ≤ 1)
+    → (shareOf k s .free ≤ s) × (shareOf k s .ordinary ≤ 1) × (shareOf k s .donors ≤ 1) × (shareOf k s .tops ≤ 1)
 share-small Start s = omega arith
 share-small InUse s = omega arith
 share-small Ordinary s = omega arith
@@ -65,13 +63,13 @@ module _ (ws : List ℕ) (bytes : ℕ) where
 
 module _ (ws : List ℕ) (s : Summary) where
   -- the chain from c on, the chunk at c, and where it ends
-  abbrev chain : ℕ → List Entry
+  abbrev pub chain : ℕ → List Entry
   chain c = chainFrom ws (s .bytes) c
 
-  abbrev chunk : ℕ → Entry
+  abbrev pub chunk : ℕ → Entry
   chunk c = hereAt ws (s .bytes) c
 
-  abbrev end : ℕ → ℕ
+  abbrev pub end : ℕ → ℕ
   end c = endAt ws (s .bytes) c
 
   -- whether the patrol's place is here, as a count
@@ -86,47 +84,40 @@ module _ (ws : List ℕ) (s : Summary) where
         ordinary = t .ordinary + total (λ e. shareAt s e .ordinary) es;
         donors = t .donors + total (λ e. shareAt s e .donors) es;
         tops = t .tops + total (λ e. shareAt s e .tops) es;
-        used = t .used + total (λ e. shareAt s e .used) es;
         free = t .free + total (λ e. shareAt s e .free) es;
         patrols = t .patrols + total here-too es;
-        end = lastOr outside es .place;
       }
 
   -- the counts with one chunk more, as numbers that do not wrap
-  abbrev plainly : Tally → Entry → ℕ → Tally
-  plainly t e c =
+  abbrev plainly : Tally → Entry → Tally
+  plainly t e =
       record {
         chunks = t .chunks + 1;
         ordinary = t .ordinary + shareAt s e .ordinary;
         donors = t .donors + shareAt s e .donors;
         tops = t .tops + shareAt s e .tops;
-        used = t .used + shareAt s e .used;
         free = t .free + shareAt s e .free;
         patrols = t .patrols + here-too e;
-        end = c;
       }
 
   -- a chunk is moved from what is left to what is counted
-  recounted : (t : Tally) (e : Entry) (c : ℕ) (es : List Entry) → lastOr outside es ≡ lastOr e es
-      → counted (plainly t e c) es ≡ counted t (e ∷ es)
-  recounted t e c es q =
+  recounted : (t : Tally) (e : Entry) (es : List Entry) → counted (plainly t e) es ≡ counted t (e ∷ es)
+  recounted t e es =
       λ i.
       record {
         chunks = one (t .chunks) (length es) i;
         ordinary = add-assoc (t .ordinary) (shareAt s e .ordinary) (total (λ d. shareAt s d .ordinary) es) i;
         donors = add-assoc (t .donors) (shareAt s e .donors) (total (λ d. shareAt s d .donors) es) i;
         tops = add-assoc (t .tops) (shareAt s e .tops) (total (λ d. shareAt s d .tops) es) i;
-        used = add-assoc (t .used) (shareAt s e .used) (total (λ d. shareAt s d .used) es) i;
         free = add-assoc (t .free) (shareAt s e .free) (total (λ d. shareAt s d .free) es) i;
         patrols = add-assoc (t .patrols) (here-too e) (total here-too es) i;
-        end = q i .place;
       }
     where
       one : (a b : ℕ) → a + 1 + b ≡ a + suc b
       one a b = omega arith
 
   -- the last chunk is counted, and nothing is left
-  all-counted : (t : Tally) (e : Entry) → plainly t e (e .place) ≡ counted t (e ∷ [])
+  all-counted : (t : Tally) (e : Entry) → plainly t e ≡ counted t (e ∷ [])
   all-counted t e = simp add-zero
 
   -- where the walk stands at c, after a chunk at p: with what is left it comes to the whole
@@ -135,6 +126,7 @@ module _ (ws : List ℕ) (s : Summary) where
     pub sound : allSound ws s p (chain c) ≡ allSound ws s 0 (chain 0)
     pub marks : markAll s ms (chain c) ≡ markAll s ms₀ (chain 0)
     pub tally : counted t (chain c) ≡ tallyOf s (chain 0)
+    pub last : lastOr outside (chain c) ≡ lastOr outside (chain 0)
 
   -- the counts of a chain fit a word
   module _ (fits : s .bytes < 2 ^ 32) where
@@ -170,46 +162,56 @@ module _ (ws : List ℕ) (s : Summary) where
       abbrev share : Entry → Share
       share d = shareAt s d
 
-      small : (d : Entry) → (share d .used ≤ d .size) × (share d .free ≤ d .size) × (share d .ordinary ≤ 1) × (share d .donors ≤ 1) × (share d .tops ≤ 1)
+      small : (d : Entry) → (share d .free ≤ d .size) × (share d .ordinary ≤ 1) × (share d .donors ≤ 1) × (share d .tops ≤ 1)
       small d = share-small (kindM s d) (d .size)
 
       -- the counts with this chunk, as numbers that have not wrapped
-      unwrapped : addedM (s .patrol .0) t (shareAt s e) c ≡ plainly t e c
+      unwrapped : addedM (s .patrol .0) t (shareAt s e) c ≡ plainly t e
       unwrapped =
           rw (
             ← place,
             chunk-more,
-            summed (λ d. share d .ordinary) (t .ordinary) (ap (λ (u : Tally). u .ordinary) left) (fit-count _ (λ d. small d .2)),
-            summed (λ d. share d .donors) (t .donors) (ap (λ (u : Tally). u .donors) left) (fit-count _ (λ d. small d .3)),
-            summed (λ d. share d .tops) (t .tops) (ap (λ (u : Tally). u .tops) left) (fit-count _ (λ d. small d .4)),
-            summed (λ d. share d .used) (t .used) (ap (λ (u : Tally). u .used) left) (fit-size _ (λ d. small d .0)),
-            summed (λ d. share d .free) (t .free) (ap (λ (u : Tally). u .free) left) (fit-size _ (λ d. small d .1)),
+            summed (λ d. share d .ordinary) (t .ordinary) (ap (λ (u : Tally). u .ordinary) left) (fit-count _ (λ d. small d .1)),
+            summed (λ d. share d .donors) (t .donors) (ap (λ (u : Tally). u .donors) left) (fit-count _ (λ d. small d .2)),
+            summed (λ d. share d .tops) (t .tops) (ap (λ (u : Tally). u .tops) left) (fit-count _ (λ d. small d .3)),
+            summed (λ d. share d .free) (t .free) (ap (λ (u : Tally). u .free) left) (fit-size _ (λ d. small d .0)),
             summed here-too (t .patrols) (ap (λ (u : Tally). u .patrols) left) (fit-count _ (λ d. at-most-one (s .patrol .0) (d .place))),
           )
 
-  -- the three ways on from a chunk: it is not sound; it is the last; the walk goes on behind it
-  module _ (fits : s .bytes < 2 ^ 32) (ms₀ ms : List ℕ) (t : Tally) (p c : ℕ) (o : Onward ms₀ ms t p c) where
-    breaks : soundAt ws s p (chunk c) ≡ false → allSound ws s 0 (shape ws (s .bytes)) ≡ false
-    breaks h = rw (shape-is ws (s .bytes)) (sym (o .sound) ∙ go (ℕ-discrete (end c) (s .bytes)))
+  -- the chain is not whole if a part of it is not sound, or if it does not end at the end chunk
+  module _ (ms₀ ms : List ℕ) (t : Tally) (p c : ℕ) (o : Onward ms₀ ms t p c) where
+    pub unsound-fails : allSound ws s p (chain c) ≡ false → wholeChain ws s ≡ false
+    unfolding wholeChain
+    unsound-fails h = rw (shape-is ws (s .bytes), ← o .sound, h)
+
+    pub short-fails : (lastOr outside (chain c) .place + 8 ≡ s .bytes → ⊥) → wholeChain ws s ≡ false
+    unfolding wholeChain
+    short-fails n =
+        rw (shape-is ws (s .bytes), ← o .last)
+        (not-so (both (itself (allSound ws s 0 (chain 0))) (number-is (lastOr outside (chain c) .place + 8) (s .bytes))) (λ (_, q). n q))
+
+    pub breaks : soundAt ws s p (chunk c) ≡ false → wholeChain ws s ≡ false
+    breaks h = unsound-fails (go (ℕ-discrete (end c) (s .bytes)))
       where
         go : Dec (end c ≡ s .bytes) → allSound ws s p (chain c) ≡ false
         go (yes e) = rw (chain-here ws (s .bytes) c e, h)
         go (no n) = let (up, inside, further) = chain-next ws (s .bytes) c n in rw (further, h)
 
-    module _ (k : Kind) (kind : k ≡ kindM s (chunk c))
-        (h : soundAt ws s p (chunk c) ≡ true) where
-      ends : end c ≡ s .bytes
+    -- the ways on from a sound chunk: it is the last, and the end chunk; the walk goes on behind it
+    module _ (fits : s .bytes < 2 ^ 32) (k : Kind) (kind : k ≡ kindM s (chunk c)) (h : soundAt ws s p (chunk c) ≡ true) where
+      pub ends : end c ≡ s .bytes → c + 8 ≡ s .bytes
           → SurveyIs ws s ms₀ (markM ms k c) (Surveyed (addedM (s .patrol .0) t (shareOf k (end c - c)) c))
-      ends e =
+      unfolding wholeChain
+      ends e last =
           let here = chain-here ws (s .bytes) c e in
           let all = shape-is ws (s .bytes) in
           record {
-            sound = rw all (sym (o .sound) ∙ rw (here, h));
+            whole = rw (all, ← o .sound, ← o .last, here, h) (eq-eqb (c + 8) (s .bytes) last);
             tally = rw (all, kind) (unwrapped fits t c (chunk c) [] here refl (o .tally) ∙ all-counted t (chunk c) ∙ (rw here at (o .tally)));
             marks = rw (all, kind) (rw here at (o .marks));
           }
 
-      goes-on : (end c ≡ s .bytes → ⊥)
+      pub goes-on : (end c ≡ s .bytes → ⊥)
           → Onward ms₀ (markM ms k c) (addedM (s .patrol .0) t (shareOf k (end c - c)) c) c (end c)
       goes-on n =
           let (up, inside, further) = chain-next ws (s .bytes) c n in
@@ -220,67 +222,16 @@ module _ (ws : List ℕ) (s : Summary) where
             marks = rw further at (o .marks);
             tally =
                 ap (λ (u : Tally). counted u (chain (end c))) (unwrapped fits t c _ _ further refl (o .tally))
-                ∙ recounted t (chunk c) c (chain (end c)) (chain-last ws (s .bytes) outside (chunk c) (end c))
+                ∙ recounted t (chunk c) (chain (end c))
                 ∙ (rw further at (o .tally));
+            last = chain-last ws (s .bytes) outside (chunk c) (end c) ∙ (rw further at (o .last));
           })
 
 -- at the start everything is left
 pub survey-begins : {ws : List ℕ} {s : Summary} {ms : List ℕ}
-    → Onward ws s ms ms (record { chunks = 0; ordinary = 0; donors = 0; tops = 0; used = 0; free = 0; patrols = 0; end = 0 }) 0 0
-survey-begins = record { inside = omega arith; sound = refl; marks = refl; tally = simp zero-add }
+    → Onward ws s ms ms nothing 0 0
+survey-begins = record { inside = omega arith; sound = refl; marks = refl; tally = simp zero-add; last = refl }
 
 -- a share is added, whatever it is called
 pub tallies : (patrol : ℕ) (t : Tally) (c : ℕ) {s s′ : Share} {t′ : Tally} → s ≡ s′ → t′ ≡ addedM patrol t s c → t′ ≡ addedM patrol t s′ c
 tallies patrol t c q e = e ∙ ap (λ (x : Share). addedM patrol t x c) q
-
--- what the code holds when it has looked at the chunk at c: its forward link n, its second word, its end e, and what was seen
-module _ {ws : List ℕ} {s : Summary} {ms₀ ms : List ℕ} {t : Tally} {p c : ℕ} (o : Onward ws s ms₀ ms t p c)
-    (fits : s .bytes < 2 ^ 32) {n back e : ℕ} {seen : Seen} (links : (n ≡ word ws c forward) × (back ≡ word ws c backward)) (ee : e ≡ endM (s .bytes) c n)
-    (es : seen ≡ examineM ws s (visited p c (e - c) back)) where
-  end-is : e ≡ end ws s c
-  end-is = ee ∙ ap (endM (s .bytes) c) (links .0)
-
-  told : seen ≡ examineM ws s (visited p c (end ws s c - c) (word ws c backward))
-  told =
-      es
-      ∙ ap (λ (x : ℕ). examineM ws s (visited p c (x - c) back)) end-is
-      ∙ ap (λ (x : ℕ). examineM ws s (visited p c (end ws s c - c) x)) (links .1)
-
-  told-unsound : seen ≡ Unsound → soundAt ws s p (chunk ws s c) ≡ false
-  unfolding examineM soundAt
-  told-unsound u = by (soundAt ws s p (chunk ws s c)) refl (sym told ∙ u)
-    where
-      by : (t : Bool) → soundAt ws s p (chunk ws s c) ≡ t
-          → cond t (Sound (kindM s (chunk ws s c))) Unsound ≡ Unsound → t ≡ false
-      by true q r = let z : _≡_ {A = ℕ} 0 1 = cc in absurd (omega arith)
-      by false q r = refl
-
-  told-sound : (k : Kind) → seen ≡ Sound k
-      → (k ≡ kindM s (chunk ws s c)) × (soundAt ws s p (chunk ws s c) ≡ true)
-  unfolding examineM soundAt
-  told-sound k u = by (soundAt ws s p (chunk ws s c)) refl (sym told ∙ u)
-    where
-      by : (t : Bool) → soundAt ws s p (chunk ws s c) ≡ t
-          → cond t (Sound (kindM s (chunk ws s c))) Unsound ≡ Sound k
-          → (k ≡ kindM s (chunk ws s c)) × (t ≡ true)
-      by true q r = ((cc), refl)
-      by false q r = let z : _≡_ {A = ℕ} 0 1 = cc in absurd (omega arith)
-
-  -- so the walk is where it should be, whichever way it goes on
-  pub walk-breaks : seen ≡ Unsound → allSound ws s 0 (shape ws (s .bytes)) ≡ false
-  walk-breaks u = breaks ws s fits ms₀ ms t p c o (told-unsound u)
-
-  module _ {k : Kind} (ek : seen ≡ Sound k) {share : Share} (sh : share ≡ shareOf k (e - c))
-      {t′ : Tally} (et : t′ ≡ addedM (s .patrol .0) t share c) {ms′ : List ℕ} (em : ms′ ≡ markM ms k c) where
-    pub walk-ends : e ≡ s .bytes → SurveyIs ws s ms₀ ms′ (Surveyed t′)
-    walk-ends q =
-        let (kind, sound) = told-sound k ek in
-        rw (et, em, sh, end-is) (ends ws s fits ms₀ ms t p c o k kind sound (sym end-is ∙ q))
-
-    pub walk-goes : (e ≡ s .bytes → ⊥) → (c < n) × (n < s .bytes) × Onward ws s ms₀ ms′ t′ c n
-    walk-goes f =
-        let (kind, sound) = told-sound k ek in
-        let m : end ws s c ≡ s .bytes → ⊥ = λ q. f (end-is ∙ q) in
-        let (up, inside, further) = chain-next ws (s .bytes) c m in
-        let link : n ≡ end ws s c = links .0 ∙ end-link ws (s .bytes) c m in
-        rw (et, em, sh, end-is, link) (up, inside, goes-on ws s fits ms₀ ms t p c o k kind sound m)

@@ -1,28 +1,60 @@
--- The tests of one chunk, kind by kind, as the code makes them. That together they are the check's facts is proved;
--- nobody need believe them.
+-- The tests of one chunk, kind by kind. That together they are the check's facts is proved, and that the code's fewer comparisons
+-- come to the same; nobody need believe them.
+use mathlib.Core.Path.{_≡_}
 use mathlib.Core.Bool.{Bool, cond, _&&_}
-use Prim.Native.Nat.{ℕ, _+_, _-_, _%_}
+use Prim.Native.Nat.{ℕ, _+_, _-_, _/_, _%_, _≤_, _<_}
 use mathlib.Core.List.{List}
 use lib.Dec.{eqb, leb, ltb}
+use lib.ListN.{length}
 use Rattle.chain.specs.Chain.{kindM}
 use Rattle.record.specs.declared.heap.Summary.{Summary}
 use Rattle.record.specs.declared.kinds.Kind.{Kind}
 use Rattle.record.specs.declared.kinds.Kind.the-variants.{Start, InUse, Ordinary, Donor, Top, End}
 use Rattle.record.specs.Heap.{at}
-use Rattle.region.specs.Words.{word, forward, backward, size}
+use Rattle.region.specs.Words.{word, forward, backward, size, bin}
 use Rattle.rules.specs.Check.{unbinned}
 use Rattle.rules.specs.Shape.{Entry, entry}
 use Rattle.survey.specs.declared.chunks.Seen.{Seen}
 use Rattle.survey.specs.declared.chunks.Seen.the-variants.{Sound, Unsound}
 use Rattle.survey.specs.declared.chunks.Visit.{Visit}
 
--- the chunk at c behind one at p, of so many bytes and with this second word
+-- the chunk at c behind one at p, with this forward link and this second word
 abbrev pub visited : ℕ → ℕ → ℕ → ℕ → Visit
-visited p c size link = record { before = at p; chunk = at c; size = size; link = link }
+visited p c next link = record { before = at p; chunk = at c; next = next; link = link }
 
--- the same as an entry of the chain
+-- the same as an entry of the chain, which ends at its forward link
 abbrev pub entryOf : Visit → Entry
-entryOf v = entry (v .chunk .0) (v .size) (v .link % 8)
+entryOf v = entry (v .chunk .0) (v .next - v .chunk .0) (v .link % 8)
+
+-- the chunk and the one before it are where chunks can be, one behind the other
+pub record Placed (v : Visit) : Type 0 where
+  pub eight : v .chunk .0 % 8 ≡ 0
+  pub eightBefore : v .before .0 % 8 ≡ 0
+  pub behind : v .before .0 < v .chunk .0
+  pub within : v .chunk .0 < 65536
+
+-- the six words of a header at c are inside the region
+abbrev pub Headed : List ℕ → ℕ → Type 0
+Headed ws c = c / 4 + bin < length ws
+
+-- the chain goes on behind the chunk, where `last` is the end chunk's place
+unfoldable pub goesOnM : Visit → ℕ → Bool
+goesOnM v last = leb (v .chunk .0 + 24) (v .next) && leb (v .next) last && eqb (v .next % 8) 0
+
+-- the start chunk by its two words
+unfoldable pub isFirstM : ℕ → ℕ → Bool
+isFirstM next link = eqb next 8 && eqb link 1
+
+-- it is the end chunk
+unfoldable pub isLastM : Visit → ℕ → Bool
+isLastM v last = eqb (v .chunk .0) last && eqb (v .next) 0 && eqb (v .link) (v .before .0 + 1)
+
+-- a chunk behind which the chain goes on
+pub record Between (ws : List ℕ) (s : Summary) (v : Visit) : Type 0 where
+  pub placed : Placed v
+  pub header : Headed ws (v .chunk .0)
+  pub room : v .chunk .0 + 24 ≤ v .next
+  pub below : v .next + 8 ≤ s .bytes
 
 -- a chunk at c with this second word follows one at p
 unfoldable pub isBackedM : ℕ → ℕ → ℕ → Bool
@@ -37,22 +69,20 @@ isStartM z f = eqb z 8 && eqb f 1
 unfoldable pub isEndM : List ℕ → ℕ → ℕ → Bool
 isEndM ws c f = eqb f 1 && eqb (word ws c forward) 0
 
-unfoldable pub isReservedM : List ℕ → ℕ → ℕ → Bool
-isReservedM ws c z = isSizedM ws c z && unbinned ws c
+unfoldable pub isDonorM : List ℕ → Summary → ℕ → Bool
+isDonorM ws s c = unbinned ws c && ltb (s .donor .0) (s .top .0)
 
-unfoldable pub isDonorM : List ℕ → Summary → ℕ → ℕ → Bool
-isDonorM ws s c z = isReservedM ws c z && ltb (s .donor .0) (s .top .0)
-
+-- a top at c whose forward link is `next`
 unfoldable pub isTopM : List ℕ → Summary → ℕ → ℕ → Bool
-isTopM ws s c z = isReservedM ws c z && eqb (c + z + 8) (s .bytes)
+isTopM ws s c next = unbinned ws c && eqb (next + 8) (s .bytes)
 
 -- what a chunk of each kind must be besides
 abbrev pub isSoundM : List ℕ → Summary → Entry → Kind → Bool
 isSoundM ws s e Start = isStartM (e .size) (e .flags)
 isSoundM ws s e InUse = leb 24 (e .size)
 isSoundM ws s e Ordinary = isSizedM ws (e .place) (e .size)
-isSoundM ws s e Donor = isDonorM ws s (e .place) (e .size)
-isSoundM ws s e Top = isTopM ws s (e .place) (e .size)
+isSoundM ws s e Donor = isSizedM ws (e .place) (e .size) && isDonorM ws s (e .place)
+isSoundM ws s e Top = isSizedM ws (e .place) (e .size) && isTopM ws s (e .place) (e .place + e .size)
 isSoundM ws s e End = isEndM ws (e .place) (e .flags)
 
 -- a chunk that follows one at p is sound

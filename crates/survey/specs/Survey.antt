@@ -20,16 +20,16 @@ use Rattle.survey.specs.declared.Survey.the-variants.{Surveyed, Broken}
 use Rattle.survey.specs.declared.Tally.{Tally}
 use Rattle.survey.specs.Chunks.{soundAt}
 
-abbrev pub sharesM : ℕ → ℕ → ℕ → ℕ → ℕ → Share
-sharesM o d t u f = record { ordinary = o; donors = d; tops = t; used = u; free = f }
+abbrev pub sharesM : ℕ → ℕ → ℕ → ℕ → Share
+sharesM o d t f = record { ordinary = o; donors = d; tops = t; free = f }
 
 abbrev pub shareOf : Kind → ℕ → Share
-shareOf Start s = sharesM 0 0 0 0 0
-shareOf InUse s = sharesM 0 0 0 s 0
-shareOf Ordinary s = sharesM 1 0 0 0 s
-shareOf Donor s = sharesM 0 1 0 0 s
-shareOf Top s = sharesM 0 0 1 0 s
-shareOf End s = sharesM 0 0 0 0 0
+shareOf Start s = sharesM 0 0 0 0
+shareOf InUse s = sharesM 0 0 0 0
+shareOf Ordinary s = sharesM 1 0 0 s
+shareOf Donor s = sharesM 0 1 0 s
+shareOf Top s = sharesM 0 0 1 s
+shareOf End s = sharesM 0 0 0 0
 
 abbrev pub wrapped : ℕ → ℕ → ℕ
 wrapped a b = (a + b) % 2 ^ 32
@@ -38,6 +38,10 @@ wrapped a b = (a + b) % 2 ^ 32
 abbrev pub atPatrolM : ℕ → ℕ → ℕ
 atPatrolM patrol c = cond (eqb c patrol) 1 0
 
+-- the counts before the first chunk
+abbrev pub nothing : Tally
+nothing = record { chunks = 0; ordinary = 0; donors = 0; tops = 0; free = 0; patrols = 0 }
+
 abbrev pub addedM : ℕ → Tally → Share → ℕ → Tally
 addedM patrol t s c =
     record {
@@ -45,10 +49,8 @@ addedM patrol t s c =
       ordinary = wrapped (t .ordinary) (s .ordinary);
       donors = wrapped (t .donors) (s .donors);
       tops = wrapped (t .tops) (s .tops);
-      used = wrapped (t .used) (s .used);
       free = wrapped (t .free) (s .free);
       patrols = wrapped (t .patrols) (atPatrolM patrol c);
-      end = c;
     }
 
 unfoldable pub markM : List ℕ → Kind → ℕ → List ℕ
@@ -69,10 +71,8 @@ module _ (s : Summary) where
         ordinary = total (λ e. shareAt e .ordinary) es;
         donors = total (λ e. shareAt e .donors) es;
         tops = total (λ e. shareAt e .tops) es;
-        used = total (λ e. shareAt e .used) es;
         free = total (λ e. shareAt e .free) es;
         patrols = total (λ e. atPatrolM (s .patrol .0) (e .place)) es;
-        end = lastOr outside es .place;
       }
 
 module _ (ws : List ℕ) (s : Summary) where
@@ -81,13 +81,17 @@ module _ (ws : List ℕ) (s : Summary) where
   allSound p [] = true
   allSound p (e ∷ es) = soundAt ws s p e && allSound (e .place) es
 
+  -- every chunk is sound, and the last of them is the end chunk
+  unfoldable pub wholeChain : Bool
+  wholeChain = allSound 0 (shape ws (s .bytes)) && eqb (lastOr outside (shape ws (s .bytes)) .place + 8) (s .bytes)
+
   -- the walk came through, with this tally; the marks are `before` and `after` it
   pub record SurveyedIs (before after : List ℕ) (t : Tally) : Type 0 where
-    pub sound : allSound 0 (shape ws (s .bytes)) ≡ true
+    pub whole : wholeChain ≡ true
     pub tally : t ≡ tallyOf s (shape ws (s .bytes))
     pub marks : after ≡ markAll s before (shape ws (s .bytes))
 
   -- what the walk found
   abbrev pub SurveyIs : List ℕ → List ℕ → Survey → Type 0
-  SurveyIs before after Broken = allSound 0 (shape ws (s .bytes)) ≡ false
+  SurveyIs before after Broken = wholeChain ≡ false
   SurveyIs before after (Surveyed t) = SurveyedIs before after t

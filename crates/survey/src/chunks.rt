@@ -1,125 +1,93 @@
 // Whether one chunk of the chain is as it should be, by its kind. Its place in a bin is not looked at here.
+// Of a chunk behind which the chain goes on the whole header is inside the region, so that its words are read with no bounds check.
+ghost use mathlib.Core.Bool.{cond};
 ghost use mathlib.Core.Path.{_≡_};
 ghost use Rattle.rules.specs.Check.{unbinned};
-ghost use Rattle.survey.specs.Chunks.{entryOf, examineM, isBackedM, isDonorM, isEndM, isReservedM, isSizedM, isSoundM, isStartM, isTopM};
-use chain::kind_of;
+ghost use Rattle.survey.specs.Chunks.{Between, Headed, Placed, examineM, goesOnM, isDonorM, isLastM, isTopM};
+ghost use Rattle.survey.specs.declared.chunks.Seen.the-variants.{Sound, Unsound};
 use record::heap::Summary;
 use record::kinds::Kind;
 use region::ALIGNMENT;
 use region::BIN;
 use region::Chunk;
 use region::END_SIZE;
-use region::FORWARD;
 use region::IN_USE;
 use region::LEAST;
 use region::NEXT_IN_BIN;
 use region::PREVIOUS_IN_BIN;
 use region::SIZE;
-use region::word;
 
-// A chunk as the walk meets it: the chunk before it, its place, its size, and its second word, the backward link with the flags.
+// A chunk as the walk meets it: the chunk before it, its place, its forward link, and its second word, the backward link with the flags.
 pub struct Visit {
     pub before: Chunk,
     pub chunk: Chunk,
-    pub size: u32,
+    pub next: u32,
     pub link: u32,
 }
 
-// The chunk is at a multiple of 8, two of its three flags are 0, and its backward link names the chunk before.
-pub fn is_backed(link: u32, before: Chunk, chunk: Chunk) -> bool
-    ensures { λ r. ⌜ r ≡ isBackedM link (before .0) (chunk .0) ⌝ }
+// The chain goes on: the forward link leads to a multiple of 8, far enough up that the chunk has room for a header, and not past the
+// end chunk.
+pub fn goes_on(visit: Visit, last: u32) -> bool
+    requires { ⌜ Placed visit ⌝ }
+    ensures { λ r. ⌜ r ≡ goesOnM visit last ⌝ }
 {
-    let flags = link % ALIGNMENT;
-    if chunk.0 % ALIGNMENT != 0 {
+    if visit.next < visit.chunk.0 + LEAST {
         return false;
     }
-    if IN_USE < flags {
+    if last < visit.next {
         return false;
     }
-    link - flags == before.0
+    visit.next % ALIGNMENT == 0
+}
+
+// The end chunk: the last 8 bytes, in use, behind the chunk before, and with no next chunk.
+pub fn is_last(visit: Visit, last: u32) -> bool
+    requires { ⌜ Placed visit ⌝ }
+    ensures { λ r. ⌜ r ≡ isLastM visit last ⌝ }
+{
+    if visit.chunk.0 != last {
+        return false;
+    }
+    if visit.next != 0 {
+        return false;
+    }
+    visit.link == visit.before.0 + IN_USE
 }
 
 pub fn is_unbinned(region: &[u32], chunk: Chunk) -> bool
+    requires { ⌜ Headed (now region) (chunk .0) ⌝ }
     ensures { λ r. ⌜ r ≡ unbinned (now (region .entry)) (chunk .0) ⌝ }
 {
-    if word(region, chunk, NEXT_IN_BIN) != 0 {
+    let i = (chunk.0 / 4) as usize;
+    if region[i + NEXT_IN_BIN as usize] != 0 {
         return false;
     }
-    if word(region, chunk, PREVIOUS_IN_BIN) != 0 {
+    if region[i + PREVIOUS_IN_BIN as usize] != 0 {
         return false;
     }
-    word(region, chunk, BIN) == 0
+    region[i + BIN as usize] == 0
 }
 
-// A free chunk between the ends: large enough, with its size in its third word.
-pub fn is_sized(region: &[u32], chunk: Chunk, size: u32) -> bool
-    ensures { λ r. ⌜ r ≡ isSizedM (now (region .entry)) (chunk .0) size ⌝ }
+// The donor is in no bin, and below the top.
+pub fn is_donor(region: &[u32], summary: Summary, chunk: Chunk) -> bool
+    requires { ⌜ Headed (now region) (chunk .0) ⌝ }
+    ensures { λ r. ⌜ r ≡ isDonorM (now (region .entry)) summary (chunk .0) ⌝ }
 {
-    if size < LEAST {
-        return false;
-    }
-    word(region, chunk, SIZE) == size
-}
-
-pub fn is_start(size: u32, flags: u32) -> bool
-    ensures { λ r. ⌜ r ≡ isStartM size flags ⌝ }
-{
-    if size != END_SIZE {
-        return false;
-    }
-    flags == IN_USE
-}
-
-pub fn is_end(region: &[u32], chunk: Chunk, flags: u32) -> bool
-    ensures { λ r. ⌜ r ≡ isEndM (now (region .entry)) (chunk .0) flags ⌝ }
-{
-    if flags != IN_USE {
-        return false;
-    }
-    word(region, chunk, FORWARD) == 0
-}
-
-// What donor and top have in common: they are free, and in no bin.
-pub fn is_reserved(region: &[u32], chunk: Chunk, size: u32) -> bool
-    ensures { λ r. ⌜ r ≡ isReservedM (now (region .entry)) (chunk .0) size ⌝ }
-{
-    if !is_sized(region, chunk, size) {
-        return false;
-    }
-    is_unbinned(region, chunk)
-}
-
-// The donor is below the top.
-pub fn is_donor(region: &[u32], summary: Summary, chunk: Chunk, size: u32) -> bool
-    ensures { λ r. ⌜ r ≡ isDonorM (now (region .entry)) summary (chunk .0) size ⌝ }
-{
-    if !is_reserved(region, chunk, size) {
+    if !is_unbinned(region, chunk) {
         return false;
     }
     summary.donor.0 < summary.top.0
 }
 
-// The top reaches up to the end chunk.
-pub fn is_top(region: &[u32], summary: Summary, chunk: Chunk, size: u32) -> bool
-    ensures { λ r. ⌜ r ≡ isTopM (now (region .entry)) summary (chunk .0) size ⌝ }
+// The top is in no bin, and reaches up to the end chunk.
+pub fn is_top(region: &[u32], summary: Summary, chunk: Chunk, next: u32) -> bool
+    requires { ⌜ Headed (now region) (chunk .0) ⌝ }
+    ensures { λ r. ⌜ r ≡ isTopM (now (region .entry)) summary (chunk .0) next ⌝ }
 {
-    if !is_reserved(region, chunk, size) {
+    if !is_unbinned(region, chunk) {
         return false;
     }
-    chunk.0 as u64 + size as u64 + END_SIZE as u64 == summary.bytes as u64
-}
-
-pub fn is_sound(region: &[u32], summary: Summary, visit: Visit, kind: Kind) -> bool
-    ensures { λ r. ⌜ r ≡ isSoundM (now (region .entry)) summary (entryOf visit) kind ⌝ }
-{
-    match kind {
-        Kind::Start => is_start(visit.size, visit.link % ALIGNMENT),
-        Kind::InUse => LEAST <= visit.size,
-        Kind::Ordinary => is_sized(region, visit.chunk, visit.size),
-        Kind::Donor => is_donor(region, summary, visit.chunk, visit.size),
-        Kind::Top => is_top(region, summary, visit.chunk, visit.size),
-        Kind::End => is_end(region, visit.chunk, visit.link % ALIGNMENT),
-    }
+    next as u64 + END_SIZE as u64 == summary.bytes as u64
 }
 
 // What a look at a chunk finds: its kind, or that something is wrong.
@@ -128,18 +96,46 @@ pub enum Seen {
     Unsound,
 }
 
-// The visit comes before the summary: the other way round, the compiler keeps the places of donor and top in registers over the
-// whole walk, and has too few left for the counts.
-pub fn examine(region: &[u32], visit: Visit, summary: Summary) -> Seen
+fn by_test(sound: bool, kind: Kind) -> Seen
+    ensures { λ r. ⌜ r ≡ cond sound (Sound kind) Unsound ⌝ }
+{
+    if sound {
+        Seen::Sound(kind)
+    } else {
+        Seen::Unsound
+    }
+}
+
+// A free chunk has its size in its third word.
+pub fn examine_free(region: &[u32], visit: Visit, summary: Summary) -> Seen
+    requires { ⌜ Between (now region) summary visit ⌝ }
+    requires { ⌜ visit .link ≡ visit .before .0 ⌝ }
     ensures { λ r. ⌜ r ≡ examineM (now (region .entry)) summary visit ⌝ }
 {
-    let backed = is_backed(visit.link, visit.before, visit.chunk);
-    if !backed {
+    let chunk = visit.chunk;
+    let i = (chunk.0 / 4) as usize;
+    if region[i + SIZE as usize] != visit.next - chunk.0 {
         return Seen::Unsound;
     }
-    let kind = kind_of(summary, visit.chunk, visit.link % ALIGNMENT);
-    if !is_sound(region, summary, visit, kind) {
+    if chunk.0 == summary.top.0 {
+        return by_test(is_top(region, summary, chunk, visit.next), Kind::Top);
+    }
+    if chunk.0 == summary.donor.0 {
+        return by_test(is_donor(region, summary, chunk), Kind::Donor);
+    }
+    Seen::Sound(Kind::Ordinary)
+}
+
+// The place of the chunk before is a multiple of 8, so that one comparison of the second word tests the backward link and the flags.
+pub fn examine(region: &[u32], visit: Visit, summary: Summary) -> Seen
+    requires { ⌜ Between (now region) summary visit ⌝ }
+    ensures { λ r. ⌜ r ≡ examineM (now (region .entry)) summary visit ⌝ }
+{
+    if visit.link == visit.before.0 + IN_USE {
+        return Seen::Sound(Kind::InUse);
+    }
+    if visit.link != visit.before.0 {
         return Seen::Unsound;
     }
-    Seen::Sound(kind)
+    examine_free(region, visit, summary)
 }

@@ -1,17 +1,26 @@
 // The walk of the chain: every chunk is examined, counted and, if it is ordinary, marked.
 // The lists of the bins are walked afterwards, in the crate `sweep`.
 ghost use mathlib.Core.Path.{_≡_};
-ghost use Rattle.survey.specs.Survey.{sharesM, shareOf, markM, atPatrolM, addedM, SurveyIs};
+ghost use Prim.Native.Nat.{_/_, _<_};
+ghost use lib.ListN.{length};
+ghost use Rattle.chain.specs.Length.{Lent};
+ghost use Rattle.survey.specs.Chunks.{isFirstM};
+ghost use Rattle.record.specs.declared.kinds.Kind.the-variants.{Start};
+ghost use Rattle.survey.specs.Survey.{SurveyIs, addedM, atPatrolM, markM, nothing, shareOf, sharesM};
 use crate::chunks::Seen;
 use crate::chunks::Visit;
 use crate::chunks::examine;
-use chain::end_of;
+use crate::chunks::goes_on;
+use crate::chunks::is_last;
 use chain::is_ordinary;
 use marks::flip;
 use record::heap::Summary;
 use record::kinds::Kind;
+use region::BACKWARD;
 use region::Chunk;
-use region::links_of;
+use region::END_SIZE;
+use region::FORWARD;
+use region::IN_USE;
 
 pub mod chunks;
 
@@ -20,20 +29,17 @@ pub struct Share {
     pub ordinary: u32,
     pub donors: u32,
     pub tops: u32,
-    pub used: u32,
     pub free: u32,
 }
 
-// The counts, with how many chunks are at the patrol's place, and the place of the last chunk.
+// The counts, with how many chunks are at the patrol's place. Used bytes are not added up: they are what free bytes, start and end leave.
 pub struct Tally {
     pub chunks: u32,
     pub ordinary: u32,
     pub donors: u32,
     pub tops: u32,
-    pub used: u32,
     pub free: u32,
     pub patrols: u32,
-    pub end: u32,
 }
 
 pub enum Survey {
@@ -41,14 +47,13 @@ pub enum Survey {
     Broken,
 }
 
-fn shares(ordinary: u32, donors: u32, tops: u32, used: u32, free: u32) -> Share
-    ensures { λ r. ⌜ r ≡ sharesM ordinary donors tops used free ⌝ }
+fn shares(ordinary: u32, donors: u32, tops: u32, free: u32) -> Share
+    ensures { λ r. ⌜ r ≡ sharesM ordinary donors tops free ⌝ }
 {
     Share {
         ordinary: ordinary,
         donors: donors,
         tops: tops,
-        used: used,
         free: free,
     }
 }
@@ -69,10 +74,8 @@ pub fn added(tally: Tally, share: Share, chunk: Chunk, patrol: Chunk) -> Tally
         ordinary: std::num::wrapping_add_u32(tally.ordinary, share.ordinary),
         donors: std::num::wrapping_add_u32(tally.donors, share.donors),
         tops: std::num::wrapping_add_u32(tally.tops, share.tops),
-        used: std::num::wrapping_add_u32(tally.used, share.used),
         free: std::num::wrapping_add_u32(tally.free, share.free),
         patrols: std::num::wrapping_add_u32(tally.patrols, at_patrol(chunk, patrol)),
-        end: chunk.0,
     }
 }
 
@@ -81,16 +84,17 @@ pub fn tallied(tally: Tally, kind: Kind, size: u32, chunk: Chunk, patrol: Chunk)
     ensures { λ r. ⌜ r ≡ addedM (patrol .0) tally (shareOf kind size) (chunk .0) ⌝ }
 {
     match kind {
-        Kind::Start => added(tally, shares(0, 0, 0, 0, 0), chunk, patrol),
-        Kind::InUse => added(tally, shares(0, 0, 0, size, 0), chunk, patrol),
-        Kind::Ordinary => added(tally, shares(1, 0, 0, 0, size), chunk, patrol),
-        Kind::Donor => added(tally, shares(0, 1, 0, 0, size), chunk, patrol),
-        Kind::Top => added(tally, shares(0, 0, 1, 0, size), chunk, patrol),
-        Kind::End => added(tally, shares(0, 0, 0, 0, 0), chunk, patrol),
+        Kind::Start => added(tally, shares(0, 0, 0, 0), chunk, patrol),
+        Kind::InUse => added(tally, shares(0, 0, 0, 0), chunk, patrol),
+        Kind::Ordinary => added(tally, shares(1, 0, 0, size), chunk, patrol),
+        Kind::Donor => added(tally, shares(0, 1, 0, size), chunk, patrol),
+        Kind::Top => added(tally, shares(0, 0, 1, size), chunk, patrol),
+        Kind::End => added(tally, shares(0, 0, 0, 0), chunk, patrol),
     }
 }
 
 pub fn mark(marks: &mut [u32], kind: Kind, chunk: Chunk)
+    requires { ⌜ chunk .0 / 256 < length (now marks) ⌝ }
     ensures { λ _. ⌜ now (marks .exit) ≡ markM (now (marks .entry)) kind (chunk .0) ⌝ }
 {
     if is_ordinary(kind) {
@@ -98,44 +102,65 @@ pub fn mark(marks: &mut [u32], kind: Kind, chunk: Chunk)
     }
 }
 
-pub fn walk(region: &[u32], summary: Summary, marks: &mut [u32]) -> Survey
-    ensures { λ r. ⌜ SurveyIs (now (region .entry)) summary (now (marks .entry)) (now (marks .exit)) r ⌝ }
+// The start chunk by its two words: 8 bytes, in use, and no chunk before it.
+fn is_first(next: u32, link: u32) -> bool
+    ensures { λ r. ⌜ r ≡ isFirstM next link ⌝ }
 {
-    let mut tally = Tally {
+    if next != END_SIZE {
+        return false;
+    }
+    link == IN_USE
+}
+
+// The counts when the start chunk has been passed.
+fn begun(patrol: Chunk) -> Tally
+    ensures { λ r. ⌜ r ≡ addedM (patrol .0) nothing (shareOf Start 8) 0 ⌝ }
+{
+    let none = Tally {
         chunks: 0,
         ordinary: 0,
         donors: 0,
         tops: 0,
-        used: 0,
         free: 0,
         patrols: 0,
-        end: 0,
     };
+    tallied(none, Kind::Start, END_SIZE, Chunk(0), patrol)
+}
+
+pub fn walk(region: &[u32], summary: Summary, marks: &mut [u32]) -> Survey
+    requires { ⌜ Lent (now region) (summary .bytes) ⌝ }
+    requires { ⌜ length (now marks) ≡ 256 ⌝ }
+    ensures { λ r. ⌜ SurveyIs (now (region .entry)) summary (now (marks .entry)) (now (marks .exit)) r ⌝ }
+{
+    if !is_first(region[FORWARD as usize], region[BACKWARD as usize]) {
+        return Survey::Broken;
+    }
+    let last = summary.bytes - END_SIZE;
+    let mut tally = begun(summary.patrol);
     let mut before = 0;
-    let mut at = 0;
+    let mut at = END_SIZE;
     loop {
         let chunk = Chunk(at);
-        let links = links_of(region, chunk);
-        let next = links.forward;
-        let link = links.backward;
-        let end = end_of(summary.bytes, chunk, next);
-        let size = end - at;
+        let i = (at / 4) as usize;
+        let next = region[i + FORWARD as usize];
         let visit = Visit {
             before: Chunk(before),
             chunk: chunk,
-            size: size,
-            link: link,
+            next: next,
+            link: region[i + BACKWARD as usize],
         };
+        if !goes_on(visit, last) {
+            if !is_last(visit, last) {
+                return Survey::Broken;
+            }
+            return Survey::Surveyed(tallied(tally, Kind::End, END_SIZE, chunk, summary.patrol));
+        }
         let seen = examine(region, visit, summary);
         let Seen::Sound(kind) = seen else {
             return Survey::Broken;
         };
         mark(marks, kind, chunk);
-        tally = tallied(tally, kind, size, chunk, summary.patrol);
-        if end == summary.bytes {
-            return Survey::Surveyed(tally);
-        }
-        // the chunk ends where its link leads, so that `end` is `next`; with `next` the processor need not wait for the tests that made `end`
+        tally = tallied(tally, kind, next - at, chunk, summary.patrol);
         before = at;
         at = next;
     }

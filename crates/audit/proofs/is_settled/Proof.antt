@@ -1,24 +1,20 @@
--- `audit::is_settled` tests the end, the top, the patrol's place and the donor in turn. Assumes nothing.
+-- `audit::is_settled` tests the top, the patrol's place and the donor in turn. Assumes nothing.
 use native.Mathlib.Omega.{arith}
-use borrow.Author.Needs.{needs}
-use Rattle.audit.proofs.AuditLaws.{no-end, no-top, no-patrol, no-donor, by-donors}
+use Rattle.audit.proofs.AuditLaws.{no-top, no-patrol, no-donor, by-donors}
 use Rattle.audit.proofs.is_settled.Statement.{statement}
 use Rattle.audit.proofs.is_settled.Tie as tie
 
 returns : tie.Need-returns
-returns c = no-end _ _ (c .if1 .taken)
+returns c = no-top _ _ (omega arith)
 
 returns-2 : tie.Need-returns-2
-returns-2 c = no-top _ _ (omega arith) (omega arith)
+returns-2 c = no-patrol _ _ (omega arith) (omega arith)
 
 returns-3 : tie.Need-returns-3
-returns-3 c = no-patrol _ _ (omega arith) (omega arith) (omega arith)
+returns-3 c = no-donor _ _ (omega arith) (omega arith) (omega arith)
 
 returns-4 : tie.Need-returns-4
-returns-4 c = no-donor _ _ (omega arith) (omega arith) (omega arith) (omega arith)
-
-returns-5 : tie.Need-returns-5
-returns-5 c = by-donors _ _ (omega arith) (omega arith) (omega arith) (omega arith)
+returns-4 c = by-donors _ _ (omega arith) (omega arith) (omega arith)
 
 pub is-settled-spec : {M : Type 1} → statement M
-is-settled-spec = tie.close (tie.spec (λ c. search needs) (λ c. search needs) (λ c. search needs) (λ c. search needs) returns returns-2 returns-3 returns-4 returns-5)
+is-settled-spec = tie.close (tie.spec returns returns-2 returns-3 returns-4)

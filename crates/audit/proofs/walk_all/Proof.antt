@@ -18,7 +18,7 @@ module _ (swept : tie.After-sweep-bins) where
   same-used = swept .before .before
 
   abbrev settled : tie.Else1
-  settled = same-used .before .before .before
+  settled = same-used .before .before
 
   abbrev tested : tie.After-is-settled
   tested = settled .before
@@ -34,7 +34,7 @@ returns-6 c =
     (record {
       survey = surveyed (chain-walked test .walk .ensures) (tallied test .survey .given .1);
       settled = held (test .is-settled .ensures) (settled sweep .if1 .left);
-      used = same-used sweep .if2 .left;
+      used = held (same-used sweep .before .is-shared .ensures) (same-used sweep .if2 .left);
     })
     _ (sweep .sweep-bins .ensures) (clean .sweep .given .1) (c .if3 .left))
 
@@ -50,11 +50,12 @@ returns-2 c =
 
 returns-3 : tie.Need-returns-3
 returns-3 c =
-    let settled = c .before .before .before in
+    let shared = c .before in
+    let settled = shared .before in
     let test = settled .before in
     walked
     (other-used (surveyed (chain-walked test .walk .ensures) (tallied test .survey .given .1))
-    (held (test .is-settled .ensures) (settled .if1 .left)) (c .if2 .taken))
+    (held (test .is-settled .ensures) (settled .if1 .left)) (failed (shared .is-shared .ensures) (c .if2 .taken)))
 
 returns-4 : tie.Need-returns-4
 returns-4 c =
@@ -65,7 +66,7 @@ returns-4 c =
     (record {
       survey = surveyed (chain-walked test .walk .ensures) (tallied test .survey .given .1);
       settled = held (test .is-settled .ensures) (settled sweep .if1 .left);
-      used = same-used sweep .if2 .left;
+      used = held (same-used sweep .before .is-shared .ensures) (same-used sweep .if2 .left);
     })
     _ (sweep .sweep-bins .ensures) (c .enum-told2 .given .1))
 
@@ -79,7 +80,7 @@ returns-5 c =
     (record {
       survey = surveyed (chain-walked test .walk .ensures) (tallied test .survey .given .1);
       settled = held (test .is-settled .ensures) (settled sweep .if1 .left);
-      used = same-used sweep .if2 .left;
+      used = held (same-used sweep .before .is-shared .ensures) (same-used sweep .if2 .left);
     })
     _ (sweep .sweep-bins .ensures) (clean .sweep .given .1) (c .if3 .taken))
 
@@ -94,6 +95,7 @@ walk-all-spec =
     returns
     (λ c κs. search needs)
     returns-2
+    (λ c κs. search needs)
     returns-3
     (λ c. search needs)
     (λ c κs. search needs)

@@ -6,24 +6,21 @@ use Rattle.survey.proofs.added.Tie as tie
 returns : tie.Need-returns
 returns c =
     let free = c .before .before in
-    let tops = free .before .before in
-    let ordinary = tops .before .before in
+    let donors = free .before .before in
     rw (
-      c .wrapping-add-u327 .ensures,
+      c .wrapping-add-u326 .ensures,
       c .before .at-patrol .ensures,
-      free .wrapping-add-u326 .ensures,
-      free .before .wrapping-add-u325 .ensures,
-      tops .wrapping-add-u324 .ensures,
-      tops .before .wrapping-add-u323 .ensures,
-      ordinary .wrapping-add-u322 .ensures,
-      ordinary .before .wrapping-add-u32 .ensures,
+      free .wrapping-add-u325 .ensures,
+      free .before .wrapping-add-u324 .ensures,
+      donors .wrapping-add-u323 .ensures,
+      donors .before .wrapping-add-u322 .ensures,
+      donors .before .before .wrapping-add-u32 .ensures,
     )
 
 pub added-spec : {M : Type 1} → statement M
 added-spec =
     tie.close
     (tie.spec
-    (λ c κs. search needs)
     (λ c κs. search needs)
     (λ c κs. search needs)
     (λ c κs. search needs)

@@ -8,11 +8,11 @@ use Rattle.survey.proofs.chunks.is_top.Tie as tie
 
 returns : tie.Need-returns
 unfolding isTopM
-returns c = stops-at _ (c .before .is-reserved .ensures) (c .if1 .taken)
+returns c = stops-at _ (c .before .is-unbinned .ensures) (c .if1 .taken)
 
 returns-2 : tie.Need-returns-2
 unfolding isTopM
-returns-2 c = goes-on (c .before .before .before .is-reserved .ensures) (c .before .before .if1 .left) refl
+returns-2 c = goes-on (c .before .before .is-unbinned .ensures) (c .before .if1 .left) refl
 
 pub is-top-spec : {M : Type 1} → statement M
 is-top-spec =
@@ -20,8 +20,6 @@ is-top-spec =
     (tie.spec
     (λ c κs. search needs)
     returns
-    (λ c. search needs)
-    (λ c. search needs)
     (λ c. search needs)
     (λ c. search needs)
     (λ c. search needs)
