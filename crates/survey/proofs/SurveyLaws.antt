@@ -1,30 +1,29 @@
 -- The walk of the chain, step by step: what is left to do and what is done always come to the whole. Assumes nothing.
-use mathlib.Core.Path.{_≡_, refl, _∙_, ap}
-use mathlib.Core.Bool.{Bool, true, false, cond}
+use mathlib.Core.Path.{_≡_, refl, sym, _∙_, ap}
+use mathlib.Core.Bool.{true, false, false≢true}
 use mathlib.Core.List.{List, [], _∷_}
 use Prim.Native.Nat.{ℕ, suc, _+_, _-_, _%_, _^_, _≤_, _<_, max}
 use native.Mathlib.Decide.{ℕ-discrete}
 use native.Mathlib.Nat.{zero-add, add-zero, add-assoc}
 use native.Mathlib.Omega.{arith}
-use lib.Dec.{eqb}
 use lib.ListN.{length}
 use Rattle.lists.specs.Lists.{lastOr, total}
-use borrow.Author.Tests.{eq-eqb}
-use Rattle.lists.proofs.ListsLaws.{number-is, itself, both, not-so}
+use Rattle.lists.proofs.ListsLaws.{Decides, number-is, itself, both, not-so}
 use Rattle.lists.proofs.TotalLaws.{total-le, total-one}
 use Rattle.chain.specs.Chain.{kindM}
 use Rattle.chain.proofs.EndLaws.{endAt, hereAt, chain-here, chain-next}
 use Rattle.record.specs.declared.heap.Summary.{Summary}
 use Rattle.record.specs.declared.kinds.Kind.{Kind}
 use Rattle.record.specs.declared.kinds.Kind.the-variants.{Start, InUse, Ordinary, Donor, Top, End}
+use Rattle.rules.specs.Check.{isChunk}
 use Rattle.rules.specs.Kinds.{outside}
-use Rattle.rules.specs.Shape.{Entry}
+use Rattle.rules.specs.Shape.{Entry, shape}
 use Rattle.rules.proofs.ShapeLaws.{chainFrom, shape-is, chain-by}
 use Rattle.survey.specs.declared.Share.{Share}
 use Rattle.survey.specs.declared.Survey.the-variants.{Surveyed}
 use Rattle.survey.specs.declared.Tally.{Tally}
 use Rattle.survey.specs.Chunks.{soundAt}
-use Rattle.survey.specs.Survey.{shareOf, atPatrolM, nothing, addedM, markM, shareAt, allSound, wholeChain, markAll, tallyOf, SurveyIs}
+use Rattle.survey.specs.Survey.{shareOf, nothing, addedM, markM, shareAt, allSound, wholeChain, markAll, tallyOf, SurveyIs}
 
 -- no share is larger than the chunk, and none counts more than one
 share-small : (k : Kind) (s : ℕ)
@@ -35,14 +34,6 @@ share-small Ordinary s = omega arith
 share-small Donor s = omega arith
 share-small Top s = omega arith
 share-small End s = omega arith
-
--- the patrol's place counts a chunk no more than once
-at-most-one : (patrol c : ℕ) → atPatrolM patrol c ≤ 1
-at-most-one patrol c = go (eqb c patrol)
-  where
-    go : (t : Bool) → cond t 1 0 ≤ 1
-    go true = omega arith
-    go false = omega arith
 
 module _ (ws : List ℕ) (bytes : ℕ) where
   -- the sizes of the chain come to what is left of the heap, and there are no more chunks than that
@@ -72,10 +63,6 @@ module _ (ws : List ℕ) (s : Summary) where
   abbrev pub end : ℕ → ℕ
   end c = endAt ws (s .bytes) c
 
-  -- whether the patrol's place is here, as a count
-  abbrev here-too : Entry → ℕ
-  here-too e = atPatrolM (s .patrol .0) (e .place)
-
   -- what is counted already, and what is left
   abbrev counted : Tally → List Entry → Tally
   counted t es =
@@ -85,7 +72,6 @@ module _ (ws : List ℕ) (s : Summary) where
         donors = t .donors + total (λ e. shareAt s e .donors) es;
         tops = t .tops + total (λ e. shareAt s e .tops) es;
         free = t .free + total (λ e. shareAt s e .free) es;
-        patrols = t .patrols + total here-too es;
       }
 
   -- the counts with one chunk more, as numbers that do not wrap
@@ -97,7 +83,6 @@ module _ (ws : List ℕ) (s : Summary) where
         donors = t .donors + shareAt s e .donors;
         tops = t .tops + shareAt s e .tops;
         free = t .free + shareAt s e .free;
-        patrols = t .patrols + here-too e;
       }
 
   -- a chunk is moved from what is left to what is counted
@@ -110,7 +95,6 @@ module _ (ws : List ℕ) (s : Summary) where
         donors = add-assoc (t .donors) (shareAt s e .donors) (total (λ d. shareAt s d .donors) es) i;
         tops = add-assoc (t .tops) (shareAt s e .tops) (total (λ d. shareAt s d .tops) es) i;
         free = add-assoc (t .free) (shareAt s e .free) (total (λ d. shareAt s d .free) es) i;
-        patrols = add-assoc (t .patrols) (here-too e) (total here-too es) i;
       }
     where
       one : (a b : ℕ) → a + 1 + b ≡ a + suc b
@@ -143,7 +127,7 @@ module _ (ws : List ℕ) (s : Summary) where
         omega arith
 
     -- the chunk e, and what comes after it, are left at c
-    module _ (t : Tally) (c : ℕ) (e : Entry) (es : List Entry) (here : chain c ≡ e ∷ es) (place : e .place ≡ c)
+    module _ (t : Tally) (c : ℕ) (e : Entry) (es : List Entry) (here : chain c ≡ e ∷ es)
         (left : counted t (chain c) ≡ tallyOf s (chain 0)) where
       -- counting it wraps nothing
       summed : (g : Entry → ℕ) (n : ℕ) → n + total g (chain c) ≡ total g (chain 0)
@@ -166,29 +150,37 @@ module _ (ws : List ℕ) (s : Summary) where
       small d = share-small (kindM s d) (d .size)
 
       -- the counts with this chunk, as numbers that have not wrapped
-      unwrapped : addedM (s .patrol .0) t (shareAt s e) c ≡ plainly t e
+      unwrapped : addedM t (shareAt s e) ≡ plainly t e
       unwrapped =
           rw (
-            ← place,
             chunk-more,
             summed (λ d. share d .ordinary) (t .ordinary) (ap (λ (u : Tally). u .ordinary) left) (fit-count _ (λ d. small d .1)),
             summed (λ d. share d .donors) (t .donors) (ap (λ (u : Tally). u .donors) left) (fit-count _ (λ d. small d .2)),
             summed (λ d. share d .tops) (t .tops) (ap (λ (u : Tally). u .tops) left) (fit-count _ (λ d. small d .3)),
             summed (λ d. share d .free) (t .free) (ap (λ (u : Tally). u .free) left) (fit-size _ (λ d. small d .0)),
-            summed here-too (t .patrols) (ap (λ (u : Tally). u .patrols) left) (fit-count _ (λ d. at-most-one (s .patrol .0) (d .place))),
           )
 
-  -- the chain is not whole if a part of it is not sound, or if it does not end at the end chunk
+  -- what a whole chain is
+  pub whole-iff :
+      Decides (wholeChain ws s)
+      (((allSound ws s 0 (shape ws (s .bytes)) ≡ true) × (lastOr outside (shape ws (s .bytes)) .place + 8 ≡ s .bytes))
+      × (isChunk (shape ws (s .bytes)) (s .patrol .0) ≡ true))
+  unfolding wholeChain
+  whole-iff =
+      both (both (itself (allSound ws s 0 (shape ws (s .bytes)))) (number-is (lastOr outside (shape ws (s .bytes)) .place + 8) (s .bytes)))
+      (itself (isChunk (shape ws (s .bytes)) (s .patrol .0)))
+
+  -- it is not whole if no chunk is at the patrol's place
+  pub unseen-fails : isChunk (chain 0) (s .patrol .0) ≡ false → wholeChain ws s ≡ false
+  unseen-fails h = not-so whole-iff (λ (_, seen). false≢true (sym h ∙ (rw (shape-is ws (s .bytes)) at seen)))
+
+  -- if a part of it is not sound, or if it does not end at the end chunk
   module _ (ms₀ ms : List ℕ) (t : Tally) (p c : ℕ) (o : Onward ms₀ ms t p c) where
     pub unsound-fails : allSound ws s p (chain c) ≡ false → wholeChain ws s ≡ false
-    unfolding wholeChain
-    unsound-fails h = rw (shape-is ws (s .bytes), ← o .sound, h)
+    unsound-fails h = not-so whole-iff (λ ((sound, _), _). false≢true (sym h ∙ o .sound ∙ (rw (shape-is ws (s .bytes)) at sound)))
 
     pub short-fails : (lastOr outside (chain c) .place + 8 ≡ s .bytes → ⊥) → wholeChain ws s ≡ false
-    unfolding wholeChain
-    short-fails n =
-        rw (shape-is ws (s .bytes), ← o .last)
-        (not-so (both (itself (allSound ws s 0 (chain 0))) (number-is (lastOr outside (chain c) .place + 8) (s .bytes))) (λ (_, q). n q))
+    short-fails n = not-so whole-iff (λ ((_, end), _). n (ap (λ (e : Entry). e .place + 8) (o .last) ∙ (rw (shape-is ws (s .bytes)) at end)))
 
     pub breaks : soundAt ws s p (chunk c) ≡ false → wholeChain ws s ≡ false
     breaks h = unsound-fails (go (ℕ-discrete (end c) (s .bytes)))
@@ -199,20 +191,19 @@ module _ (ws : List ℕ) (s : Summary) where
 
     -- the ways on from a sound chunk: it is the last, and the end chunk; the walk goes on behind it
     module _ (fits : s .bytes < 2 ^ 32) (k : Kind) (kind : k ≡ kindM s (chunk c)) (h : soundAt ws s p (chunk c) ≡ true) where
-      pub ends : end c ≡ s .bytes → c + 8 ≡ s .bytes
-          → SurveyIs ws s ms₀ (markM ms k c) (Surveyed (addedM (s .patrol .0) t (shareOf k (end c - c)) c))
-      unfolding wholeChain
-      ends e last =
+      pub ends : end c ≡ s .bytes → c + 8 ≡ s .bytes → isChunk (chain 0) (s .patrol .0) ≡ true
+          → SurveyIs ws s ms₀ (markM ms k c) (Surveyed (addedM t (shareOf k (end c - c))))
+      ends e last seen =
           let here = chain-here ws (s .bytes) c e in
           let all = shape-is ws (s .bytes) in
           record {
-            whole = rw (all, ← o .sound, ← o .last, here, h) (eq-eqb (c + 8) (s .bytes) last);
-            tally = rw (all, kind) (unwrapped fits t c (chunk c) [] here refl (o .tally) ∙ all-counted t (chunk c) ∙ (rw here at (o .tally)));
+            whole = whole-iff .1 (rw all ((sym (o .sound) ∙ rw (here, h), ap (λ (e : Entry). e .place + 8) (sym (o .last)) ∙ rw here last), seen));
+            tally = rw (all, kind) (unwrapped fits t c (chunk c) [] here (o .tally) ∙ all-counted t (chunk c) ∙ (rw here at (o .tally)));
             marks = rw (all, kind) (rw here at (o .marks));
           }
 
       pub goes-on : (end c ≡ s .bytes → ⊥)
-          → Onward ms₀ (markM ms k c) (addedM (s .patrol .0) t (shareOf k (end c - c)) c) c (end c)
+          → Onward ms₀ (markM ms k c) (addedM t (shareOf k (end c - c))) c (end c)
       goes-on n =
           let (up, inside, further) = chain-next ws (s .bytes) c n in
           rw kind
@@ -221,7 +212,7 @@ module _ (ws : List ℕ) (s : Summary) where
             sound = rw (further, h) at (o .sound);
             marks = rw further at (o .marks);
             tally =
-                ap (λ (u : Tally). counted u (chain (end c))) (unwrapped fits t c _ _ further refl (o .tally))
+                ap (λ (u : Tally). counted u (chain (end c))) (unwrapped fits t c _ _ further (o .tally))
                 ∙ recounted t (chunk c) (chain (end c))
                 ∙ (rw further at (o .tally));
             last = chain-last ws (s .bytes) outside (chunk c) (end c) ∙ (rw further at (o .last));
@@ -233,5 +224,5 @@ pub survey-begins : {ws : List ℕ} {s : Summary} {ms : List ℕ}
 survey-begins = record { inside = omega arith; sound = refl; marks = refl; tally = simp zero-add; last = refl }
 
 -- a share is added, whatever it is called
-pub tallies : (patrol : ℕ) (t : Tally) (c : ℕ) {s s′ : Share} {t′ : Tally} → s ≡ s′ → t′ ≡ addedM patrol t s c → t′ ≡ addedM patrol t s′ c
-tallies patrol t c q e = e ∙ ap (λ (x : Share). addedM patrol t x c) q
+pub tallies : (t : Tally) {s s′ : Share} {t′ : Tally} → s ≡ s′ → t′ ≡ addedM t s → t′ ≡ addedM t s′
+tallies t q e = e ∙ ap (λ (x : Share). addedM t x) q

@@ -2,7 +2,8 @@
 -- That fewer tests suffice than the definitions make is shown here. Assumes nothing.
 use mathlib.Core.Path.{_≡_, refl, sym, _∙_, ap}
 use mathlib.Core.Bool.{Bool, true, false, cond, _&&_, false≢true}
-use mathlib.Core.List.{List, [], _∷_}
+use mathlib.Core.List.{List, []}
+use mathlib.Core.Logic.{_⊎_, inl, inr}
 use Prim.Native.Nat.{ℕ, _+_, _-_, _%_, _/_, _^_, _≤_, _<_}
 use native.Mathlib.Decide.{ℕ-discrete, decLt}
 use native.Mathlib.Omega.{arith}
@@ -17,17 +18,20 @@ use Rattle.record.specs.declared.heap.Summary.{Summary}
 use Rattle.record.specs.declared.kinds.Kind.{Kind}
 use Rattle.record.specs.declared.kinds.Kind.the-variants.{Start, InUse, Ordinary, Donor, Top, End}
 use Rattle.region.specs.Words.{word, forward, backward}
+use Rattle.rules.specs.Check.{isChunk}
 use Rattle.rules.specs.Kinds.{outside}
 use Rattle.rules.specs.Shape.{Entry}
+use Rattle.rules.proofs.ShapeLaws.{upEntry, chain-by, shape-is}
 use Rattle.rules.proofs.KindsLaws.{Being, being, kind-start, kind-end}
 use Rattle.survey.specs.declared.chunks.Seen.{Seen}
 use Rattle.survey.specs.declared.chunks.Seen.the-variants.{Sound, Unsound}
-use Rattle.survey.specs.declared.Survey.the-variants.{Surveyed}
+use Rattle.survey.specs.declared.Survey.{Survey}
+use Rattle.survey.specs.declared.Survey.the-variants.{Surveyed, Broken}
 use Rattle.survey.specs.declared.Tally.{Tally}
-use Rattle.survey.specs.Chunks.{Placed, Between, visited, isFirstM, goesOnM, isLastM, isBackedM, isSizedM, isStartM, isEndM, isSoundM, soundAt, examineM}
-use Rattle.survey.specs.Survey.{nothing, shareOf, addedM, markM, allSound, wholeChain, SurveyIs}
-use Rattle.survey.proofs.ChunkLaws.{backed-iff, backed}
-use Rattle.survey.proofs.SurveyLaws.{chain, chunk, end, Onward, survey-begins, unsound-fails, short-fails, breaks, ends, goes-on}
+use Rattle.survey.specs.Chunks.{Placed, Between, visited, visitedIn, isFirstM, goesOnM, isLastM, isBackedM, isSizedM, isStartM, isEndM, isSoundM, soundAt, examineM}
+use Rattle.survey.specs.Survey.{nothing, shareOf, addedM, firstLimitM, finishM, markM, allSound, wholeChain, SurveyIs}
+use Rattle.survey.proofs.ChunkLaws.{backed-iff}
+use Rattle.survey.proofs.SurveyLaws.{chain, chunk, end, Onward, survey-begins, whole-iff, unseen-fails, unsound-fails, short-fails, breaks, ends, goes-on}
 
 -- a chunk off the eights is not sound
 off-eights : (ws : List ℕ) (s : Summary) (p : ℕ) (e : Entry) → (e .place % 8 ≡ 0 → ⊥) → soundAt ws s p e ≡ false
@@ -55,13 +59,62 @@ module _ (ws : List ℕ) (s : Summary) (e : Entry) (small : e .size < 24) where
       go false = refl
 
 module _ (ws : List ℕ) (s : Summary) where
+  -- whether a chunk from c on is at the patrol's place
+  abbrev seenFrom : ℕ → Bool
+  seenFrom c = isChunk (chain ws s c) (s .patrol .0)
+
+  -- how far the walk may go: to the end, and the patrol's place was met; or to the patrol's place, which is still to come
+  abbrev pub Sought : ℕ → ℕ → Type 0
+  Sought c limit = ((limit + 8 ≡ s .bytes) × (seenFrom 0 ≡ true)) ⊎ ((limit ≡ s .patrol .0) × (seenFrom c ≡ seenFrom 0))
+
   -- where the walk stands at c, behind the start and a chunk at p
-  pub record Walking (ms₀ ms : List ℕ) (t : Tally) (p c : ℕ) : Type 0 where
+  pub record Walking (ms₀ ms : List ℕ) (t : Tally) (p c limit : ℕ) : Type 0 where
     pub onward : Onward ws s ms₀ ms t p c
     pub eight : c % 8 ≡ 0
     pub eightBefore : p % 8 ≡ 0
     pub behind : p < c
     pub room : c + 8 ≤ s .bytes
+    pub below : limit + 8 ≤ s .bytes
+    pub sought : Sought c limit
+
+  -- the chunk at c is at the patrol's place, or a later one is
+  seen-here : (c : ℕ) → c ≡ s .patrol .0 → seenFrom c ≡ true
+  seen-here c e = go (ℕ-discrete (end ws s c) (s .bytes))
+    where
+      go : Dec (end ws s c ≡ s .bytes) → seenFrom c ≡ true
+      go (yes last) = rw (chain-here ws (s .bytes) c last, eq-eqb c (s .patrol .0) e)
+      go (no m) = let (up, inside, further) = chain-next ws (s .bytes) c m in rw (further, eq-eqb c (s .patrol .0) e)
+
+  module _ (c : ℕ) (other : c ≡ s .patrol .0 → ⊥) where
+    seen-later : (end ws s c ≡ s .bytes → ⊥) → seenFrom c ≡ seenFrom (end ws s c)
+    seen-later m = let (up, inside, further) = chain-next ws (s .bytes) c m in rw (further, ne-eqb c (s .patrol .0) other)
+
+    seen-no-more : end ws s c ≡ s .bytes → seenFrom c ≡ false
+    seen-no-more last = rw (chain-here ws (s .bytes) c last, ne-eqb c (s .patrol .0) other)
+
+  -- no chunk lies below the one from which a chain is read, and none above its last
+  none-below : (q c : ℕ) → q < c → isChunk (chain ws s c) q ≡ false
+  none-below q =
+      chain-by ws (s .bytes) (λ c es. q < c → isChunk es q ≡ false)
+      (λ c n l. rw (ne-eqb c q (λ e. omega arith)))
+      (λ c es (up, inside) rest l. rw (ne-eqb c q (λ e. omega arith)) (rest (omega arith)))
+
+  none-above : (q c : ℕ) (d : Entry) → lastOr d (chain ws s c) .place < q → (c < q) × (isChunk (chain ws s c) q ≡ false)
+  none-above q =
+      chain-by ws (s .bytes) (λ c es. (d : Entry) → lastOr d es .place < q → (c < q) × (isChunk es q ≡ false))
+      (λ c n d l. (l, rw (ne-eqb c q (λ e. omega arith))))
+      (λ c es (up, inside) rest d l.
+      let (below, none) = rest (upEntry ws (s .bytes) c) l in
+      (omega arith, rw (ne-eqb c q (λ e. omega arith)) none))
+
+  -- so a patrol's place above the end chunk is no chunk's
+  pub walk-far : s .bytes < s .patrol .0 + 8 → wholeChain ws s ≡ false
+  walk-far far =
+      not-so (whole-iff ws s)
+      (λ ((_, end), seen).
+      let last : lastOr outside (chain ws s 0) .place + 8 ≡ s .bytes = rw (shape-is ws (s .bytes)) at end in
+      let (_, none) = none-above (s .patrol .0) 0 outside (omega arith) in
+      false≢true (sym none ∙ (rw (shape-is ws (s .bytes)) at seen)))
 
 module _ (ws : List ℕ) (s : Summary) (lent : Lent ws (s .bytes)) where
   -- the start chunk is sound exactly if its two words are right
@@ -91,24 +144,41 @@ module _ (ws : List ℕ) (s : Summary) (lent : Lent ws (s .bytes)) where
   pub walk-no-start : isFirstM (word ws 0 forward) (word ws 0 backward) ≡ false → wholeChain ws s ≡ false
   walk-no-start h = breaks ws s [] [] nothing 0 0 survey-begins (sym first-same ∙ h)
 
-  pub walking-begins : {ms : List ℕ} {t : Tally} → isFirstM (word ws 0 forward) (word ws 0 backward) ≡ true
-      → t ≡ addedM (s .patrol .0) nothing (shareOf Start 8) 0 → Walking ws s ms ms t 0 8
+  pub walking-begins : {ms : List ℕ} {t : Tally} {limit last : ℕ} → isFirstM (word ws 0 forward) (word ws 0 backward) ≡ true
+      → s .patrol .0 ≤ last → last ≡ s .bytes - 8 → limit ≡ firstLimitM (s .patrol .0) last → t ≡ addedM nothing (shareOf Start 8)
+      → Walking ws s ms ms t 0 8 limit
   unfolding markM
-  walking-begins {ms} h et =
-      let sound = sym first-same ∙ h in
-      let (next, back) = first-iff .0 sound in
-      let up = end-up ws (s .bytes) 0 (omega arith, omega (arith, lent .enough)) ∙ next in
+  walking-begins {ms} {limit = limit} {last = last} h near la el et =
+      let enough = lent .enough in
       rw et
       (record {
         onward =
             rw up at
-            (goes-on ws s ms ms nothing 0 0 survey-begins bytes-fit Start (kind-start (s .bytes) (s .donor .0) (s .top .0) (chunk ws s 0) refl) sound
-            (λ q. omega (arith, lent .enough)));
+            (goes-on ws s ms ms nothing 0 0 survey-begins bytes-fit Start (kind-start (s .bytes) (s .donor .0) (s .top .0) (chunk ws s 0) refl) sound not-end);
         eight = refl;
         eightBefore = refl;
         behind = omega arith;
-        room = omega (arith, lent .enough);
+        room = omega arith;
+        below = start (ℕ-discrete (s .patrol .0) 0) .0;
+        sought = start (ℕ-discrete (s .patrol .0) 0) .1;
       })
+    where
+      sound : soundAt ws s 0 (chunk ws s 0) ≡ true
+      sound = sym first-same ∙ h
+
+      up : end ws s 0 ≡ 8
+      up = let (next, back) = first-iff .0 sound in end-up ws (s .bytes) 0 (omega arith, omega (arith, lent .enough)) ∙ next
+
+      not-end : end ws s 0 ≡ s .bytes → ⊥
+      not-end q = omega (arith, up, lent .enough)
+
+      start : Dec (s .patrol .0 ≡ 0) → (limit + 8 ≤ s .bytes) × Sought ws s 8 limit
+      start (yes z) =
+          let l : limit ≡ last = el ∙ rw (eq-eqb (s .patrol .0) 0 z) in
+          (omega (arith, lent .enough), inl (omega (arith, lent .enough), seen-here ws s 0 (sym z)))
+      start (no n) =
+          let l : limit ≡ s .patrol .0 = el ∙ rw (ne-eqb (s .patrol .0) 0 n) in
+          (omega (arith, lent .enough), inr (l, sym (seen-later ws s 0 (λ z. n (sym z)) not-end ∙ ap (seenFrom ws s) up)))
 
   -- what a look at the chunk at c finds
   module _ (p c : ℕ) where
@@ -129,59 +199,116 @@ module _ (ws : List ℕ) (s : Summary) (lent : Lent ws (s .bytes)) where
         by true r = ((cc), refl)
         by false r = let z : _≡_ {A = ℕ} 0 1 = cc in absurd (omega arith)
 
-  module _ {ms₀ ms : List ℕ} {t : Tally} {p c : ℕ} (o : Walking ws s ms₀ ms t p c) where
-    -- the chunk at c as the code reads it
-    module _ {n link : ℕ} (en : n ≡ word ws c forward) (el : link ≡ word ws c backward) {last : ℕ} (la : last ≡ s .bytes - 8) where
-      pub walk-placed : Placed (visited p c n link)
-      walk-placed =
-          record { eight = o .eight; eightBefore = o .eightBefore; behind = o .behind; within = omega (arith, o .room, lent .notTooMany) }
+  module _ {ms₀ ms : List ℕ} {t : Tally} {p c limit : ℕ} (o : Walking ws s ms₀ ms t p c limit) where
+    -- its two links
+    abbrev n : ℕ
+    n = word ws c forward
 
-      goes-iff : Decides (goesOnM (visited p c n link) last) (((c + 24 ≤ n) × (n ≤ last)) × (n % 8 ≡ 0))
-      unfolding goesOnM
-      goes-iff = both (both (at-most (c + 24) n) (at-most n last)) (number-is (n % 8) 0)
+    abbrev link : ℕ
+    link = word ws c backward
 
-      last-iff : Decides (isLastM (visited p c n link) last) (((c ≡ last) × (n ≡ 0)) × (link ≡ p + 1))
-      unfolding isLastM
-      last-iff = both (both (number-is c last) (number-is n 0)) (number-is link (p + 1))
+    pub walk-placed : Placed (visitedIn ws p c)
+    walk-placed =
+        record { eight = o .eight; eightBefore = o .eightBefore; behind = o .behind; within = omega (arith, o .room, lent .notTooMany) }
 
-      pub walk-between : goesOnM (visited p c n link) last ≡ true → Between ws s (visited p c n link)
-      walk-between h =
-          let ((room, below), eight) = goes-iff .0 h in
+    pub walk-inside : c / 4 + 1 < length ws
+    walk-inside = omega (arith, o .room, lent .words, o .eight)
+
+    goes-iff : (m : ℕ) → Decides (goesOnM (visitedIn ws p c) m) (((c + 24 ≤ n) × (n ≤ m)) × (n % 8 ≡ 0))
+    unfolding goesOnM
+    goes-iff m = both (both (at-most (c + 24) n) (at-most n m)) (number-is (n % 8) 0)
+
+    last-iff : (m : ℕ) → Decides (isLastM (visitedIn ws p c) m) (((c ≡ m) × (n ≡ 0)) × (link ≡ p + 1))
+    unfolding isLastM
+    last-iff m = both (both (number-is c m) (number-is n 0)) (number-is link (p + 1))
+
+    -- the chain goes on behind it
+    module _ (h : goesOnM (visitedIn ws p c) limit ≡ true) where
+      pub walk-between : Between ws s (visitedIn ws p c)
+      walk-between =
+          let ((room, below), eight) = goes-iff limit .0 h in
           record {
             placed = walk-placed;
-            header = omega (arith, lent .words, o .eight);
+            header = omega (arith, lent .words, o .eight, o .below);
             room = room;
-            below = omega (arith, o .room);
+            below = omega (arith, o .below);
           }
 
-      -- the end chunk is sound exactly if its two words are right
-      end-iff : c + 8 ≡ s .bytes → Decides (soundAt ws s p (chunk ws s c)) ((n ≡ 0) × (link ≡ p + 1))
-      unfolding soundAt isEndM
-      end-iff e =
-          rw (← kind-end (s .bytes) (s .donor .0) (s .top .0) (chunk ws s c) (λ z. omega (arith, o .behind)) e)
-          (meaning
-          (both (backed-iff (word ws c backward) p c) (both (number-is (word ws c backward % 8) 1) (number-is (word ws c forward) 0)))
-          (λ ((_, back), (flags, none)). (en ∙ none, omega arith))
-          (λ (none, back). (((o .eight, omega (arith, o .eightBefore)), omega (arith, o .eightBefore)), (omega (arith, o .eightBefore), sym en ∙ none))))
+      end-is : end ws s c ≡ n
+      end-is =
+          let ((room, below), eight) = goes-iff limit .0 h in
+          end-up ws (s .bytes) c (omega arith, omega (arith, o .below))
 
-      pub walk-ends : isLastM (visited p c n link) last ≡ true → {t′ : Tally} → t′ ≡ addedM (s .patrol .0) t (shareOf End 8) c
-          → SurveyIs ws s ms₀ ms (Surveyed t′)
+      not-end : end ws s c ≡ s .bytes → ⊥
+      not-end q = let ((room, below), eight) = goes-iff limit .0 h in omega (arith, end-is, o .below)
+
+      -- the patrol's place is not passed over
+      still-sought : Sought ws s c limit → Sought ws s n limit
+      still-sought (inl q) = inl q
+      still-sought (inr (l, left)) =
+          let ((room, below), eight) = goes-iff limit .0 h in
+          let later = seen-later ws s c (λ q. omega arith) not-end in
+          inr (l, ap (seenFrom ws s) (sym end-is) ∙ sym later ∙ left)
+
+      -- what was seen of the chunk is told of the chain's
+      module _ {seen : Seen} (es : seen ≡ examineM ws s (visitedIn ws p c)) where
+        told : seen ≡ examineM ws s (visited p c (end ws s c) link)
+        told = es ∙ rw end-is
+
+        pub walk-breaks : seen ≡ Unsound → wholeChain ws s ≡ false
+        walk-breaks u = breaks ws s ms₀ ms t p c (o .onward) (told-unsound p c (sym told ∙ u))
+
+        pub walk-goes : {k : Kind} → seen ≡ Sound k → {t′ : Tally} → t′ ≡ addedM t (shareOf k (n - c))
+            → {ms′ : List ℕ} → ms′ ≡ markM ms k c → Walking ws s ms₀ ms′ t′ c n limit
+        walk-goes {k} u et em =
+            let ((room, below), eight) = goes-iff limit .0 h in
+            let (kind, sound) = told-sound p c k (sym told ∙ u) in
+            rw (et, em)
+            (record {
+              onward = rw end-is at (goes-on ws s ms₀ ms t p c (o .onward) bytes-fit k kind sound not-end);
+              eight = eight;
+              eightBefore = o .eight;
+              behind = omega arith;
+              room = omega (arith, o .below);
+              below = o .below;
+              sought = still-sought (o .sought);
+            })
+
+    -- the end chunk is sound exactly if its two words are right
+    end-iff : c + 8 ≡ s .bytes → Decides (soundAt ws s p (chunk ws s c)) ((n ≡ 0) × (link ≡ p + 1))
+    unfolding soundAt isEndM
+    end-iff e =
+        rw (← kind-end (s .bytes) (s .donor .0) (s .top .0) (chunk ws s c) (λ z. omega (arith, o .behind)) e)
+        (meaning
+        (both (backed-iff link p c) (both (number-is (link % 8) 1) (number-is n 0)))
+        (λ ((_, back), (flags, none)). (none, omega arith))
+        (λ (none, back). (((o .eight, omega (arith, o .eightBefore)), omega (arith, o .eightBefore)), (omega (arith, o .eightBefore), none))))
+
+    module _ {last : ℕ} (la : last ≡ s .bytes - 8) where
+      here-last : c ≡ last → c + 8 ≡ s .bytes
+      here-last e = omega (arith, o .room)
+
+      -- at the end the patrol's place was met, or it is the end
+      sought-last : limit ≡ last → c ≡ last → Sought ws s c limit → seenFrom ws s 0 ≡ true
+      sought-last l e (inl (_, seen)) = seen
+      sought-last l e (inr (q, left)) = sym left ∙ seen-here ws s c (e ∙ sym l ∙ q)
+
+      walk-ends : limit ≡ last → isLastM (visitedIn ws p c) last ≡ true → SurveyIs ws s ms₀ ms (Surveyed (addedM t (shareOf End 8)))
       unfolding markM
-      walk-ends h et =
-          let ((here, none), back) = last-iff .0 h in
-          let last : c + 8 ≡ s .bytes = omega (arith, o .room) in
-          let stop = end-stop ws (s .bytes) c (λ u. omega (arith, en, u .0)) in
-          rw et
-          (ends ws s ms₀ ms t p c (o .onward) bytes-fit End
-          (kind-end (s .bytes) (s .donor .0) (s .top .0) (chunk ws s c) (λ z. omega (arith, o .behind)) last)
-          (end-iff last .1 (none, back)) stop last)
+      walk-ends l h =
+          let ((here, none), back) = last-iff last .0 h in
+          let e = here-last here in
+          let stop = end-stop ws (s .bytes) c (λ u. omega (arith, u .0)) in
+          ends ws s ms₀ ms t p c (o .onward) bytes-fit End
+          (kind-end (s .bytes) (s .donor .0) (s .top .0) (chunk ws s c) (λ z. omega (arith, o .behind)) e)
+          (end-iff e .1 (none, back)) stop e (sought-last l here (o .sought))
 
       -- where the chain neither goes on nor has come to its end, it is not whole: it stops too early, or what comes next is too near,
       -- too far up or off the eights
-      module _ (more : goesOnM (visited p c n link) last ≡ false) (done : isLastM (visited p c n link) last ≡ false) where
+      module _ (more : goesOnM (visitedIn ws p c) last ≡ false) (done : isLastM (visitedIn ws p c) last ≡ false) where
         not-last : c + 8 ≡ s .bytes → soundAt ws s p (chunk ws s c) ≡ false
         not-last e =
-            not-so (end-iff e) (λ (none, back). false≢true (sym done ∙ last-iff .1 ((omega arith, none), back)))
+            not-so (end-iff e) (λ (none, back). false≢true (sym done ∙ last-iff last .1 ((omega arith, none), back)))
 
         next-off : (end ws s c ≡ s .bytes → ⊥) → (end ws s c % 8 ≡ 0 → ⊥) → allSound ws s p (chain ws s c) ≡ false
         next-off m off =
@@ -195,56 +322,70 @@ module _ (ws : List ℕ) (s : Summary) (lent : Lent ws (s .bytes)) where
                 let (up, inside, further) = chain-next ws (s .bytes) (end ws s c) k in
                 rw (further, off-eights ws s c (chunk ws s (end ws s c)) off)
 
+        near : word ws c forward ≡ end ws s c → end ws s c < s .bytes → end ws s c % 8 ≡ 0 → end ws s c - c < 24
+        near up inside eight = go (decLt (end ws s c - c) 24)
+          where
+            go : Dec (end ws s c - c < 24) → end ws s c - c < 24
+            go (yes l) = l
+            go (no f) =
+                absurd (false≢true (sym more ∙ goes-iff last .1 ((omega (arith, o .room), omega (arith, lent .eights, o .room)), omega arith)))
+
         stuck : Dec (end ws s c ≡ s .bytes) → Dec (c + 8 ≡ s .bytes) → Dec (end ws s c % 8 ≡ 0) → wholeChain ws s ≡ false
         stuck (yes e) (yes here) _ = breaks ws s ms₀ ms t p c (o .onward) (not-last here)
-        stuck (yes e) (no n) _ = short-fails ws s ms₀ ms t p c (o .onward) (rw (chain-here ws (s .bytes) c e) n)
+        stuck (yes e) (no k) _ = short-fails ws s ms₀ ms t p c (o .onward) (rw (chain-here ws (s .bytes) c e) k)
         stuck (no m) _ (no off) = unsound-fails ws s ms₀ ms t p c (o .onward) (next-off m off)
         stuck (no m) _ (yes eight) =
             let (up, inside, further) = chain-next ws (s .bytes) c m in
-            let link = end-link ws (s .bytes) c m in
-            let near : end ws s c - c < 24 = decided-low link inside eight in
+            let small = near (end-link ws (s .bytes) c m) inside eight in
             breaks ws s ms₀ ms t p c (o .onward)
-            (too-small ws s (chunk ws s c) near p (omega (arith, o .behind)) (λ q. omega (arith, lent .eights, o .eight)))
-          where
-            decided-low : word ws c forward ≡ end ws s c → end ws s c < s .bytes → end ws s c % 8 ≡ 0 → end ws s c - c < 24
-            decided-low link inside eight = go (decLt (end ws s c - c) 24)
-              where
-                go : Dec (end ws s c - c < 24) → end ws s c - c < 24
-                go (yes l) = l
-                go (no f) =
-                    absurd
-                    (false≢true (sym more ∙ goes-iff .1 ((omega (arith, en, o .room), omega (arith, en, lent .eights, o .room)), omega (arith, en))))
+            (too-small ws s (chunk ws s c) small p (omega (arith, o .behind)) (λ q. omega (arith, lent .eights, o .eight)))
 
-        pub walk-stuck : wholeChain ws s ≡ false
+        walk-stuck : wholeChain ws s ≡ false
         walk-stuck = stuck (ℕ-discrete (end ws s c) (s .bytes)) (ℕ-discrete (c + 8) (s .bytes)) (ℕ-discrete (end ws s c % 8) 0)
 
-      -- the chain goes on behind it
-      module _ (h : goesOnM (visited p c n link) last ≡ true) where
-        end-is : end ws s c ≡ n
-        end-is =
-            let ((room, below), eight) = goes-iff .0 h in
-            end-up ws (s .bytes) c (omega (arith, en), omega (arith, en, o .room)) ∙ sym en
+      -- the walk has come to its limit
+      module _ (more : goesOnM (visitedIn ws p c) limit ≡ false) where
+        -- which is the end
+        pub walk-finish : limit ≡ last → {r : Survey} → r ≡ finishM (visitedIn ws p c) last t → SurveyIs ws s ms₀ ms r
+        unfolding finishM
+        walk-finish l er = rw er (go (isLastM (visitedIn ws p c) last) refl)
+          where
+            go : (u : Bool) → isLastM (visitedIn ws p c) last ≡ u
+                → SurveyIs ws s ms₀ ms (cond u (Surveyed (addedM t (shareOf End 8))) Broken)
+            go true e = walk-ends l e
+            go false e = walk-stuck (rw l at more) e
 
-        -- what was seen of the chunk is told of the chain's
-        module _ {seen : Seen} (es : seen ≡ examineM ws s (visited p c n link)) where
-          told : seen ≡ examineM ws s (visited p c (end ws s c) (word ws c backward))
-          told = es ∙ rw (end-is, el)
+        module _ (not-end-yet : limit ≡ last → ⊥) where
+          -- or the patrol's place, and a chunk is there: then the end is the limit
+          pub walk-turns : c ≡ limit → Walking ws s ms₀ ms t p c last
+          walk-turns e =
+              record {
+                onward = o .onward;
+                eight = o .eight;
+                eightBefore = o .eightBefore;
+                behind = o .behind;
+                room = o .room;
+                below = omega (arith, o .room);
+                sought = inl (omega (arith, o .room), seen (o .sought));
+              }
+            where
+              seen : Sought ws s c limit → seenFrom ws s 0 ≡ true
+              seen (inl (q, _)) = absurd (not-end-yet (omega arith))
+              seen (inr (q, left)) = sym left ∙ seen-here ws s c (e ∙ q)
 
-          pub walk-breaks : seen ≡ Unsound → wholeChain ws s ≡ false
-          walk-breaks u = breaks ws s ms₀ ms t p c (o .onward) (told-unsound p c (sym told ∙ u))
-
-          pub walk-goes : {k : Kind} → seen ≡ Sound k → {t′ : Tally} → t′ ≡ addedM (s .patrol .0) t (shareOf k (n - c)) c
-              → {ms′ : List ℕ} → ms′ ≡ markM ms k c → Walking ws s ms₀ ms′ t′ c n
-          walk-goes {k} u et em =
-              let ((room, below), eight) = goes-iff .0 h in
-              let (kind, sound) = told-sound p c k (sym told ∙ u) in
-              rw (et, em)
-              (record {
-                onward =
-                    rw end-is at
-                    (goes-on ws s ms₀ ms t p c (o .onward) bytes-fit k kind sound (λ q. omega (arith, end-is, o .room)));
-                eight = eight;
-                eightBefore = o .eight;
-                behind = omega arith;
-                room = omega (arith, o .room);
-              })
+          -- or no chunk is there
+          pub walk-misses : (c ≡ limit → ⊥) → wholeChain ws s ≡ false
+          walk-misses other = go (o .sought) (ℕ-discrete (end ws s c) (s .bytes)) (decLt limit (end ws s c))
+            where
+              go : Sought ws s c limit → Dec (end ws s c ≡ s .bytes) → Dec (limit < end ws s c) → wholeChain ws s ≡ false
+              go (inl (q, _)) _ _ = absurd (not-end-yet (omega arith))
+              go (inr (q, left)) (yes e) _ = unseen-fails ws s (sym left ∙ seen-no-more ws s c (λ z. other (z ∙ sym q)) e)
+              go (inr (q, left)) (no m) (yes past) =
+                  unseen-fails ws s
+                  (sym left ∙ seen-later ws s c (λ z. other (z ∙ sym q)) m ∙ none-below ws s (s .patrol .0) (end ws s c) (omega arith))
+              go (inr (q, left)) (no m) (no low) =
+                  let up = end-link ws (s .bytes) c m in
+                  let (above, inside, _) = chain-next ws (s .bytes) c m in
+                  walk-stuck
+                  (not-so (goes-iff last) (λ ((room, _), eight). false≢true (sym more ∙ goes-iff limit .1 ((room, omega arith), eight))))
+                  (not-so (last-iff last) (λ ((_, none), _). omega arith))

@@ -22,6 +22,10 @@ use Rattle.survey.specs.declared.chunks.Visit.{Visit}
 abbrev pub visited : ℕ → ℕ → ℕ → ℕ → Visit
 visited p c next link = record { before = at p; chunk = at c; next = next; link = link }
 
+-- the same with its two words as they stand
+abbrev pub visitedIn : List ℕ → ℕ → ℕ → Visit
+visitedIn ws p c = visited p c (word ws c forward) (word ws c backward)
+
 -- the same as an entry of the chain, which ends at its forward link
 abbrev pub entryOf : Visit → Entry
 entryOf v = entry (v .chunk .0) (v .next - v .chunk .0) (v .link % 8)

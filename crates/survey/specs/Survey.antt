@@ -12,13 +12,15 @@ use Rattle.chain.specs.Chain.{kindM}
 use Rattle.record.specs.declared.heap.Summary.{Summary}
 use Rattle.record.specs.declared.kinds.Kind.{Kind}
 use Rattle.record.specs.declared.kinds.Kind.the-variants.{Start, InUse, Ordinary, Donor, Top, End}
+use Rattle.rules.specs.Check.{isChunk}
 use Rattle.rules.specs.Kinds.{ordinaryKind, outside}
 use Rattle.rules.specs.Shape.{Entry, shape}
+use Rattle.survey.specs.declared.chunks.Visit.{Visit}
 use Rattle.survey.specs.declared.Share.{Share}
 use Rattle.survey.specs.declared.Survey.{Survey}
 use Rattle.survey.specs.declared.Survey.the-variants.{Surveyed, Broken}
 use Rattle.survey.specs.declared.Tally.{Tally}
-use Rattle.survey.specs.Chunks.{soundAt}
+use Rattle.survey.specs.Chunks.{isLastM, soundAt}
 
 abbrev pub sharesM : ℕ → ℕ → ℕ → ℕ → Share
 sharesM o d t f = record { ordinary = o; donors = d; tops = t; free = f }
@@ -34,27 +36,30 @@ shareOf End s = sharesM 0 0 0 0
 abbrev pub wrapped : ℕ → ℕ → ℕ
 wrapped a b = (a + b) % 2 ^ 32
 
--- one for a chunk at c that is the patrol's place
-abbrev pub atPatrolM : ℕ → ℕ → ℕ
-atPatrolM patrol c = cond (eqb c patrol) 1 0
-
 -- the counts before the first chunk
 abbrev pub nothing : Tally
-nothing = record { chunks = 0; ordinary = 0; donors = 0; tops = 0; free = 0; patrols = 0 }
+nothing = record { chunks = 0; ordinary = 0; donors = 0; tops = 0; free = 0 }
 
-abbrev pub addedM : ℕ → Tally → Share → ℕ → Tally
-addedM patrol t s c =
+abbrev pub addedM : Tally → Share → Tally
+addedM t s =
     record {
       chunks = wrapped (t .chunks) 1;
       ordinary = wrapped (t .ordinary) (s .ordinary);
       donors = wrapped (t .donors) (s .donors);
       tops = wrapped (t .tops) (s .tops);
       free = wrapped (t .free) (s .free);
-      patrols = wrapped (t .patrols) (atPatrolM patrol c);
     }
 
 unfoldable pub markM : List ℕ → Kind → ℕ → List ℕ
 markM ms k c = cond (ordinaryKind k) (flipped ms c) ms
+
+-- the limit of the walk before it has come to the patrol's place
+abbrev pub firstLimitM : ℕ → ℕ → ℕ
+firstLimitM patrol last = cond (eqb patrol 0) last patrol
+
+-- where the chain does not go on any more
+unfoldable pub finishM : Visit → ℕ → Tally → Survey
+finishM v last t = cond (isLastM v last) (Surveyed (addedM t (shareOf End 8))) Broken
 
 module _ (s : Summary) where
   abbrev pub shareAt : Entry → Share
@@ -72,7 +77,6 @@ module _ (s : Summary) where
         donors = total (λ e. shareAt e .donors) es;
         tops = total (λ e. shareAt e .tops) es;
         free = total (λ e. shareAt e .free) es;
-        patrols = total (λ e. atPatrolM (s .patrol .0) (e .place)) es;
       }
 
 module _ (ws : List ℕ) (s : Summary) where
@@ -81,9 +85,11 @@ module _ (ws : List ℕ) (s : Summary) where
   allSound p [] = true
   allSound p (e ∷ es) = soundAt ws s p e && allSound (e .place) es
 
-  -- every chunk is sound, and the last of them is the end chunk
+  -- every chunk is sound, the last of them is the end chunk, and one is at the patrol's place
   unfoldable pub wholeChain : Bool
-  wholeChain = allSound 0 (shape ws (s .bytes)) && eqb (lastOr outside (shape ws (s .bytes)) .place + 8) (s .bytes)
+  wholeChain =
+      allSound 0 (shape ws (s .bytes)) && eqb (lastOr outside (shape ws (s .bytes)) .place + 8) (s .bytes)
+      && isChunk (shape ws (s .bytes)) (s .patrol .0)
 
   -- the walk came through, with this tally; the marks are `before` and `after` it
   pub record SurveyedIs (before after : List ℕ) (t : Tally) : Type 0 where

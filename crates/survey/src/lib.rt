@@ -1,12 +1,12 @@
 // The walk of the chain: every chunk is examined, counted and, if it is ordinary, marked.
 // The lists of the bins are walked afterwards, in the crate `sweep`.
 ghost use mathlib.Core.Path.{_≡_};
-ghost use Prim.Native.Nat.{_/_, _<_};
+ghost use Prim.Native.Nat.{_+_, _/_, _<_};
 ghost use lib.ListN.{length};
 ghost use Rattle.chain.specs.Length.{Lent};
-ghost use Rattle.survey.specs.Chunks.{isFirstM};
+ghost use Rattle.survey.specs.Chunks.{Placed, isFirstM, visitedIn};
 ghost use Rattle.record.specs.declared.kinds.Kind.the-variants.{Start};
-ghost use Rattle.survey.specs.Survey.{SurveyIs, addedM, atPatrolM, markM, nothing, shareOf, sharesM};
+ghost use Rattle.survey.specs.Survey.{SurveyIs, addedM, finishM, firstLimitM, markM, nothing, shareOf, sharesM};
 use crate::chunks::Seen;
 use crate::chunks::Visit;
 use crate::chunks::examine;
@@ -32,14 +32,13 @@ pub struct Share {
     pub free: u32,
 }
 
-// The counts, with how many chunks are at the patrol's place. Used bytes are not added up: they are what free bytes, start and end leave.
+// The counts. Used bytes are not added up: they are what free bytes, start and end leave.
 pub struct Tally {
     pub chunks: u32,
     pub ordinary: u32,
     pub donors: u32,
     pub tops: u32,
     pub free: u32,
-    pub patrols: u32,
 }
 
 pub enum Survey {
@@ -58,16 +57,9 @@ fn shares(ordinary: u32, donors: u32, tops: u32, free: u32) -> Share
     }
 }
 
-// One for a chunk at the patrol's place.
-fn at_patrol(chunk: Chunk, patrol: Chunk) -> u32
-    ensures { λ r. ⌜ r ≡ atPatrolM (patrol .0) (chunk .0) ⌝ }
-{
-    if chunk.0 == patrol.0 { 1 } else { 0 }
-}
-
 // The sums never wrap: all sizes together are the heap bytes.
-pub fn added(tally: Tally, share: Share, chunk: Chunk, patrol: Chunk) -> Tally
-    ensures { λ r. ⌜ r ≡ addedM (patrol .0) tally share (chunk .0) ⌝ }
+pub fn added(tally: Tally, share: Share) -> Tally
+    ensures { λ r. ⌜ r ≡ addedM tally share ⌝ }
 {
     Tally {
         chunks: std::num::wrapping_add_u32(tally.chunks, 1),
@@ -75,21 +67,20 @@ pub fn added(tally: Tally, share: Share, chunk: Chunk, patrol: Chunk) -> Tally
         donors: std::num::wrapping_add_u32(tally.donors, share.donors),
         tops: std::num::wrapping_add_u32(tally.tops, share.tops),
         free: std::num::wrapping_add_u32(tally.free, share.free),
-        patrols: std::num::wrapping_add_u32(tally.patrols, at_patrol(chunk, patrol)),
     }
 }
 
 // Each arm adds a share that is a constant but for the size, so that a chunk costs only the counts that it changes.
-pub fn tallied(tally: Tally, kind: Kind, size: u32, chunk: Chunk, patrol: Chunk) -> Tally
-    ensures { λ r. ⌜ r ≡ addedM (patrol .0) tally (shareOf kind size) (chunk .0) ⌝ }
+pub fn tallied(tally: Tally, kind: Kind, size: u32) -> Tally
+    ensures { λ r. ⌜ r ≡ addedM tally (shareOf kind size) ⌝ }
 {
     match kind {
-        Kind::Start => added(tally, shares(0, 0, 0, 0), chunk, patrol),
-        Kind::InUse => added(tally, shares(0, 0, 0, 0), chunk, patrol),
-        Kind::Ordinary => added(tally, shares(1, 0, 0, size), chunk, patrol),
-        Kind::Donor => added(tally, shares(0, 1, 0, size), chunk, patrol),
-        Kind::Top => added(tally, shares(0, 0, 1, size), chunk, patrol),
-        Kind::End => added(tally, shares(0, 0, 0, 0), chunk, patrol),
+        Kind::Start => added(tally, shares(0, 0, 0, 0)),
+        Kind::InUse => added(tally, shares(0, 0, 0, 0)),
+        Kind::Ordinary => added(tally, shares(1, 0, 0, size)),
+        Kind::Donor => added(tally, shares(0, 1, 0, size)),
+        Kind::Top => added(tally, shares(0, 0, 1, size)),
+        Kind::End => added(tally, shares(0, 0, 0, 0)),
     }
 }
 
@@ -113,8 +104,8 @@ fn is_first(next: u32, link: u32) -> bool
 }
 
 // The counts when the start chunk has been passed.
-fn begun(patrol: Chunk) -> Tally
-    ensures { λ r. ⌜ r ≡ addedM (patrol .0) nothing (shareOf Start 8) 0 ⌝ }
+fn begun() -> Tally
+    ensures { λ r. ⌜ r ≡ addedM nothing (shareOf Start 8) ⌝ }
 {
     let none = Tally {
         chunks: 0,
@@ -122,46 +113,78 @@ fn begun(patrol: Chunk) -> Tally
         donors: 0,
         tops: 0,
         free: 0,
-        patrols: 0,
     };
-    tallied(none, Kind::Start, END_SIZE, Chunk(0), patrol)
+    tallied(none, Kind::Start, END_SIZE)
 }
 
+// The chunk at a place behind another, with its two links.
+fn meet(region: &[u32], before: u32, at: u32) -> Visit
+    requires { ⌜ at / 4 + 1 < length (now region) ⌝ }
+    ensures { λ r. ⌜ r ≡ visitedIn (now (region .entry)) before at ⌝ }
+{
+    let i = (at / 4) as usize;
+    Visit {
+        before: Chunk(before),
+        chunk: Chunk(at),
+        next: region[i + FORWARD as usize],
+        link: region[i + BACKWARD as usize],
+    }
+}
+
+// Where the chain does not go on any more it is at its end, or broken.
+fn finish(visit: Visit, last: u32, tally: Tally) -> Survey
+    requires { ⌜ Placed visit ⌝ }
+    ensures { λ r. ⌜ r ≡ finishM visit last tally ⌝ }
+{
+    if is_last(visit, last) {
+        return Survey::Surveyed(tallied(tally, Kind::End, END_SIZE));
+    }
+    Survey::Broken
+}
+
+// How far the walk may go at first: to the patrol's place, where it has to stop at a chunk. The start is behind it already.
+fn first_limit(patrol: Chunk, last: u32) -> u32
+    ensures { λ r. ⌜ r ≡ firstLimitM (patrol .0) last ⌝ }
+{
+    if patrol.0 == 0 { last } else { patrol.0 }
+}
+
+// The limit is the patrol's place and then the end chunk: so no chunk but the last below a limit is compared with either.
 pub fn walk(region: &[u32], summary: Summary, marks: &mut [u32]) -> Survey
     requires { ⌜ Lent (now region) (summary .bytes) ⌝ }
     requires { ⌜ length (now marks) ≡ 256 ⌝ }
     ensures { λ r. ⌜ SurveyIs (now (region .entry)) summary (now (marks .entry)) (now (marks .exit)) r ⌝ }
 {
+    let last = summary.bytes - END_SIZE;
     if !is_first(region[FORWARD as usize], region[BACKWARD as usize]) {
         return Survey::Broken;
     }
-    let last = summary.bytes - END_SIZE;
-    let mut tally = begun(summary.patrol);
+    if last < summary.patrol.0 {
+        return Survey::Broken;
+    }
+    let mut limit = first_limit(summary.patrol, last);
+    let mut tally = begun();
     let mut before = 0;
     let mut at = END_SIZE;
     loop {
-        let chunk = Chunk(at);
-        let i = (at / 4) as usize;
-        let next = region[i + FORWARD as usize];
-        let visit = Visit {
-            before: Chunk(before),
-            chunk: chunk,
-            next: next,
-            link: region[i + BACKWARD as usize],
-        };
-        if !goes_on(visit, last) {
-            if !is_last(visit, last) {
+        let visit = meet(region, before, at);
+        if goes_on(visit, limit) {
+            let seen = examine(region, visit, summary);
+            let Seen::Sound(kind) = seen else {
                 return Survey::Broken;
-            }
-            return Survey::Surveyed(tallied(tally, Kind::End, END_SIZE, chunk, summary.patrol));
+            };
+            mark(marks, kind, Chunk(at));
+            tally = tallied(tally, kind, visit.next - at);
+            before = at;
+            at = visit.next;
+            continue;
         }
-        let seen = examine(region, visit, summary);
-        let Seen::Sound(kind) = seen else {
+        if limit == last {
+            return finish(visit, last, tally);
+        }
+        if at != limit {
             return Survey::Broken;
-        };
-        mark(marks, kind, chunk);
-        tally = tallied(tally, kind, next - at, chunk, summary.patrol);
-        before = at;
-        at = next;
+        }
+        limit = last;
     }
 }

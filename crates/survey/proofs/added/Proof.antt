@@ -5,13 +5,10 @@ use Rattle.survey.proofs.added.Tie as tie
 
 returns : tie.Need-returns
 returns c =
-    let free = c .before .before in
-    let donors = free .before .before in
+    let donors = c .before .before in
     rw (
-      c .wrapping-add-u326 .ensures,
-      c .before .at-patrol .ensures,
-      free .wrapping-add-u325 .ensures,
-      free .before .wrapping-add-u324 .ensures,
+      c .wrapping-add-u325 .ensures,
+      c .before .wrapping-add-u324 .ensures,
       donors .wrapping-add-u323 .ensures,
       donors .before .wrapping-add-u322 .ensures,
       donors .before .before .wrapping-add-u32 .ensures,
@@ -21,8 +18,6 @@ pub added-spec : {M : Type 1} → statement M
 added-spec =
     tie.close
     (tie.spec
-    (λ c κs. search needs)
-    (λ c κs. search needs)
     (λ c κs. search needs)
     (λ c κs. search needs)
     (λ c κs. search needs)
