@@ -1,16 +1,16 @@
 -- Marks after one is turned over, and in a clear bitmap. Assumes nothing.
 -- What a flip does rests on one law of bits, `bit-flipped`.
-use mathlib.Core.Path.{_≡_, refl}
+use mathlib.Core.Path.{_≡_, refl, _∙_}
 use mathlib.Core.Bool.{Bool, true, false, not, cond}
 use mathlib.Core.List.{List}
-use Prim.Native.Nat.{ℕ, zero, suc, _+_, _-_, _/_, _%_, _^_, _<_}
+use Prim.Native.Nat.{ℕ, zero, suc, _+_, _-_, _/_, _%_, _^_, _*_, _<_, _≤_}
 use native.Mathlib.Decide.{ℕ-discrete, decLt}
-use native.Mathlib.Nat.{mod-lt, zero-div, div-self, div-eq-of-lt, pow-suc, mul-mod-left}
+use native.Mathlib.Nat.{mod-lt, zero-div, div-self, div-eq-of-lt, pow-suc, mul-mod-left, zero-mul, one-mul}
 use native.Mathlib.Omega.{arith}
-use lib.Bits.{bitXor, xor-shr, xor-mod}
+use lib.Bits.{bitAnd, bitXor, and-high, xor-shr, xor-mod}
 use lib.Dec.{eqb}
 use lib.ListN.{length, getD, length-set, set, replicate}
-use lib.Pow.{pow-pos, pow-lt, pow-add, shl-shr}
+use lib.Pow.{pow-pos, pow-lt, pow-add, shl-shr, shl-exact, high-ones}
 use lib.Seq.{getD-set-same, getD-set-other, set-out}
 use borrow.Author.Tests.{eq-eqb, ne-eqb}
 use Rattle.lists.proofs.ListsLaws.{zero-at}
@@ -42,6 +42,26 @@ bit-flipped w k j =
     go false zero h = refl
     go false (suc zero) h = refl
     go t (suc (suc x)) h = absurd (omega arith)
+
+-- w and 2 ^ k have a bit in common exactly if bit k of w is set
+bit-tested : (w k : ℕ) → not (eqb (bitAnd w (2 ^ k)) 0) ≡ bit w k
+bit-tested w k =
+    let alone : 2 ^ (1 + k) - 2 ^ k ≡ 2 ^ k = high-ones 1 k ∙ one-mul _ in
+    rw (rw alone at (and-high w 1 k)) (go (w / 2 ^ k % 2) (mod-lt _ (omega arith)))
+  where
+    go : (x : ℕ) → x < 2 → not (eqb (x * 2 ^ k) 0) ≡ eqb x 1
+    go zero h = rw zero-mul
+    go (suc zero) h = rw (one-mul, ne-eqb (2 ^ k) 0 (λ e. omega (arith, pow-pos k)))
+    go (suc (suc x)) h = absurd (omega arith)
+
+-- the code's bit of a mark: the shift loses nothing
+pub shifted : (n : ℕ) → 1 * 2 ^ (n % 32) % 2 ^ 32 ≡ 2 ^ (n % 32)
+shifted n = let l : 1 + n % 32 ≤ 32 = omega arith in shl-exact 1 (n % 32) 32 (omega arith) l ∙ one-mul _
+
+-- the code's test of a mark
+pub mark-tested : (ms : List ℕ) (c : ℕ) → not (eqb (bitAnd (getD ms (c / 256) 0) (2 ^ (c / 8 % 32))) 0) ≡ marked ms c
+unfolding marked
+mark-tested ms c = bit-tested (getD ms (c / 256) 0) (c / 8 % 32)
 
 pub length-flipped : (ms : List ℕ) (c : ℕ) → length (flipped ms c) ≡ length ms
 unfolding flipped

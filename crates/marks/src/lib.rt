@@ -3,6 +3,8 @@
 use region::ALIGNMENT;
 use region::Chunk;
 use region::LARGEST_HEAP;
+ghost use Prim.Native.Nat.{_/_, _<_};
+ghost use lib.ListN.{length};
 ghost use mathlib.Core.Path.{_≡_};
 ghost use Rattle.marks.specs.Marks.{marked, flipped};
 
@@ -14,24 +16,24 @@ const SPAN: u32 = ALIGNMENT * BITS;
 // A bitmap of this many words has a mark for every chunk of the largest heap.
 pub const MARK_WORDS: usize = (LARGEST_HEAP / SPAN) as usize;
 
-// Past the bitmap nothing is marked.
-pub fn is_marked(marks: &[u32], chunk: Chunk) -> bool
-    ensures { λ r. ⌜ r ≡ marked (now (marks .entry)) (chunk .0) ⌝ }
-{
-    let i = (chunk.0 / SPAN) as usize;
-    if i < marks.len() {
-        (marks[i] >> (chunk.0 / ALIGNMENT % BITS)) % 2 == 1
-    } else {
-        false
-    }
-}
-
-// Turns the mark over: sets it where it is clear, clears it where it is set. Past the bitmap nothing is written.
+// Turns the mark over: sets it where it is clear, clears it where it is set.
 pub fn flip(marks: &mut [u32], chunk: Chunk)
+    requires { ⌜ chunk .0 / 256 < length (now marks) ⌝ }
     ensures { λ _. ⌜ now (marks .exit) ≡ flipped (now (marks .entry)) (chunk .0) ⌝ }
 {
     let i = (chunk.0 / SPAN) as usize;
-    if i < marks.len() {
-        marks[i] ^= 1 << (chunk.0 / ALIGNMENT % BITS);
-    }
+    marks[i] ^= 1 << (chunk.0 / ALIGNMENT % BITS);
+}
+
+// Turns the mark over and says whether it was set. One read of the word serves both.
+pub fn unmark(marks: &mut [u32], chunk: Chunk) -> bool
+    requires { ⌜ chunk .0 / 256 < length (now marks) ⌝ }
+    ensures { λ r. ⌜ r ≡ marked (now (marks .entry)) (chunk .0) ⌝ }
+    ensures { λ _. ⌜ now (marks .exit) ≡ flipped (now (marks .entry)) (chunk .0) ⌝ }
+{
+    let i = (chunk.0 / SPAN) as usize;
+    let bit = 1 << (chunk.0 / ALIGNMENT % BITS);
+    let held = marks[i];
+    marks[i] = held ^ bit;
+    held & bit != 0
 }

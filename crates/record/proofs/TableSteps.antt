@@ -9,7 +9,7 @@ use borrow.Author.Tests.{eq-eqb, ne-eqb, lt-ltb, le-ltb, le-leb, lt-leb, ltb-tru
 use lib.Dec.{eqb, ltb}
 use lib.ListN.{length, getD, drop, drop-of-length-le}
 use lib.Seq.{drop-cons}
-use Rattle.record.specs.Table.{eightsFrom, smallBins, goesUp, validTable, takesBin}
+use Rattle.record.specs.Table.{eightsFrom, smallBins, goesUp, validTable}
 
 pub small-start : (t : List ℕ) → eightsFrom 32 (drop 1 t) ≡ smallBins t
 small-start [] = refl
@@ -75,25 +75,3 @@ above-one-more t i s above here j lo hi = go (ℕ-discrete j (i - 1))
     go : Dec (j ≡ i - 1) → s < getD t j 0
     go (yes e) = rw e here
     go (no n) = above j (omega arith) hi
-
--- which part of the test for a bin decides
-module _ (t : List ℕ) (i s : ℕ) where
-  pub takes-none : length t ≤ i → takesBin t i s ≡ false
-  unfolding takesBin
-  takes-none h = rw (le-ltb i (length t) h)
-
-  module _ (inside : i < length t) where
-    pub takes-low : s < getD t i 0 → takesBin t i s ≡ false
-    unfolding takesBin
-    takes-low h = rw (lt-ltb i (length t) inside, lt-leb (getD t i 0) s h)
-
-    module _ (enough : getD t i 0 ≤ s) where
-      pub takes-last : length t - i ≡ 1 → takesBin t i s ≡ true
-      unfolding takesBin
-      takes-last h =
-          rw (lt-ltb i (length t) inside, le-leb (getD t i 0) s enough, le-leb (length t) (suc i) (omega arith))
-
-      pub takes-next : (length t - i ≡ 1 → ⊥) → takesBin t i s ≡ ltb s (getD t (suc i) 0)
-      unfolding takesBin
-      takes-next h =
-          rw (lt-ltb i (length t) inside, le-leb (getD t i 0) s enough, lt-leb (length t) (suc i) (omega arith))

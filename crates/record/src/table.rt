@@ -1,7 +1,7 @@
 // The bin table, lent as a slice: whether it is valid, how many bins the small array has, and the bin of a size.
 // Which chunks are in a bin is not known here.
 ghost use mathlib.Core.Path.{_≡_};
-ghost use Rattle.record.specs.Table.{validTable, smallBins, small, takesBin, TakenBy};
+ghost use Rattle.record.specs.Table.{validTable, smallBins, small, TakenBy};
 use crate::heap::PLACES;
 use region::ALIGNMENT;
 use region::LEAST;
@@ -84,20 +84,4 @@ pub fn bin_of(table: &[u32], size: u32) -> Binned
         }
     }
     Binned::NoBin
-}
-
-// Whether this bin is the one for the size: a comparison with its own size and the next one's.
-pub fn takes(table: &[u32], bin: usize, size: u32) -> bool
-    ensures { λ r. ⌜ r ≡ takesBin (now (table .entry)) bin size ⌝ }
-{
-    if table.len() <= bin {
-        return false;
-    }
-    if size < table[bin] {
-        return false;
-    }
-    if table.len() - bin == 1 {
-        return true;
-    }
-    size < table[bin + 1]
 }

@@ -1,144 +1,188 @@
 -- The walk of the bins' lists, step by step: what is left and what is done always come to the whole. Assumes nothing.
 use mathlib.Core.Path.{_≡_, refl, sym, _∙_, ap, subst}
-use mathlib.Core.Bool.{Bool, true, false, not}
+use mathlib.Core.Bool.{Bool, true, false, not, cond, _&&_, _||_, and-assoc}
 use mathlib.Core.List.{List, [], _∷_}
-use Prim.Native.Nat.{ℕ, suc, _+_, _*_, _-_, _%_, _^_, _≤_, _<_}
-use native.Mathlib.Nat.{zero-add}
+use Prim.Native.Nat.{ℕ, zero, suc, _+_, _-_, _/_, _%_, _^_, _≤_, _<_}
+use native.Mathlib.Decide.{ℕ-discrete, decLt}
+use native.Mathlib.Nat.{zero-add, add-zero}
 use native.Mathlib.Numerals.{add-one}
 use native.Mathlib.Omega.{arith}
+use lib.Bits.{bitOr, or-add-and, and-le-l, and-le-r}
+use lib.Dec.{leb, ltb}
 use lib.ListN.{length, getD}
-use borrow.Author.Tests.{eq-eqb, ne-eqb, not-true, not-false}
+use borrow.Author.Tests.{eq-eqb, ne-eqb, lt-ltb, le-ltb, not-true, not-false}
 use Rattle.lists.specs.Lists.{lastOr, total, numbersFrom}
+use Rattle.lists.proofs.ListsLaws.{number-is, less, both}
 use Rattle.marks.specs.Marks.{marked, flipped}
-use Rattle.record.specs.Table.{takesBin}
-use Rattle.region.specs.Words.{word, size, nextInBin, previousInBin, bin}
+use Rattle.chain.specs.Length.{Lent}
+use Rattle.record.specs.Table.{sizeAt, takesBin}
+use Rattle.region.specs.Words.{word, size, nextInBin, bin}
 use Rattle.rules.specs.Shape.{membersFrom}
 use Rattle.rules.proofs.ShapeLaws.{read-none, read-spent, read-more}
+use Rattle.sweep.specs.declared.Sizes.{Sizes}
 use Rattle.sweep.specs.declared.Sweep.the-variants.{Clean, Dirty}
 use Rattle.sweep.specs.declared.Swept.{Swept}
 use Rattle.sweep.specs.declared.Swept.the-variants.{Whole, Torn}
-use Rattle.sweep.specs.Sweep.{flipAll, isListedM, combed, beyond, wholeList, WholeIs, SweptIs, listAt, allWhole, SweepIs}
+use Rattle.sweep.specs.Sweep.{flipAll, sizesM, saysListedM, isPlacedM, isListedM, combed, beyond, wholeList, WholeIs, SweptIs, NextListed, listAt, allWhole, SweepIs}
+
+-- the two comparisons of a size with what its bin asks are the test for the bin
+takes-sizes : (table : List ℕ) (i s : ℕ) → i < length table → s < 2 ^ 32
+    → takesBin table i s ≡ (leb (sizesM table i .least) s && ltb s (sizesM table i .above))
+unfolding takesBin
+takes-sizes table i s inside small = rw (lt-ltb i (length table) inside) (go (leb (length table) (suc i)))
+  where
+    go : (last : Bool)
+        → (leb (sizeAt table i) s && (last || ltb s (sizeAt table (suc i))))
+        ≡ (leb (sizeAt table i) s && ltb s (cond last (2 ^ 32) (sizeAt table (suc i))))
+    go true = rw (lt-ltb s (2 ^ 32) small)
+    go false = refl
 
 -- what the test of a member comes to. It is a record, so that the checker finds by itself what is tested
-pub record Tested (ws table : List ℕ) (i : ℕ) (ms : List ℕ) (p c : ℕ) (t : Bool) : Type 0 where
-  pub is : t ≡ isListedM ws table i ms p c
+pub record Tested (ws table : List ℕ) (i bytes : ℕ) (ms : List ℕ) (p c : ℕ) (t : Bool) : Type 0 where
+  pub is : t ≡ isListedM ws table i bytes ms p c
 
-pub tested : {ws table : List ℕ} {i : ℕ} {ms : List ℕ} {p c : ℕ} {t : Bool} → Tested ws table i ms p c t → t ≡ isListedM ws table i ms p c
-tested r = r .is
-
--- the five tests of a member, in the code's order
-module _ {ws table : List ℕ} {i : ℕ} {ms : List ℕ} {p c : ℕ} where
-  pub off-eights : (c % 8 ≡ 0 → ⊥) → Tested ws table i ms p c false
+-- the tests of a member, in the code's order: its place, its mark, its words
+module _ {ws table : List ℕ} {i bytes : ℕ} {ms : List ℕ} {p c : ℕ} {t : Bool} (et : t ≡ isPlacedM bytes c) where
+  pub not-placed : not t ≡ true → Tested ws table i bytes ms p c false
   unfolding isListedM
-  off-eights h = record { is = rw (ne-eqb (c % 8) 0 h) }
+  not-placed h = record { is = rw (sym et ∙ not-true t h) }
 
-  module _ (eight : c % 8 ≡ 0) {t : Bool} (et : t ≡ marked ms c) where
-    pub not-marked : not t ≡ true → Tested ws table i ms p c false
+  module _ (ht : not t ≡ false) {m : Bool} (em : m ≡ marked ms c) where
+    pub not-marked : not m ≡ true → Tested ws table i bytes ms p c false
     unfolding isListedM
-    not-marked h = record { is = rw (eq-eqb (c % 8) 0 eight, sym et ∙ not-true t h) }
+    not-marked h = record { is = rw (sym et ∙ not-false t ht, sym em ∙ not-true m h) }
 
-    module _ (ht : not t ≡ false) {w b : ℕ} (ew : w ≡ word ws c bin) (eb : b ≡ i % 32 * 8) where
-      pub other-bin : (w ≡ b → ⊥) → Tested ws table i ms p c false
-      unfolding isListedM
-      other-bin h =
-          record { is = rw (eq-eqb (c % 8) 0 eight, sym et ∙ not-false t ht, ← ew, ← eb, ne-eqb w b h) }
+    pub by-words : not m ≡ false → i < length table → {sizes : Sizes} → sizes ≡ sizesM table i
+        → {w : Bool} → (w ≡ saysListedM ws sizes p c) × (word ws c size < 2 ^ 32) → Tested ws table i bytes ms p c w
+    unfolding isListedM saysListedM
+    by-words hm inside es (ew, small) =
+        record {
+          is =
+              rw (
+                sym et ∙ not-false t ht,
+                sym em ∙ not-false m hm,
+                takes-sizes table i (word ws c size) inside small,
+                ← and-assoc,
+              )
+              (rw es at ew);
+        }
 
-      module _ (hb : w ≡ b) {v : ℕ} (ev : v ≡ word ws c previousInBin) where
-        pub other-before : (v ≡ p → ⊥) → Tested ws table i ms p c false
-        unfolding isListedM
-        other-before h =
-            record { is = rw (eq-eqb (c % 8) 0 eight, sym et ∙ not-false t ht, ← ew, ← eb, eq-eqb w b hb, ← ev, ne-eqb v p h) }
+-- the code's test of a limit below the end, which does not wrap
+pub below-end : (c bytes : ℕ) → 16 ≤ bytes → ltb c (bytes - 16) ≡ ltb (c + 16) bytes
+below-end c bytes h = go (decLt c (bytes - 16))
+  where
+    go : Dec (c < bytes - 16) → ltb c (bytes - 16) ≡ ltb (c + 16) bytes
+    go (yes l) = lt-ltb c (bytes - 16) l ∙ sym (lt-ltb (c + 16) bytes (omega arith))
+    go (no n) = le-ltb c (bytes - 16) (omega arith) ∙ sym (le-ltb (c + 16) bytes (omega arith))
 
-        pub by-size : v ≡ p → {z : ℕ} → z ≡ word ws c size → {u : Bool} → u ≡ takesBin table i z → Tested ws table i ms p c u
-        unfolding isListedM
-        by-size h ez eu =
-            record {
-              is =
-                  rw (
-                    eq-eqb (c % 8) 0 eight,
-                    sym et ∙ not-false t ht,
-                    ← ew,
-                    ← eb,
-                    eq-eqb w b hb,
-                    ← ev,
-                    eq-eqb v p h,
-                    ← ez,
-                  )
-                  eu;
-            }
+-- a chunk that passes the test of its place has its header among the words, and its mark in the bitmap
+module _ {ws : List ℕ} {bytes : ℕ} (lent : Lent ws bytes) (c : ℕ) {t : Bool} (et : t ≡ isPlacedM bytes c) (ht : not t ≡ false) where
+  placed : (c % 8 ≡ 0) × (c + 16 < bytes)
+  placed = both (number-is (c % 8) 0) (less (c + 16) bytes) .0 (sym et ∙ not-false t ht)
+
+  pub header-inside : c / 4 + bin < length ws
+  header-inside = let (eight, below) = placed in omega (arith, lent .words, lent .eights)
+
+  pub mark-inside : c / 256 < 256
+  mark-inside = let (eight, below) = placed in omega (arith, lent .notTooMany)
 
 -- where the walk of one list stands, at c behind p, with `left` steps left
-module _ (ws table : List ℕ) (i steps : ℕ) (ms₀ : List ℕ) (first : ℕ) where
-  pub record Combing (ms : List ℕ) (c p met left : ℕ) : Type 0 where
-    pub combs : combed ws table i ms p (membersFrom left ws c) ≡ combed ws table i ms₀ 0 (membersFrom steps ws first)
-    pub ends : beyond ws c (membersFrom left ws c) ≡ beyond ws first (membersFrom steps ws first)
-    pub count : met + length (membersFrom left ws c) ≡ length (membersFrom steps ws first)
-    pub lasts : lastOr p (membersFrom left ws c) ≡ lastOr 0 (membersFrom steps ws first)
-    pub marks : flipAll ms (membersFrom left ws c) ≡ flipAll ms₀ (membersFrom steps ws first)
-    pub spent : met + left ≡ steps
+module _ (ws table : List ℕ) (i bytes : ℕ) (ms₀ : List ℕ) (first : ℕ) where
+  pub record Combing (ms : List ℕ) (c p left : ℕ) : Type 0 where
+    pub combs :
+        combed ws table i bytes ms p (membersFrom left ws c)
+        ≡ combed ws table i bytes ms₀ 0 (membersFrom bytes ws first)
+    pub ends : beyond ws c (membersFrom left ws c) ≡ beyond ws first (membersFrom bytes ws first)
+    pub count : bytes + length (membersFrom left ws c) ≡ left + length (membersFrom bytes ws first)
+    pub lasts : lastOr p (membersFrom left ws c) ≡ lastOr 0 (membersFrom bytes ws first)
+    pub marks : flipAll ms (membersFrom left ws c) ≡ flipAll ms₀ (membersFrom bytes ws first)
+    pub within : left ≤ bytes
 
-module _ {ws table : List ℕ} {i steps : ℕ} {ms₀ : List ℕ} {first : ℕ} where
-  pub combing-begins : Combing ws table i steps ms₀ first ms₀ first 0 0 steps
+module _ {ws table : List ℕ} {i bytes : ℕ} {ms₀ : List ℕ} {first : ℕ} where
+  pub combing-begins : Combing ws table i bytes ms₀ first ms₀ first 0 bytes
   combing-begins =
-      record { combs = refl; ends = refl; count = omega arith; lasts = refl; marks = refl; spent = omega arith }
+      record { combs = refl; ends = refl; count = refl; lasts = refl; marks = refl; within = omega arith }
 
-  module _ {ms : List ℕ} {c p met left : ℕ} (o : Combing ws table i steps ms₀ first ms c p met left) where
+  module _ {ms : List ℕ} {c p left : ℕ} (o : Combing ws table i bytes ms₀ first ms c p left) where
     -- no list is longer than its steps
-    pub torn-long : (ms′ : List ℕ) → left ≡ 0 → (c ≡ 0 → ⊥) → SweptIs ws table i steps ms₀ first ms′ Torn
+    pub torn-long : (ms′ : List ℕ) → left ≡ 0 → (c ≡ 0 → ⊥) → SweptIs ws table i bytes ms₀ first ms′ Torn
     unfolding SweptIs
     torn-long ms′ e n =
         let r = read-spent ws left c e in
-        let q : beyond ws first (membersFrom steps ws first) ≡ c = sym (o .ends) ∙ ap (beyond ws c) r in
-        rw (sym (o .combs) ∙ ap (combed ws table i ms p) r, q, ne-eqb c 0 n)
+        let q : beyond ws first (membersFrom bytes ws first) ≡ c = sym (o .ends) ∙ ap (beyond ws c) r in
+        rw (sym (o .combs) ∙ ap (combed ws table i bytes ms p) r, q, ne-eqb c 0 n)
 
-    pub whole-list : {ms′ : List ℕ} → ms′ ≡ ms → c ≡ 0 → SweptIs ws table i steps ms₀ first ms′ (Whole met p)
+    pub whole-list : {ms′ : List ℕ} → ms′ ≡ ms → c ≡ 0 → SweptIs ws table i bytes ms₀ first ms′ (Whole (bytes - left) p)
     unfolding SweptIs
     whole-list em e =
         let r : membersFrom left ws c ≡ [] = ap (membersFrom left ws) e ∙ read-none ws left in
-        let q : beyond ws first (membersFrom steps ws first) ≡ c = sym (o .ends) ∙ ap (beyond ws c) r in
-        let l : met + length (membersFrom left ws c) ≡ met = ap (λ (x : List ℕ). met + length x) r ∙ omega arith in
+        let q : beyond ws first (membersFrom bytes ws first) ≡ c = sym (o .ends) ∙ ap (beyond ws c) r in
+        let l : bytes + 0 ≡ left + length (membersFrom bytes ws first) = rw r at (o .count) in
         record {
-          whole = rw (sym (o .combs) ∙ ap (combed ws table i ms p) r, q, eq-eqb c 0 e);
-          count = sym l ∙ o .count;
+          whole = rw (sym (o .combs) ∙ ap (combed ws table i bytes ms p) r, q, eq-eqb c 0 e);
+          count = omega arith;
           ends = sym (ap (lastOr p) r) ∙ o .lasts;
           marks = em ∙ sym (ap (flipAll ms) r) ∙ o .marks;
         }
 
-    module _ (n : c ≡ 0 → ⊥) (h : 0 < left) {t : Bool} (et : t ≡ isListedM ws table i ms p c) where
-      pub torn-here : (ms′ : List ℕ) → not t ≡ true → SweptIs ws table i steps ms₀ first ms′ Torn
+    module _ (n : c ≡ 0 → ⊥) (h : 0 < left) {t : Bool} (test : Tested ws table i bytes ms p c t) where
+      pub torn-here : (ms′ : List ℕ) → not t ≡ true → SweptIs ws table i bytes ms₀ first ms′ Torn
       unfolding SweptIs
       torn-here ms′ ht =
           let r = read-more ws left c n h in
-          rw (sym (o .combs) ∙ ap (combed ws table i ms p) r, sym et ∙ not-true t ht)
+          rw (sym (o .combs) ∙ ap (combed ws table i bytes ms p) r, sym (test .is) ∙ not-true t ht)
 
       pub combing-goes : not t ≡ false → {ms′ : List ℕ} → ms′ ≡ flipped ms c → {d : ℕ} → d ≡ word ws c nextInBin
-          → Combing ws table i steps ms₀ first ms′ d c (met + 1) (left - 1)
+          → Combing ws table i bytes ms₀ first ms′ d c (left - 1)
       combing-goes ht em ed =
           let r = read-more ws left c n h in
           rw (em, ed)
           (record {
-            combs = rw (r, sym et ∙ not-false t ht) at (o .combs);
+            combs = rw (r, sym (test .is) ∙ not-false t ht) at (o .combs);
             ends = rw r at (o .ends);
             count = count r;
             lasts = rw r at (o .lasts);
             marks = rw r at (o .marks);
-            spent = omega (arith, o .spent);
+            within = omega (arith, o .within);
           })
         where
           count : membersFrom left ws c ≡ c ∷ membersFrom (left - 1) ws (word ws c nextInBin)
-              → met + 1 + length (membersFrom (left - 1) ws (word ws c nextInBin)) ≡ length (membersFrom steps ws first)
-          count r = let q : met + suc (length (membersFrom (left - 1) ws (word ws c nextInBin))) ≡ length (membersFrom steps ws first) = rw r at (o .count) in omega arith
+              → bytes + length (membersFrom (left - 1) ws (word ws c nextInBin)) ≡ (left - 1) + length (membersFrom bytes ws first)
+          count r =
+              let q : bytes + suc (length (membersFrom (left - 1) ws (word ws c nextInBin))) ≡ left + length (membersFrom bytes ws first) = rw r at (o .count) in
+              omega arith
+
+-- the code tests both ends of a list at once
+no-ends : (head tail : ℕ) → bitOr head tail ≡ 0 → (head ≡ 0) × (tail ≡ 0)
+no-ends head tail e =
+    let sum = or-add-and head tail in
+    let l = and-le-l head tail in
+    let r = and-le-r head tail in
+    (omega arith, omega arith)
+
+module _ {heads tails : List ℕ} {from : ℕ} where
+  pub nothing-passed : NextListed heads tails from from
+  nothing-passed = record { onward = omega arith; passed = λ i lo hi. absurd (omega arith) }
+
+  pub one-passed : {b : ℕ} → NextListed heads tails from b → bitOr (getD heads b 0) (getD tails b 0) ≡ 0
+      → NextListed heads tails from (b + 1)
+  one-passed {b} o e =
+      record { onward = omega (arith, o .onward); passed = λ i lo hi. go i lo hi (ℕ-discrete i b) }
+    where
+      go : (i : ℕ) → from ≤ i → i < b + 1 → Dec (i ≡ b) → (getD heads i 0 ≡ 0) × (getD tails i 0 ≡ 0)
+      go i lo hi (yes q) = rw q (no-ends (getD heads b 0) (getD tails b 0) e)
+      go i lo hi (no n) = o .passed i lo (omega arith)
 
 -- what a reply says of a list, by its case
-module _ (ws table : List ℕ) (i steps : ℕ) (ms : List ℕ) (first : ℕ) (ms′ : List ℕ) (r : Swept)
-    (k : SweptIs ws table i steps ms first ms′ r) where
-  torn-is : r ≡ Torn → wholeList ws table i steps ms first ≡ false
+module _ (ws table : List ℕ) (i bytes : ℕ) (ms : List ℕ) (first : ℕ) (ms′ : List ℕ) (r : Swept)
+    (k : SweptIs ws table i bytes ms first ms′ r) where
+  torn-is : r ≡ Torn → wholeList ws table i bytes ms first ≡ false
   unfolding SweptIs
-  torn-is e = subst (λ (q : Swept). SweptIs ws table i steps ms first ms′ q) e k
+  torn-is e = subst (λ (q : Swept). SweptIs ws table i bytes ms first ms′ q) e k
 
-  whole-is : {members last : ℕ} → r ≡ Whole members last → WholeIs ws table i steps ms first ms′ members last
+  whole-is : {members last : ℕ} → r ≡ Whole members last → WholeIs ws table i bytes ms first ms′ members last
   unfolding SweptIs
-  whole-is e = subst (λ (q : Swept). SweptIs ws table i steps ms first ms′ q) e k
+  whole-is e = subst (λ (q : Swept). SweptIs ws table i bytes ms first ms′ q) e k
 
 -- the numbers from b on, n of them in all
 count-on : (b n : ℕ) → b < n → numbersFrom b (n - b) ≡ b ∷ numbersFrom (suc b) (n - suc b)
@@ -148,61 +192,96 @@ count-out : (b n : ℕ) → n ≤ b → numbersFrom b (n - b) ≡ []
 count-out b n h = let e : n - b ≡ 0 = omega arith in rw e
 
 -- where the walk of all lists stands, before bin b
-module _ (ws table heads tails : List ℕ) (steps : ℕ) (ms₀ : List ℕ) where
+module _ (ws table heads tails : List ℕ) (bytes : ℕ) (ms₀ : List ℕ) where
   abbrev lengthAt : ℕ → ℕ
-  lengthAt i = length (listAt ws table heads tails steps i)
+  lengthAt i = length (listAt ws table heads tails bytes i)
 
   pub record Sweeping (ms : List ℕ) (b met : ℕ) : Type 0 where
     pub whole :
-        allWhole ws table heads tails steps ms (numbersFrom b (length table - b))
-        ≡ allWhole ws table heads tails steps ms₀ (numbersFrom 0 (length table))
+        allWhole ws table heads tails bytes ms (numbersFrom b (length table - b))
+        ≡ allWhole ws table heads tails bytes ms₀ (numbersFrom 0 (length table))
     pub count :
         (met + total lengthAt (numbersFrom b (length table - b))) % 2 ^ 32
         ≡ total lengthAt (numbersFrom 0 (length table)) % 2 ^ 32
     pub fits : met < 2 ^ 32
 
-module _ {ws table heads tails : List ℕ} {steps : ℕ} {ms₀ : List ℕ} where
-  pub sweeping-begins : Sweeping ws table heads tails steps ms₀ ms₀ 0 0
+module _ {ws table heads tails : List ℕ} {bytes : ℕ} {ms₀ : List ℕ} where
+  pub sweeping-begins : Sweeping ws table heads tails bytes ms₀ ms₀ 0 0
   sweeping-begins =
       let e : length table - 0 ≡ length table = omega arith in
       record { whole = rw e; count = rw (e, zero-add); fits = omega arith }
 
-  module _ {ms : List ℕ} {b met : ℕ} (o : Sweeping ws table heads tails steps ms₀ ms b met) where
+  module _ {ms : List ℕ} {met : ℕ} where
+    -- an empty list is whole, and has no members
+    over-empty : {b : ℕ} → Sweeping ws table heads tails bytes ms₀ ms b met → getD heads b 0 ≡ 0 → getD tails b 0 ≡ 0
+        → Sweeping ws table heads tails bytes ms₀ ms (suc b) met
+    over-empty {b} o head tail = go (decLt b (length table))
+      where
+        go : Dec (b < length table) → Sweeping ws table heads tails bytes ms₀ ms (suc b) met
+        go (yes h) =
+            let r = count-on b (length table) h in
+            let none : listAt ws table heads tails bytes b ≡ [] = ap (membersFrom bytes ws) head ∙ read-none ws bytes in
+            record {
+              whole = rw (r, none, head, tail) at (o .whole);
+              count = rw (r, none, zero-add) at (o .count);
+              fits = o .fits;
+            }
+        go (no n) =
+            let here = count-out b (length table) (omega arith) in
+            let there = count-out (suc b) (length table) (omega arith) in
+            record { whole = rw there (rw here at (o .whole)); count = rw there (rw here at (o .count)); fits = o .fits }
+
+    -- so the bins that are passed over add nothing
+    over-all : (n b : ℕ) → ((i : ℕ) → b ≤ i → i < b + n → (getD heads i 0 ≡ 0) × (getD tails i 0 ≡ 0))
+        → Sweeping ws table heads tails bytes ms₀ ms b met → Sweeping ws table heads tails bytes ms₀ ms (b + n) met
+    over-all zero b empty o = rw (add-zero b) o
+    over-all (suc n) b empty o =
+        let (head, tail) = empty b (omega arith) (omega arith) in
+        let e : b + suc n ≡ suc b + n = omega arith in
+        rw e (over-all n (suc b) (λ i lo hi. empty i (omega arith) (omega arith)) (over-empty o head tail))
+
+    pub sweeping-skips : {b next : ℕ} → Sweeping ws table heads tails bytes ms₀ ms b met → NextListed heads tails b next
+        → Sweeping ws table heads tails bytes ms₀ ms next met
+    sweeping-skips {b} {next} o p =
+        let e : b + (next - b) ≡ next = omega (arith, p .onward) in
+        rw e at (over-all (next - b) b (λ i lo hi. p .passed i lo (omega (arith, p .onward))) o)
+
+  module _ {ms : List ℕ} {b met : ℕ} (o : Sweeping ws table heads tails bytes ms₀ ms b met) where
     -- how many members the list of a bin has
     abbrev membersIn : ℕ → ℕ
-    membersIn i = lengthAt ws table heads tails steps ms₀ i
+    membersIn i = lengthAt ws table heads tails bytes ms₀ i
 
-    pub all-clean : length table ≤ b → SweepIs ws table heads tails steps ms₀ (Clean met)
+    pub all-clean : length table ≤ b → SweepIs ws table heads tails bytes ms₀ (Clean met)
     unfolding SweepIs
     all-clean h =
         let r = count-out b (length table) h in
         let q : (met + 0) % 2 ^ 32 ≡ total membersIn (numbersFrom 0 (length table)) % 2 ^ 32 = rw r at (o .count) in
         record {
-          whole = sym (o .whole) ∙ ap (allWhole ws table heads tails steps ms) r;
+          whole = sym (o .whole) ∙ ap (allWhole ws table heads tails bytes ms) r;
           count = omega (arith, o .fits);
         }
 
     -- bin b has been swept, with this reply
     module _ (h : b < length table) {first : ℕ} (ef : first ≡ getD heads b 0) (ms′ : List ℕ) {r : Swept}
-        (swept : SweptIs ws table b steps ms first ms′ r) where
-      pub dirty-list : r ≡ Torn → SweepIs ws table heads tails steps ms₀ Dirty
+        (swept : SweptIs ws table b bytes ms first ms′ r) where
+      pub dirty-list : r ≡ Torn → SweepIs ws table heads tails bytes ms₀ Dirty
       unfolding SweepIs
       dirty-list e =
-          sym (o .whole) ∙ ap (allWhole ws table heads tails steps ms) (count-on b (length table) h)
-          ∙ rw (← ef, torn-is ws table b steps ms first ms′ r swept e)
+          sym (o .whole) ∙ ap (allWhole ws table heads tails bytes ms) (count-on b (length table) h)
+          ∙ rw (← ef, torn-is ws table b bytes ms first ms′ r swept e)
 
       module _ {members last : ℕ} (is : r ≡ Whole members last) {t : ℕ} (et : t ≡ getD tails b 0) where
-        abbrev swept-whole : WholeIs ws table b steps ms first ms′ members last
-        swept-whole = whole-is ws table b steps ms first ms′ r swept is
+        abbrev swept-whole : WholeIs ws table b bytes ms first ms′ members last
+        swept-whole = whole-is ws table b bytes ms first ms′ r swept is
 
-        pub dirty-tail : (t ≡ last → ⊥) → SweepIs ws table heads tails steps ms₀ Dirty
+        pub dirty-tail : (t ≡ last → ⊥) → SweepIs ws table heads tails bytes ms₀ Dirty
         unfolding SweepIs
         dirty-tail n =
-            sym (o .whole) ∙ ap (allWhole ws table heads tails steps ms) (count-on b (length table) h)
+            sym (o .whole) ∙ ap (allWhole ws table heads tails bytes ms) (count-on b (length table) h)
             ∙ rw (← ef, swept-whole .whole, ← et, ← (swept-whole .ends), ne-eqb t last n)
 
         pub sweeping-goes : t ≡ last → {met′ : ℕ} → met′ ≡ (met + members) % 2 ^ 32
-            → Sweeping ws table heads tails steps ms₀ ms′ (b + 1) met′
+            → Sweeping ws table heads tails bytes ms₀ ms′ (b + 1) met′
         sweeping-goes e em =
             let r = count-on b (length table) h in
             rw (em, add-one)
@@ -213,8 +292,8 @@ module _ {ws table heads tails : List ℕ} {steps : ℕ} {ms₀ : List ℕ} wher
             })
           where
             whole : numbersFrom b (length table - b) ≡ b ∷ numbersFrom (suc b) (length table - suc b)
-                → allWhole ws table heads tails steps ms′ (numbersFrom (suc b) (length table - suc b))
-                ≡ allWhole ws table heads tails steps ms₀ (numbersFrom 0 (length table))
+                → allWhole ws table heads tails bytes ms′ (numbersFrom (suc b) (length table - suc b))
+                ≡ allWhole ws table heads tails bytes ms₀ (numbersFrom 0 (length table))
             whole r = rw (swept-whole .marks, ef) (rw (r, ← ef, swept-whole .whole, ← et, ← (swept-whole .ends), eq-eqb t last e, ef) at (o .whole))
 
             count : numbersFrom b (length table - b) ≡ b ∷ numbersFrom (suc b) (length table - suc b)

@@ -1,16 +1,17 @@
 -- What the walk of the bins' lists tests and counts, over the lists that the rules read (`membersFrom`).
 -- It mirrors the code; that it is what the check asks is proved.
 use mathlib.Core.Path.{_≡_}
-use mathlib.Core.Bool.{Bool, true, false, _&&_}
+use mathlib.Core.Bool.{Bool, true, false, cond, _&&_}
 use mathlib.Core.List.{List, [], _∷_}
-use Prim.Native.Nat.{ℕ, _*_, _%_, _^_, _≤_}
-use lib.Dec.{eqb}
+use Prim.Native.Nat.{ℕ, suc, _+_, _*_, _%_, _^_, _≤_, _<_}
+use lib.Dec.{eqb, leb, ltb}
 use lib.ListN.{length, getD}
 use Rattle.lists.specs.Lists.{lastOr, total, numbersFrom}
 use Rattle.marks.specs.Marks.{marked, flipped}
-use Rattle.record.specs.Table.{takesBin}
+use Rattle.record.specs.Table.{sizeAt, takesBin}
 use Rattle.region.specs.Words.{word, size, nextInBin, previousInBin, bin}
 use Rattle.rules.specs.Shape.{membersFrom}
+use Rattle.sweep.specs.declared.Sizes.{Sizes}
 use Rattle.sweep.specs.declared.Sweep.{Sweep}
 use Rattle.sweep.specs.declared.Sweep.the-variants.{Clean, Dirty}
 use Rattle.sweep.specs.declared.Swept.{Swept}
@@ -21,12 +22,33 @@ abbrev pub flipAll : List ℕ → List ℕ → List ℕ
 flipAll ms [] = ms
 flipAll ms (c ∷ cs) = flipAll (flipped ms c) cs
 
-module _ (ws table : List ℕ) (i : ℕ) where
+-- what bin i asks of the words of its members: its bin word, and a size from its own to below the next bin's.
+-- No bin follows the last one: its bound is above every word
+abbrev pub sizesM : List ℕ → ℕ → Sizes
+sizesM table i =
+    record {
+      word = i % 32 * 8;
+      least = sizeAt table i;
+      above = cond (leb (length table) (suc i)) (2 ^ 32) (sizeAt table (suc i));
+    }
+
+-- the words of the chunk at c are right for a member behind one at p, of the bin that asks for these sizes
+unfoldable pub saysListedM : List ℕ → Sizes → ℕ → ℕ → Bool
+saysListedM ws s p c =
+    eqb (word ws c bin) (s .word) && eqb (word ws c previousInBin) p && leb (s .least) (word ws c size)
+    && ltb (word ws c size) (s .above)
+
+-- c is a multiple of 8, and the six words of a header are inside the heap bytes, which are a multiple of 8 too
+abbrev pub isPlacedM : ℕ → ℕ → Bool
+isPlacedM bytes c = eqb (c % 8) 0 && ltb (c + 16) bytes
+
+-- the words, the table, a bin of it, and the heap bytes
+module _ (ws table : List ℕ) (i bytes : ℕ) where
   -- the chunk at c is a member of bin i behind one at p
   unfoldable pub isListedM : List ℕ → ℕ → ℕ → Bool
   isListedM ms p c =
-      eqb (c % 8) 0 && marked ms c && eqb (word ws c bin) (i % 32 * 8)
-      && eqb (word ws c previousInBin) p && takesBin table i (word ws c size)
+      isPlacedM bytes c && marked ms c && eqb (word ws c bin) (i % 32 * 8) && eqb (word ws c previousInBin) p
+      && takesBin table i (word ws c size)
 
   -- all of a list are, one behind the other, with marks cleared on the way
   abbrev pub combed : List ℕ → ℕ → List ℕ → Bool
@@ -38,18 +60,19 @@ abbrev pub beyond : List ℕ → ℕ → List ℕ → ℕ
 beyond ws c [] = c
 beyond ws c (d ∷ ds) = beyond ws (word ws d nextInBin) ds
 
-module _ (ws table : List ℕ) (i steps : ℕ) where
+-- no list has more members than there are heap bytes: so many steps read it
+module _ (ws table : List ℕ) (i bytes : ℕ) where
   -- the list from `first` is whole: every member is right, and it ends
   abbrev pub wholeList : List ℕ → ℕ → Bool
   wholeList ms first =
-      combed ws table i ms 0 (membersFrom steps ws first) && eqb (beyond ws first (membersFrom steps ws first)) 0
+      combed ws table i bytes ms 0 (membersFrom bytes ws first) && eqb (beyond ws first (membersFrom bytes ws first)) 0
 
   -- it is, with so many members and this last one, and the marks are `after` from `ms`
   pub record WholeIs (ms : List ℕ) (first : ℕ) (after : List ℕ) (met last : ℕ) : Type 0 where
     pub whole : wholeList ms first ≡ true
-    pub count : met ≡ length (membersFrom steps ws first)
-    pub ends : last ≡ lastOr 0 (membersFrom steps ws first)
-    pub marks : after ≡ flipAll ms (membersFrom steps ws first)
+    pub count : met ≡ length (membersFrom bytes ws first)
+    pub ends : last ≡ lastOr 0 (membersFrom bytes ws first)
+    pub marks : after ≡ flipAll ms (membersFrom bytes ws first)
 
   unfoldable pub SweptIs : List ℕ → ℕ → List ℕ → Swept → Type 0
   SweptIs ms first after Torn = wholeList ms first ≡ false
@@ -60,15 +83,20 @@ pub record BothEnds (table heads tails : List ℕ) : Type 0 where
   pub enoughHeads : length table ≤ length heads
   pub enoughTails : length table ≤ length tails
 
-module _ (ws table heads tails : List ℕ) (steps : ℕ) where
+-- the bins from `from` up to `next` have neither head nor tail
+pub record NextListed (heads tails : List ℕ) (from next : ℕ) : Type 0 where
+  pub onward : from ≤ next
+  pub passed : (i : ℕ) → from ≤ i → i < next → (getD heads i 0 ≡ 0) × (getD tails i 0 ≡ 0)
+
+module _ (ws table heads tails : List ℕ) (bytes : ℕ) where
   abbrev pub listAt : ℕ → List ℕ
-  listAt i = membersFrom steps ws (getD heads i 0)
+  listAt i = membersFrom bytes ws (getD heads i 0)
 
   -- the lists of the bins in `is`, one after the other
   abbrev pub allWhole : List ℕ → List ℕ → Bool
   allWhole ms [] = true
   allWhole ms (i ∷ is) =
-      wholeList ws table i steps ms (getD heads i 0) && eqb (getD tails i 0) (lastOr 0 (listAt i))
+      wholeList ws table i bytes ms (getD heads i 0) && eqb (getD tails i 0) (lastOr 0 (listAt i))
       && allWhole (flipAll ms (listAt i)) is
 
   -- every list is whole, and they have so many members in all

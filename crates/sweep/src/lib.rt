@@ -1,44 +1,80 @@
 // The walk of the bins' lists: each member must be marked, and its mark is cleared, so that no chunk is met twice.
 // The marks were made by the walk of the chain, in the crate `survey`; the chain itself is not looked at here.
 ghost use mathlib.Core.Path.{_≡_};
-ghost use Rattle.sweep.specs.Sweep.{isListedM, SweptIs, SweepIs};
+ghost use Prim.Native.Nat.{_+_, _/_, _^_, _≤_, _<_};
+ghost use lib.ListN.{length};
+ghost use Rattle.chain.specs.Length.{Lent};
+ghost use Rattle.region.specs.Words.{word, size, bin};
+ghost use Rattle.sweep.specs.Sweep.{sizesM, saysListedM, isPlacedM, SweptIs, BothEnds, NextListed, SweepIs};
 use bins::bin_word;
-use bins::list_end;
-use marks::flip;
-use marks::is_marked;
-use record::table::takes;
+use marks::unmark;
 use region::ALIGNMENT;
 use region::BIN;
 use region::Chunk;
+use region::LEAST;
 use region::NEXT_IN_BIN;
 use region::PREVIOUS_IN_BIN;
 use region::SIZE;
-use region::word;
 
-// A member of a bin's list: a marked chunk, with its bin word, its backward bin link and its size right.
-pub fn is_listed(
-    region: &[u32],
-    marks: &[u32],
-    table: &[u32],
-    bin: usize,
-    before: u32,
-    chunk: Chunk,
-) -> bool
-    ensures { λ r. ⌜ r ≡ isListedM (now (region .entry)) (now (table .entry)) bin (now (marks .entry)) before (chunk .0) ⌝ }
+// Above every word: no bin follows the last one, and so nothing bounds its sizes.
+const ABOVE_WORDS: u64 = 1 << 32;
+
+// On multiples of 8 the six words of a header are inside the heap exactly if the chunk is further below the end than this.
+const BELOW_END: u32 = LEAST - ALIGNMENT;
+
+// What a bin asks of the words of its members: its bin word, and a size from `least` to below `above`.
+pub struct Sizes {
+    pub word: u32,
+    pub least: u32,
+    pub above: u64,
+}
+
+// The table is read once for a list, not for each member.
+fn sizes_of(table: &[u32], bin: usize) -> Sizes
+    requires { ⌜ bin < length (now table) ⌝ }
+    ensures { λ r. ⌜ r ≡ sizesM (now (table .entry)) bin ⌝ }
+{
+    let next = bin + 1;
+    Sizes {
+        word: bin_word(bin),
+        least: table[bin],
+        above: if next < table.len() {
+            table[next] as u64
+        } else {
+            ABOVE_WORDS
+        },
+    }
+}
+
+// The place of a member: a multiple of 8 with a whole header inside the heap. Behind this test its words and its mark need no test of bounds.
+fn is_placed(chunk: Chunk, bytes: u32) -> bool
+    requires { ⌜ 16 ≤ bytes ⌝ }
+    ensures { λ r. ⌜ r ≡ isPlacedM bytes (chunk .0) ⌝ }
 {
     if chunk.0 % ALIGNMENT != 0 {
         return false;
     }
-    if !is_marked(marks, chunk) {
+    chunk.0 < bytes - BELOW_END
+}
+
+// The words of a member: its bin word, its backward bin link and its size are right. A size is a word, so that it is below `ABOVE_WORDS`.
+fn is_listed(region: &[u32], sizes: Sizes, before: u32, chunk: Chunk) -> bool
+    requires { ⌜ chunk .0 / 4 + bin < length (now region) ⌝ }
+    ensures { λ r. ⌜ r ≡ saysListedM (now (region .entry)) sizes before (chunk .0) ⌝ }
+    ensures { λ _. ⌜ word (now (region .entry)) (chunk .0) size < 2 ^ 32 ⌝ }
+{
+    let i = (chunk.0 / 4) as usize;
+    let size = region[i + SIZE as usize];
+    if region[i + BIN as usize] != sizes.word {
         return false;
     }
-    if word(region, chunk, BIN) != bin_word(bin) {
+    if region[i + PREVIOUS_IN_BIN as usize] != before {
         return false;
     }
-    if word(region, chunk, PREVIOUS_IN_BIN) != before {
+    if size < sizes.least {
         return false;
     }
-    takes(table, bin, word(region, chunk, SIZE))
+    (size as u64) < sizes.above
 }
 
 pub enum Swept {
@@ -47,35 +83,43 @@ pub enum Swept {
     Torn,
 }
 
-// No list has more members than there are steps: the heap bytes.
+// No list has more members than there are heap bytes, so that a ring of links is found when these are used up.
+// The mark is turned over before the words are compared: of the marks after a torn list nothing is said.
 pub fn sweep_list(
     region: &[u32],
     marks: &mut [u32],
     table: &[u32],
     bin: usize,
     first: u32,
-    steps: u32,
+    bytes: u32,
 ) -> Swept
-    ensures { λ r. ⌜ SweptIs (now (region .entry)) (now (table .entry)) bin steps (now (marks .entry)) first (now (marks .exit)) r ⌝ }
+    requires { ⌜ Lent (now region) bytes ⌝ }
+    requires { ⌜ length (now marks) ≡ 256 ⌝ }
+    requires { ⌜ bin < length (now table) ⌝ }
+    ensures { λ r. ⌜ SweptIs (now (region .entry)) (now (table .entry)) bin bytes (now (marks .entry)) first (now (marks .exit)) r ⌝ }
 {
+    let sizes = sizes_of(table, bin);
     let mut at = first;
     let mut before = 0;
-    let mut met = 0;
-    let mut left = steps;
+    let mut left = bytes;
     while at != 0 {
         if left == 0 {
             return Swept::Torn;
         }
-        if !is_listed(region, marks, table, bin, before, Chunk(at)) {
+        if !is_placed(Chunk(at), bytes) {
             return Swept::Torn;
         }
-        flip(marks, Chunk(at));
+        if !unmark(marks, Chunk(at)) {
+            return Swept::Torn;
+        }
+        if !is_listed(region, sizes, before, Chunk(at)) {
+            return Swept::Torn;
+        }
         before = at;
-        at = word(region, Chunk(at), NEXT_IN_BIN);
-        met += 1;
+        at = region[(at / 4) as usize + NEXT_IN_BIN as usize];
         left -= 1;
     }
-    Swept::Whole(met, before)
+    Swept::Whole(bytes - left, before)
 }
 
 pub enum Sweep {
@@ -84,28 +128,46 @@ pub enum Sweep {
     Dirty,
 }
 
-pub fn sweep_bins(
+// The first bin from this one on that has a head or a tail, or else the bin count. A bin with neither has an empty list, which is right.
+fn next_listed<'a>(heads: &'a [u32], tails: &'a [u32], from: usize, count: usize) -> usize
+    requires { ⌜ (count ≤ length (now heads)) × (count ≤ length (now tails)) ⌝ }
+    ensures { λ r. ⌜ NextListed (now (heads .entry)) (now (tails .entry)) from r ⌝ }
+{
+    let mut bin = from;
+    while bin < count {
+        if heads[bin] | tails[bin] != 0 {
+            return bin;
+        }
+        bin += 1;
+    }
+    bin
+}
+
+pub fn sweep_bins<'a>(
     region: &[u32],
     marks: &mut [u32],
     table: &[u32],
-    heads: &[u32],
-    tails: &[u32],
-    steps: u32,
+    heads: &'a [u32],
+    tails: &'a [u32],
+    bytes: u32,
 ) -> Sweep
-    ensures { λ r. ⌜ SweepIs (now (region .entry)) (now (table .entry)) (now (heads .entry)) (now (tails .entry)) steps (now (marks .entry)) r ⌝ }
+    requires { ⌜ Lent (now region) bytes ⌝ }
+    requires { ⌜ length (now marks) ≡ 256 ⌝ }
+    requires { ⌜ BothEnds (now table) (now heads) (now tails) ⌝ }
+    ensures { λ r. ⌜ SweepIs (now (region .entry)) (now (table .entry)) (now (heads .entry)) (now (tails .entry)) bytes (now (marks .entry)) r ⌝ }
 {
-    let mut bin = 0;
     let mut met = 0;
+    let mut bin = next_listed(heads, tails, 0, table.len());
     while bin < table.len() {
-        let swept = sweep_list(region, marks, table, bin, list_end(heads, bin), steps);
+        let swept = sweep_list(region, marks, table, bin, heads[bin], bytes);
         let Swept::Whole(members, last) = swept else {
             return Sweep::Dirty;
         };
-        if list_end(tails, bin) != last {
+        if tails[bin] != last {
             return Sweep::Dirty;
         }
         met = std::num::wrapping_add_u32(met, members);
-        bin += 1;
+        bin = next_listed(heads, tails, bin + 1, table.len());
     }
     Sweep::Clean(met)
 }

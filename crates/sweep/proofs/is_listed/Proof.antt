@@ -1,68 +1,76 @@
--- `sweep::is_listed` makes the five tests of a member in turn. Assumes nothing.
+-- `sweep::is_listed` compares three words of a member. Assumes nothing.
+use Prim.Native.Nat.{_+_, _/_, _^_, _<_}
+use native.Mathlib.Omega.{arith}
 use borrow.Author.Needs.{needs}
-use Rattle.sweep.proofs.SweepLaws.{tested, off-eights, not-marked, other-bin, other-before, by-size}
+use borrow.Author.Tests.{eq-eqb, ne-eqb, le-leb, lt-leb}
+use lib.ListN.{getD}
+use Rattle.region.specs.Words.{word, size}
+use Rattle.sweep.specs.Sweep.{saysListedM}
 use Rattle.sweep.proofs.is_listed.Statement.{statement}
 use Rattle.sweep.proofs.is_listed.Tie as tie
 
--- behind the read of the bin word: the member is marked, and it is on the eights
-module _ (read : tie.After-bin-word) where
-  abbrev marked : tie.Else2
-  marked = read .before .before
+-- the size is a word of the region, so it is below 2 ^ 32
+module _ (read : tie.After-shared-slice-known) where
+  is-word : getD (read .before .before .args .region .now) (read .before .before .args .chunk .0 / 4 + size) 0 < 2 ^ 32
+  is-word = omega (arith, read .shared-slice-known .given (read .before .before .args .chunk .0 / 4 + size))
 
-  abbrev on-eights : tie.Else1
-  on-eights = marked .before .before
-
--- behind the read of the previous link: the bin word is the bin's
-module _ (read : tie.After-word2) where
-  abbrev same-bin : tie.Else3
-  same-bin = read .before
-
-  abbrev bin-read : tie.After-bin-word
-  bin-read = same-bin .before
+-- behind the test of the bin word: the size is read
+abbrev size-read : tie.Else1 → tie.After-shared-slice-known
+size-read same-bin = same-bin .before .before .before
 
 returns : tie.Need-returns
-returns c = tested (off-eights (c .if1 .taken))
+unfolding saysListedM word
+returns c = (rw (ne-eqb _ _ (c .if1 .taken)), is-word (c .before .before .before))
 
 returns-2 : tie.Need-returns-2
-returns-2 c = tested (not-marked (c .before .before .if1 .left) (c .before .is-marked .ensures) (c .if2 .taken))
+unfolding saysListedM word
+returns-2 c =
+    let same-bin = c .before .before in (
+      rw (eq-eqb _ _ (same-bin .if1 .left), ne-eqb _ _ (c .if2 .taken)),
+      is-word (size-read same-bin),
+    )
 
 returns-3 : tie.Need-returns-3
+unfolding saysListedM word
 returns-3 c =
-    let bin = c .before in
-    tested
-    (other-bin (on-eights bin .if1 .left) (marked bin .before .is-marked .ensures) (marked bin .if2 .left)
-    (bin .before .word .ensures) (bin .bin-word .ensures) (c .if3 .taken))
+    let same-before = c .before .before in
+    let same-bin = same-before .before .before in (
+      rw (eq-eqb _ _ (same-bin .if1 .left), eq-eqb _ _ (same-before .if2 .left), lt-leb _ _ (c .if3 .taken)),
+      is-word (size-read same-bin),
+    )
+
+fits : tie.Need-cast-result
+fits c = omega (arith, is-word (size-read (c .before .before .before .before)))
 
 returns-4 : tie.Need-returns-4
+unfolding saysListedM word
 returns-4 c =
-    let back = c .before in
-    let bin = bin-read back in
-    tested
-    (other-before (on-eights bin .if1 .left) (marked bin .before .is-marked .ensures) (marked bin .if2 .left)
-    (bin .before .word .ensures) (bin .bin-word .ensures) (same-bin back .if3 .left) (back .word2 .ensures) (c .if4 .taken))
-
-returns-5 : tie.Need-returns-5
-returns-5 c =
-    let same-before = c .before .before in
-    let back = same-before .before in
-    let bin = bin-read back in
-    tested
-    (by-size (on-eights bin .if1 .left) (marked bin .before .is-marked .ensures) (marked bin .if2 .left)
-    (bin .before .word .ensures) (bin .bin-word .ensures) (same-bin back .if3 .left) (back .word2 .ensures) (same-before .if4 .left)
-    (c .before .word3 .ensures) (c .takes .ensures))
+    let large = c .before in
+    let same-before = large .before .before in
+    let same-bin = same-before .before .before in (
+      rw (eq-eqb _ _ (same-bin .if1 .left), eq-eqb _ _ (same-before .if2 .left), le-leb _ _ (large .if3 .left)),
+      is-word (size-read same-bin),
+    )
 
 pub is-listed-spec : {M : Type 1} → statement M
 is-listed-spec =
     tie.close
     (tie.spec
+    (λ c. search needs)
+    (λ c. search needs)
+    (λ c. search needs)
+    (λ c. search needs)
+    (λ c. search needs)
+    (λ c. search needs)
+    (λ c. search needs)
+    (λ c. search needs)
+    (λ c. search needs)
     returns
-    (λ c κs. search needs)
+    (λ c. search needs)
+    (λ c. search needs)
+    (λ c. search needs)
+    (λ c. search needs)
     returns-2
-    (λ c κs. search needs)
-    (λ c κs. search needs)
     returns-3
-    (λ c κs. search needs)
-    returns-4
-    (λ c κs. search needs)
-    (λ c κs. search needs)
-    returns-5)
+    fits
+    returns-4)

@@ -2,55 +2,90 @@
 -- Assumes nothing.
 use Prim.Native.Nat.{_-_}
 use native.Mathlib.Omega.{arith}
-use mathlib.Core.Path.{_≡_, refl}
+use mathlib.Core.Path.{_≡_, refl, _∙_}
 use borrow.Author.Needs.{needs}
 use lib.ListN.{length}
-use Rattle.sweep.proofs.SweepLaws.{Sweeping, sweeping-begins, sweeping-goes, dirty-list, dirty-tail, all-clean}
+use Rattle.sweep.proofs.SweepLaws.{Sweeping, sweeping-begins, sweeping-skips, sweeping-goes, dirty-list, dirty-tail, all-clean}
 use Rattle.sweep.proofs.sweep_bins.Statement.{statement}
 use Rattle.sweep.proofs.sweep_bins.Tie as tie
 
 abbrev Inv-loop : tie.InvT-loop
-Inv-loop region marks₀ table heads tails steps bin₀ met₀ marks bin met =
-    Sweeping region table heads tails steps marks₀ marks bin met × (length marks ≡ length marks₀)
+Inv-loop region marks₀ table heads tails bytes met₀ bin₀ marks met bin =
+    Sweeping region table heads tails bytes marks₀ marks bin met × (length marks ≡ length marks₀)
 
 abbrev μ-loop : tie.MeasureT-loop
-μ-loop region marks₀ table heads tails steps bin₀ met₀ marks bin met = length table - bin
+μ-loop region marks₀ table heads tails bytes met₀ bin₀ marks met bin = length table - bin
+
+-- in the loop: what the function was given
+abbrev start : tie.In-loop Inv-loop μ-loop → tie.Start Inv-loop μ-loop
+start turn = turn .before .before .before .before .before .before .before .before
+
+-- behind the sweep of a list: the bin is one of the table's
+abbrev turn : tie.After-sweep-list Inv-loop μ-loop → tie.In-loop Inv-loop μ-loop
+turn swept = swept .before .before .before
+
+ends : tie.Need-next-listed-requires Inv-loop μ-loop
+ends c κs =
+    let start = c .before .before .before .before .before in
+    (start .pre .1 .1 .enoughHeads, start .pre .1 .1 .enoughTails)
 
 loop-holds : tie.Need-loop-holds Inv-loop μ-loop
-loop-holds c = (sweeping-begins, refl)
+loop-holds c = (sweeping-skips sweeping-begins (c .next-listed .ensures), refl)
 
--- behind the sweep of a list: the end of the list is read, and the bin is one of the table's
-module _ (swept : tie.After-sweep-list Inv-loop μ-loop) where
-  abbrev ended : tie.After-list-end Inv-loop μ-loop
-  ended = swept .before
+head-inside : tie.Need-shared-slice-read-sweep-list Inv-loop μ-loop
+head-inside c = let ends = start (c .before .before) .pre .1 .1 in omega arith
 
-  abbrev turn : tie.In-loop Inv-loop μ-loop
-  turn = ended .before .before
+list-lent : tie.Need-sweep-list-requires Inv-loop μ-loop
+list-lent c κs =
+    let turn = c .before .before in
+    (start turn .pre .0, (turn .before .loop .inv .1 ∙ start turn .pre .1 .0, turn .loop-test .taken))
 
 returns : tie.Need-returns Inv-loop μ-loop
 returns c =
     let swept = c .before .before .before .before in
     let turn = turn swept in
-    dirty-list (turn .before .loop .inv .0) (turn .loop-test .taken) (ended swept .list-end .ensures) _ (swept .sweep-list .ensures)
+    dirty-list (turn .before .loop .inv .0) (turn .loop-test .taken) refl _ (swept .sweep-list .ensures)
     (c .enum-told .given .1)
+
+tail-inside : tie.Need-shared-slice-read-if1 Inv-loop μ-loop
+tail-inside c =
+    let swept = c .before .before .before .before .before .before in
+    let ends = start (turn swept) .pre .1 .1 in
+    omega arith
 
 returns-2 : tie.Need-returns-2 Inv-loop μ-loop
 returns-2 c =
     let whole = c .before .before .before in
     let swept = whole .before .before .before .before in
     let turn = turn swept in
-    dirty-tail (turn .before .loop .inv .0) (turn .loop-test .taken) (ended swept .list-end .ensures) _ (swept .sweep-list .ensures)
-    (whole .swept .given .1) (c .before .list-end2 .ensures) (c .if1 .taken)
+    dirty-tail (turn .before .loop .inv .0) (turn .loop-test .taken) refl _ (swept .sweep-list .ensures)
+    (whole .swept .given .1) refl (c .if1 .taken)
+
+-- behind the sum: the tail is the last member met
+module _ (summed : tie.After-wrapping-add-u32 Inv-loop μ-loop) where
+  abbrev whole : tie.After-swept Inv-loop μ-loop
+  whole = summed .before .before .before .before
+
+  abbrev list-swept : tie.After-sweep-list Inv-loop μ-loop
+  list-swept = whole .before .before .before .before
+
+ends-2 : tie.Need-next-listed-requires-2 Inv-loop μ-loop
+ends-2 c κs =
+    let start = start (turn (list-swept c)) in
+    (start .pre .1 .1 .enoughHeads, start .pre .1 .1 .enoughTails)
+
+fewer-left : tie.Need-loop-less Inv-loop μ-loop
+fewer-left c = omega (arith, c .next-listed2 .ensures .onward)
 
 loop-again : tie.Need-loop-again Inv-loop μ-loop
 loop-again c =
-    let same-tail = c .before in
-    let whole = same-tail .before .before .before in
-    let swept = whole .before .before .before .before in
+    let summed = c .before in
+    let swept = list-swept summed in
     let turn = turn swept in (
-      sweeping-goes (turn .before .loop .inv .0) (turn .loop-test .taken) (ended swept .list-end .ensures) _ (swept .sweep-list .ensures)
-          (whole .swept .given .1) (same-tail .before .list-end2 .ensures)
-          (same-tail .if1 .left) (c .wrapping-add-u32 .ensures),
+      sweeping-skips
+          (sweeping-goes (turn .before .loop .inv .0) (turn .loop-test .taken) refl _ (swept .sweep-list .ensures)
+          (whole summed .swept .given .1) refl (summed .before .if1 .left) (summed .wrapping-add-u32 .ensures))
+          (c .next-listed2 .ensures),
       search needs,
     )
 
@@ -63,19 +98,23 @@ sweep-bins-spec =
     (tie.spec
     Inv-loop
     μ-loop
+    ends
     loop-holds
-    (λ c κs. search needs)
-    (λ c κs. search needs)
+    (λ c. search needs)
+    head-inside
+    list-lent
     (λ c. search needs)
     (λ c. search needs)
     (λ c. search needs)
     returns
-    (λ c κs. search needs)
+    (λ c. search needs)
+    tail-inside
     (λ c. search needs)
     returns-2
     (λ c κs. search needs)
     (λ c. omega arith)
-    (λ c. omega arith)
+    ends-2
+    fewer-left
     loop-again
     (λ c. search needs)
     returns-3)

@@ -2,18 +2,62 @@
 -- Assumes nothing.
 use native.Mathlib.Omega.{arith}
 use mathlib.Core.Path.{_≡_, refl}
+use Prim.Native.Nat.{_+_, _/_, _<_}
 use borrow.Author.Needs.{needs}
 use lib.ListN.{length}
-use Rattle.sweep.proofs.SweepLaws.{Combing, combing-begins, combing-goes, torn-long, torn-here, whole-list}
+use Rattle.region.specs.Words.{word, bin}
+use Rattle.sweep.proofs.SweepLaws.{Tested, not-placed, not-marked, by-words, header-inside, mark-inside, Combing, combing-begins, combing-goes, torn-long, torn-here, whole-list}
 use Rattle.sweep.proofs.sweep_list.Statement.{statement}
 use Rattle.sweep.proofs.sweep_list.Tie as tie
 
 abbrev Inv-loop : tie.InvT-loop
-Inv-loop region marks₀ table bin first steps at₀ before₀ met₀ left₀ marks at before met left =
-    Combing region table bin steps marks₀ first marks at before met left × (length marks ≡ length marks₀)
+Inv-loop region marks₀ table bin first bytes sizes at₀ before₀ left₀ marks at before left =
+    Combing region table bin bytes marks₀ first marks at before left × (length marks ≡ length marks₀)
 
 abbrev μ-loop : tie.MeasureT-loop
-μ-loop region marks₀ table bin first steps at₀ before₀ met₀ left₀ marks at before met left = left
+μ-loop region marks₀ table bin first bytes sizes at₀ before₀ left₀ marks at before left = left
+
+-- in the loop: what the bin asks of its members, and what the function was given
+module _ (turn : tie.In-loop Inv-loop μ-loop) where
+  abbrev asked : tie.After-sizes-of Inv-loop μ-loop
+  asked = turn .before .before
+
+  abbrev start : tie.Start Inv-loop μ-loop
+  start = asked .before .before .before .before
+
+-- behind the test of a member's place: its header is among the words, its mark in the bitmap
+module _ (placed : tie.Else2 Inv-loop μ-loop) where
+  abbrev turn : tie.In-loop Inv-loop μ-loop
+  turn = placed .before .before .before
+
+  in-words : turn .before .loop .at / 4 + bin < length (start turn .args .region .now)
+  in-words = header-inside (start turn .pre .0) (turn .before .loop .at) (placed .before .is-placed .ensures) (placed .if2 .left)
+
+  in-marks : turn .before .loop .at / 256 < 256
+  in-marks = mark-inside (start turn .pre .0) (turn .before .loop .at) (placed .before .is-placed .ensures) (placed .if2 .left)
+
+-- behind the test of its mark
+module _ (marked : tie.Else3 Inv-loop μ-loop) where
+  abbrev unmarked : tie.After-unmark Inv-loop μ-loop
+  unmarked = marked .before .before .before
+
+  abbrev placed : tie.Else2 Inv-loop μ-loop
+  placed = unmarked .before .before
+
+-- behind the test of its words: what the three tests come to
+module _ (told : tie.After-is-listed Inv-loop μ-loop) where
+  abbrev marked : tie.Else3 Inv-loop μ-loop
+  marked = told .before
+
+  abbrev here : tie.In-loop Inv-loop μ-loop
+  here = turn (placed marked)
+
+  member-tested :
+      Tested (start here .args .region .now) (start here .args .table .now) (start here .args .bin) (start here .args .bytes)
+      (here .before .loop .marks) (here .before .loop .before) (here .before .loop .at) (told .is-listed .result)
+  member-tested =
+      by-words (placed marked .before .is-placed .ensures) (placed marked .if2 .left) (unmarked marked .unmark .ensures .0)
+      (marked .if3 .left) (start here .pre .1 .1) (asked here .sizes-of .ensures) (told .is-listed .ensures)
 
 loop-holds : tie.Need-loop-holds Inv-loop μ-loop
 loop-holds c = (combing-begins, refl)
@@ -22,38 +66,59 @@ returns : tie.Need-returns Inv-loop μ-loop
 returns c =
     torn-long (c .before .before .loop .inv .0) _ (c .if1 .taken) (c .before .loop-test .taken)
 
--- behind the test of a member: the turn of the loop that tests it
-abbrev turn : tie.After-is-listed Inv-loop μ-loop → tie.In-loop Inv-loop μ-loop
-turn c = c .before .before .before
-
--- behind the read of the next link: the mark is cleared, and the member is listed
-module _ (next : tie.After-word Inv-loop μ-loop) where
-  abbrev cleared : tie.After-flip Inv-loop μ-loop
-  cleared = next .before .before .before
-
-  abbrev listed : tie.Else2 Inv-loop μ-loop
-  listed = cleared .before .before
+enough : tie.Need-is-placed-requires Inv-loop μ-loop
+enough c κs = omega (arith, start (c .before) .pre .0 .enough)
 
 returns-2 : tie.Need-returns-2 Inv-loop μ-loop
 returns-2 c =
-    let turn = turn (c .before) in
+    let turn = c .before .before .before in
     torn-here (turn .before .loop .inv .0) (turn .loop-test .taken) (omega arith)
-    (c .before .is-listed .ensures) _ (c .if2 .taken)
+    (not-placed (c .before .is-placed .ensures) (c .if2 .taken)) _ refl
 
-fits : tie.Need-add-met Inv-loop μ-loop
-fits c = omega (arith, turn (listed c .before) .before .loop .inv .0 .spent)
+in-bitmap : tie.Need-unmark-requires Inv-loop μ-loop
+in-bitmap c κs =
+    let turn = turn (c .before) in
+    omega (arith, in-marks (c .before), turn .before .loop .inv .1, start turn .pre .1 .0)
+
+returns-3 : tie.Need-returns-3 Inv-loop μ-loop
+returns-3 c =
+    let unmarked = c .before .before .before in
+    let placed = unmarked .before .before in
+    let turn = turn placed in
+    torn-here (turn .before .loop .inv .0) (turn .loop-test .taken) (omega arith)
+    (not-marked (placed .before .is-placed .ensures) (placed .if2 .left) (unmarked .unmark .ensures .0) (c .if3 .taken)) _ refl
+
+header : tie.Need-is-listed-requires Inv-loop μ-loop
+header c κs = in-words (placed c)
+
+returns-4 : tie.Need-returns-4 Inv-loop μ-loop
+returns-4 c =
+    let turn = here (c .before) in
+    torn-here (turn .before .loop .inv .0) (turn .loop-test .taken) (omega arith)
+    (member-tested (c .before)) _ (c .if4 .taken)
+
+-- the place of a listed member is below that of the last mark, so that no index made of it wraps
+low : (c : tie.Else4 Inv-loop μ-loop) → here (c .before) .before .loop .at / 256 < 256
+low c = in-marks (placed (marked (c .before)))
+
+next-inside : tie.Need-shared-slice-read-at Inv-loop μ-loop
+next-inside c = omega (arith, in-words (placed (marked (c .before .before))))
 
 loop-again : tie.Need-loop-again Inv-loop μ-loop
+unfolding word
 loop-again c =
-    let listed = listed c in
-    let turn = turn (listed .before) in (
+    let listed = c .before in
+    let turn = here (listed .before) in (
       combing-goes (turn .before .loop .inv .0) (turn .loop-test .taken) (omega arith)
-          (listed .before .is-listed .ensures) (listed .if2 .left) (cleared c .flip .ensures) (c .word .ensures),
+          (member-tested (listed .before)) (listed .if4 .left) (unmarked (marked (listed .before)) .unmark .ensures .1) refl,
       search needs,
     )
 
-returns-3 : tie.Need-returns-3 Inv-loop μ-loop
-returns-3 c = whole-list (c .before .loop .inv .0) refl (c .loop-test .left)
+within : tie.Need-sub-t23 Inv-loop μ-loop
+within c = c .before .loop .inv .0 .within
+
+returns-5 : tie.Need-returns-5 Inv-loop μ-loop
+returns-5 c = whole-list (c .before .loop .inv .0) refl (c .loop-test .left)
 
 pub sweep-list-spec : {M : Type 1} → statement M
 sweep-list-spec =
@@ -61,17 +126,27 @@ sweep-list-spec =
     (tie.spec
     Inv-loop
     μ-loop
+    (λ c κs. search needs)
     loop-holds
     (λ c. search needs)
     returns
-    (λ c κs. search needs)
+    enough
     (λ c. search needs)
     returns-2
-    (λ c κs. search needs)
-    (λ c κs. search needs)
-    fits
+    in-bitmap
+    (λ c. search needs)
+    returns-3
+    header
+    (λ c. search needs)
+    returns-4
+    (λ c. omega (arith, low c))
+    (λ c. search needs)
+    (λ c. omega (arith, low c))
+    (λ c. omega (arith, low c))
+    next-inside
     (λ c. omega arith)
     (λ c. omega arith)
     loop-again
+    within
     (λ c. search needs)
-    returns-3)
+    returns-5)

@@ -1,0 +1,32 @@
+-- `sweep::sizes_of` reads the table at the bin, and at the next one if there is one. Assumes nothing.
+use Prim.Native.Nat.{_+_}
+use native.Mathlib.Omega.{arith}
+use native.Mathlib.Numerals.{add-one}
+use borrow.Author.Needs.{needs}
+use borrow.Author.Tests.{le-leb, lt-leb}
+use Rattle.sweep.proofs.sizes_of.Statement.{statement}
+use Rattle.sweep.proofs.sizes_of.Tie as tie
+
+fits : tie.Need-cast-t15
+fits c = omega (arith, c .shared-slice-known3 .given (c .before .before .before .before .before .args .bin + 1))
+
+returns : tie.Need-returns
+returns c =
+    rw (c .before .before .before .bin-word .ensures, lt-leb _ _ (rw add-one at (c .before .if1 .taken)), add-one)
+
+returns-2 : tie.Need-returns-2
+returns-2 c = rw (c .before .before .bin-word .ensures, le-leb _ _ (rw add-one at (c .if1 .left)))
+
+pub sizes-of-spec : {M : Type 1} → statement M
+sizes-of-spec =
+    tie.close
+    (tie.spec
+    (λ c. search needs)
+    (λ c κs. search needs)
+    (λ c. search needs)
+    (λ c. search needs)
+    (λ c. search needs)
+    (λ c. search needs)
+    fits
+    returns
+    returns-2)
