@@ -73,31 +73,23 @@ module _ (bins : ℕ) (sizes heads tails : List ℕ) where
         unfolding isTabledM
         by-tails h ew = hold (hold (hold (hold long (held et ht)) (held eu hu)) (held ev h)) ew
 
--- the tally: top, patrol's place and donor were met
+-- the tally: top and donor were met
 module _ (t : Tally) (s : Summary) where
   pub no-top : t .tops ≡ 0 → false ≡ isSettledM t s
   unfolding isSettledM
-  no-top e = still _ (still _ {a = not (eqb (t .tops) 0)} (rw (eq-eqb (t .tops) 0 e)))
+  no-top e = still _ {a = not (eqb (t .tops) 0)} (rw (eq-eqb (t .tops) 0 e))
 
   module _ (top : t .tops ≡ 0 → ⊥) where
     topped : true ≡ not (eqb (t .tops) 0)
     topped = rw (ne-eqb (t .tops) 0 top)
 
-    pub no-patrol : t .patrols ≡ 0 → false ≡ isSettledM t s
+    pub no-donor : s .donor .0 ≡ 0 → true ≡ isSettledM t s
     unfolding isSettledM
-    no-patrol e = still _ (hold topped (rw (eq-eqb (t .patrols) 0 e)))
+    no-donor e = hold topped (rw (eq-eqb (s .donor .0) 0 e))
 
-    module _ (patrol : t .patrols ≡ 0 → ⊥) where
-      placed : true ≡ (not (eqb (t .tops) 0) && not (eqb (t .patrols) 0))
-      placed = hold topped (rw (ne-eqb (t .patrols) 0 patrol))
-
-      pub no-donor : s .donor .0 ≡ 0 → true ≡ isSettledM t s
-      unfolding isSettledM
-      no-donor e = hold placed (rw (eq-eqb (s .donor .0) 0 e))
-
-      pub by-donors : (s .donor .0 ≡ 0 → ⊥) → not (eqb (t .donors) 0) ≡ isSettledM t s
-      unfolding isSettledM
-      by-donors n = hold placed (rw (ne-eqb (s .donor .0) 0 n))
+    pub by-donors : (s .donor .0 ≡ 0 → ⊥) → not (eqb (t .donors) 0) ≡ isSettledM t s
+    unfolding isSettledM
+    by-donors n = hold topped (rw (ne-eqb (s .donor .0) 0 n))
 
 -- what both walks come to, r. It is a record, so that the checker finds by itself what was lent to them
 pub record Walked (ws table heads tails : List ℕ) (s : Summary) (r : Audit) : Type 0 where

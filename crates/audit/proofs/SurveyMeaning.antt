@@ -1,15 +1,13 @@
 -- The walk of the chain and four tests after it find exactly the check's facts about the chain (`found-facts`, `facts-found`),
 -- and its counts are the check's counts. Assumes nothing.
 use mathlib.Core.Path.{_≡_, refl, sym, _∙_}
-use mathlib.Core.Bool.{Bool, true, false, cond}
+use mathlib.Core.Bool.{true, cond}
 use mathlib.Core.List.{List, [], _∷_, List·Memᴰ·head, List·Memᴰ·tail, List·Memᴰ·not-nil}
 use Prim.Native.Nat.{ℕ, _+_, _-_, _%_, _≤_, _<_}
 use native.Mathlib.Omega.{arith}
-use lib.Dec.{eqb}
 use lib.ListN.{length}
-use borrow.Author.Tests.{eq-eqb, eqb-true}
 use Rattle.lists.specs.Lists.{Mem, headOr, lastOr, keep}
-use Rattle.lists.proofs.ListsLaws.{Decides, number-is, at-most, less, meaning, both, each-cons}
+use Rattle.lists.proofs.ListsLaws.{Decides, number-is, at-most, less, meaning, both, each-cons, for-some}
 use Rattle.lists.proofs.TotalLaws.{total-ones, some-of-total, total-of-some, total-kept}
 use Rattle.record.specs.declared.heap.Heap.{Heap}
 use Rattle.record.specs.declared.kinds.Kind.{Kind}
@@ -18,12 +16,12 @@ use Rattle.record.specs.Heap.{summaryOf}
 use Rattle.region.specs.Words.{word, forward, backward, size, nextInBin, previousInBin, bin}
 use Rattle.rules.specs.Shape.{Entry, flagsAt, shape}
 use Rattle.rules.specs.Kinds.{kindOf, ordinary, isFree, ordinaryKind, freeKind, outside}
-use Rattle.rules.specs.Check.{Chained, Ended, Backed, Sound, Unbinned, unbinned, Reserved, TopIs, DonorIs, freeBytes, IsChunk}
+use Rattle.rules.specs.Check.{Chained, Ended, Backed, Sound, Unbinned, unbinned, Reserved, TopIs, DonorIs, freeBytes, IsChunk, isChunk}
 use Rattle.rules.proofs.ChainLaws.{same-place, Chain, shape-chain}
 use Rattle.rules.proofs.KindsLaws.{Being, being, kind-start, kind-end, kind-top, kind-donor}
 use Rattle.survey.specs.declared.Tally.{Tally}
 use Rattle.survey.specs.Chunks.{isBackedM, isSizedM, isStartM, isEndM, isDonorM, isTopM, isSoundM, soundAt}
-use Rattle.survey.specs.Survey.{shareOf, atPatrolM, allSound, tallyOf}
+use Rattle.survey.specs.Survey.{shareOf, allSound, tallyOf}
 
 -- the facts of a heap that passes which speak of the chain alone
 pub record ChainFacts (ws : List ℕ) (h : Heap) (es : List Entry) : Type 0 where
@@ -45,7 +43,7 @@ pub record Found (ws : List ℕ) (h : Heap) : Type 0 where
   pub end : lastOr outside (shape ws (h .bytes)) .place + 8 ≡ h .bytes
   pub top : 0 < tallyFor h (shape ws (h .bytes)) .tops
   pub donor : 0 < h .donor .0 → 0 < tallyFor h (shape ws (h .bytes)) .donors
-  pub patrol : 0 < tallyFor h (shape ws (h .bytes)) .patrols
+  pub patrol : isChunk (shape ws (h .bytes)) (h .patrol .0) ≡ true
 
 -- only a top chunk counts as one, and only a donor
 counted-as : (k : Kind) (s : ℕ) → (0 < shareOf k s .tops → Top ≡ k) × (0 < shareOf k s .donors → Donor ≡ k)
@@ -56,13 +54,9 @@ counted-as Donor s = (λ l. absurd (omega arith), λ l. refl)
 counted-as Top s = (λ l. refl, λ l. absurd (omega arith))
 counted-as End s = (λ l. absurd (omega arith), λ l. absurd (omega arith))
 
--- a chunk that is counted at a place is there
-counted-at : (patrol c : ℕ) → 0 < atPatrolM patrol c → c ≡ patrol
-counted-at patrol c l = go (eqb c patrol) refl l
-  where
-    go : (t : Bool) → eqb c patrol ≡ t → 0 < cond t 1 0 → c ≡ patrol
-    go true q l = eqb-true c patrol q
-    go false q l = absurd (omega arith)
+-- a chunk of the list is at the place
+chunk-iff : (es : List Entry) (c : ℕ) → Decides (isChunk es c) (IsChunk es c)
+chunk-iff es c = for-some (λ (e : Entry). number-is (e .place) c) es
 
 module _ (ws : List ℕ) (h : Heap) where
   -- the size is enough, and the size word says it
@@ -189,7 +183,7 @@ module _ (ws : List ℕ) (h : Heap) where
         donor = λ some.
             let (e, m, counted) = some-of-total _ es (f .donor some) in
             (e, m, donor-is e (seen e m) (counted-as _ _ .1 counted));
-        patrol = let (e, m, counted) = some-of-total _ es (f .patrol) in (e, m, counted-at (h .patrol .0) (e .place) counted);
+        patrol = chunk-iff es (h .patrol .0) .0 (f .patrol);
       }
 
   -- the other way round: each chunk is as its kind asks
@@ -260,7 +254,7 @@ module _ (ws : List ℕ) (h : Heap) where
           end = facts .chain .reachesEnd;
           top = let (e, m, top) = facts .top in counts-top e m top;
           donor = λ some. let (e, m, donor) = facts .donor some in counts-donor e m donor;
-          patrol = let (e, m, q) = facts .patrol in total-of-some _ m (rw (eq-eqb (e .place) (h .patrol .0) q) (omega arith));
+          patrol = chunk-iff es (h .patrol .0) .1 (facts .patrol);
         }
 
 -- what a chunk of each kind counts for

@@ -9,7 +9,7 @@ use native.Mathlib.Omega.{arith}
 use borrow.Author.Tests.{ne-eqb}
 use lib.ListN.{length, getD}
 use Rattle.lists.specs.Lists.{Mem, headOr, lastOr, total, numbersFrom, gathered, Distinct}
-use Rattle.lists.proofs.ListsLaws.{Decides, number-is, both, both-if, meaning}
+use Rattle.lists.proofs.ListsLaws.{Decides, number-is, less, both, both-if, meaning}
 use Rattle.lists.proofs.CountLaws.{distinct-fits, distinct-covers, gathered-length, gathered-from, gathered-has, gathered-once}
 use Rattle.marks.specs.Marks.{marked, flipped}
 use Rattle.marks.proofs.MarksLaws.{flip-same, flip-other, length-flipped}
@@ -20,7 +20,6 @@ use Rattle.region.specs.Words.{word, size, nextInBin, previousInBin, bin}
 use Rattle.rules.specs.Check.{Linked}
 use Rattle.rules.specs.Shape.{membersFrom}
 use Rattle.rules.proofs.ShapeLaws.{read-head}
-use Rattle.sweep.proofs.SweepLaws.{tested, off-eights}
 use Rattle.sweep.specs.Sweep.{flipAll, isListedM, combed, beyond, listAt, allWhole}
 
 module _ (ws table : List ℕ) (valid : ValidTable table) (all : List ℕ) where
@@ -43,22 +42,6 @@ module _ (ws table : List ℕ) (valid : ValidTable table) (all : List ℕ) where
     pub bins : word ws c bin ≡ i % 32 * 8
     pub takes : binOf table (word ws c size) ≡ Bin i
 
-  -- the five tests of a member decide that
-  listed-iff : (i : ℕ) (ms met : List ℕ) → Marks ms met → (p c : ℕ) → Decides (isListedM ws table i ms p c) (MemberIs i met p c)
-  unfolding isListedM
-  listed-iff i ms met k p c = go (ℕ-discrete (c % 8) 0)
-    where
-      go : Dec (c % 8 ≡ 0) → Decides (isListedM ws table i ms p c) (MemberIs i met p c)
-      go (yes e) =
-          meaning
-          (both (both (both (both (number-is (c % 8) 0) (k c e)) (number-is (word ws c bin) (i % 32 * 8)))
-          (number-is (word ws c previousInBin) p)) (takes-iff table valid i (word ws c size)))
-          (λ ((((eight, (known, new)), bins), back), takes).
-          record { eight = eight; known = known; new = new; bins = bins; back = back; takes = takes })
-          (λ m. ((((m .eight, (m .known, m .new)), m .bins), m .back), m .takes))
-      go (no n) =
-          (λ h. absurd (false≢true (tested (off-eights n) ∙ h)), λ m. absurd (n (m .eight)))
-
   -- all of a list, one behind the other
   abbrev pub CombedIs : ℕ → List ℕ → ℕ → List ℕ → Type 0
   CombedIs i met p [] = Unit {0}
@@ -69,7 +52,20 @@ module _ (ws table : List ℕ) (valid : ValidTable table) (all : List ℕ) where
   pushed [] met = met
   pushed (c ∷ cs) met = pushed cs (c ∷ met)
 
-  module _ (bounded : (c : ℕ) → Mem c all → c < 65536) where
+  -- every chunk of `all` has a whole header below the heap bytes
+  module _ (bytes : ℕ) (small : bytes ≤ 65536) (bounded : (c : ℕ) → Mem c all → c + 16 < bytes) where
+    -- the tests of a member decide that it is one
+    listed-iff : (i : ℕ) (ms met : List ℕ) → Marks ms met → (p c : ℕ) → Decides (isListedM ws table i bytes ms p c) (MemberIs i met p c)
+    unfolding isListedM
+    listed-iff i ms met k p c =
+        meaning
+        (both (both (both (both-if (both (number-is (c % 8) 0) (less (c + 16) bytes)) (λ (eight, below). k c eight))
+        (number-is (word ws c bin) (i % 32 * 8)))
+        (number-is (word ws c previousInBin) p)) (takes-iff table valid i (word ws c size)))
+        (λ (((((eight, below), (known, new)), bins), back), takes).
+        record { eight = eight; known = known; new = new; bins = bins; back = back; takes = takes })
+        (λ m. (((((m .eight, bounded c (m .known)), (m .known, m .new)), m .bins), m .back), m .takes))
+
     -- meeting a chunk clears its mark and no other
     marks-step : (i : ℕ) (ms met : List ℕ) (p c : ℕ) → length ms ≡ 256 → Marks ms met → MemberIs i met p c → Marks (flipped ms c) (c ∷ met)
     marks-step i ms met p c l k m d e = go (ℕ-discrete d c)
@@ -94,7 +90,7 @@ module _ (ws table : List ℕ) (valid : ValidTable table) (all : List ℕ) where
             (meaning (k d e) (λ (known, unmet). (known, out n unmet)) (λ (known, unmet). (known, λ q. unmet (List·Memᴰ·tail q))))
 
     -- so the walk of a list comes through exactly if all its members are right
-    combed-iff : (i : ℕ) (cs ms met : List ℕ) (p : ℕ) → length ms ≡ 256 → Marks ms met → Decides (combed ws table i ms p cs) (CombedIs i met p cs)
+    combed-iff : (i : ℕ) (cs ms met : List ℕ) (p : ℕ) → length ms ≡ 256 → Marks ms met → Decides (combed ws table i bytes ms p cs) (CombedIs i met p cs)
     combed-iff i [] ms met p l k = (λ h. tt, λ h. refl)
     combed-iff i (c ∷ cs) ms met p l k =
         both-if (listed-iff i ms met k p c)
@@ -167,11 +163,11 @@ module _ (ws table : List ℕ) (valid : ValidTable table) (all : List ℕ) where
   linked-ends [] c p l e = e
   linked-ends (d ∷ ds) c p (back, next, links) e = linked-ends ds (word ws d nextInBin) d links next
 
--- the lists of the bins 0 to n − 1, read from the heads with at most `steps` steps each
-module _ (ws table : List ℕ) (valid : ValidTable table) (all heads tails : List ℕ) (steps : ℕ)
-    (some : 0 < steps) (eights : (c : ℕ) → Mem c all → c % 8 ≡ 0) (bounded : (c : ℕ) → Mem c all → c < 65536) where
+-- the lists of the bins 0 to n − 1, read from the heads with at most `bytes` steps each
+module _ (ws table : List ℕ) (valid : ValidTable table) (all heads tails : List ℕ) (bytes : ℕ)
+    (heapSize : (0 < bytes) × (bytes ≤ 65536)) (eights : (c : ℕ) → Mem c all → c % 8 ≡ 0) (bounded : (c : ℕ) → Mem c all → c + 16 < bytes) where
   abbrev list : ℕ → List ℕ
-  list i = listAt ws table heads tails steps i
+  list i = listAt ws table heads tails bytes i
 
   -- one bin's list, whatever the marks
   pub record BinIs (i : ℕ) : Type 0 where
@@ -192,17 +188,17 @@ module _ (ws table : List ℕ) (valid : ValidTable table) (all heads tails : Lis
   AllCombed met b (suc n) = ListIs met b × AllCombed (pushed ws table valid all (list b) met) (suc b) n
 
   all-iff : (n b : ℕ) (ms met : List ℕ) → length ms ≡ 256 → Marks ws table valid all ms met
-      → Decides (allWhole ws table heads tails steps ms (numbersFrom b n)) (AllCombed met b n)
+      → Decides (allWhole ws table heads tails bytes ms (numbersFrom b n)) (AllCombed met b n)
   all-iff zero b ms met l k = (λ h. tt, λ h. refl)
   all-iff (suc n) b ms met l k =
       both-if
       (meaning
-      (both (both (combed-iff ws table valid all bounded b (list b) ms met 0 l k) (number-is (beyond ws (getD heads b 0) (list b)) 0))
+      (both (both (combed-iff ws table valid all bytes (heapSize .1) bounded b (list b) ms met 0 l k) (number-is (beyond ws (getD heads b 0) (list b)) 0))
       (number-is (getD tails b 0) (lastOr 0 (list b))))
       (λ ((combed, ends), tail). record { combed = combed; ends = ends; tail = tail })
       (λ q. ((q .combed, q .ends), q .tail)))
       (λ q.
-      let (marks, long) = marks-all ws table valid all bounded b (list b) ms met 0 l k (q .combed) in
+      let (marks, long) = marks-all ws table valid all bytes (heapSize .1) bounded b (list b) ms met 0 l k (q .combed) in
       all-iff n (suc b) (flipAll ms (list b)) (pushed ws table valid all (list b) met) long marks)
 
   -- a list as it is walked is the bin's, and the other way if none of its members was met
@@ -210,7 +206,7 @@ module _ (ws table : List ℕ) (valid : ValidTable table) (all heads tails : Lis
   list-bin met i q =
       record {
         tail = q .tail;
-        links = read-linked ws table valid all i steps (getD heads i 0) 0 met (q .ends) (q .combed);
+        links = read-linked ws table valid all i bytes (getD heads i 0) 0 met (q .ends) (q .combed);
         once = combed-once ws table valid all i (list i) met 0 (q .combed);
         members = λ c m. combed-new ws table valid all i (list i) met 0 (q .combed) c m .1;
       }
@@ -219,7 +215,7 @@ module _ (ws table : List ℕ) (valid : ValidTable table) (all heads tails : Lis
   bin-list met i q o =
       record {
         combed = linked-combed ws table valid all i (list i) met 0 (q .links) (q .once) (q .members) o eights;
-        ends = linked-ends ws table valid all (list i) (getD heads i 0) 0 (q .links) (read-head ws steps (getD heads i 0) some);
+        ends = linked-ends ws table valid all (list i) (getD heads i 0) 0 (q .links) (read-head ws bytes (getD heads i 0) (heapSize .0));
         tail = q .tail;
       }
 
@@ -267,7 +263,7 @@ module _ (ws table : List ℕ) (valid : ValidTable table) (all heads tails : Lis
 
   -- the walk comes through, and meets as many members as there are chunks
   pub record Combs (n : ℕ) (ms : List ℕ) : Type 0 where
-    pub whole : allWhole ws table heads tails steps ms (numbersFrom 0 n) ≡ true
+    pub whole : allWhole ws table heads tails bytes ms (numbersFrom 0 n) ≡ true
     pub count : total (λ i. length (list i)) (numbersFrom 0 n) % 2 ^ 32 ≡ length all
 
   module _ (n : ℕ) (ms : List ℕ) (few : length all < 2 ^ 32) (l : length ms ≡ 256) (marks : Marks ws table valid all ms [])

@@ -16,6 +16,7 @@ use Rattle.marks.proofs.MarksLaws.{length-flipped}
 use Rattle.record.specs.declared.heap.Heap.{Heap}
 use Rattle.record.specs.declared.heap.Summary.{Summary}
 use Rattle.record.specs.declared.kinds.Kind.{Kind}
+use Rattle.record.specs.declared.kinds.Kind.the-variants.{Ordinary}
 use Rattle.record.specs.Heap.{tableOf, summaryOf}
 use Rattle.region.specs.Words.{word, size}
 use Rattle.rules.specs.Check.{Tabled, Listed, InItsBin, BelongsTo, usedBytes, freeBytes}
@@ -24,13 +25,14 @@ use Rattle.rules.specs.Shape.{Entry, shape, binList, members, membersFrom}
 use Rattle.rules.proofs.BytesLaws.{bytes-shared}
 use Rattle.rules.proofs.CheckLaws.{table-bins}
 use Rattle.rules.proofs.ChainLaws.{shape-chain}
-use Rattle.rules.proofs.KindsLaws.{ordinary-free}
+use Rattle.rules.proofs.KindsLaws.{being-as, ordinary-kind, ordinary-free}
 use Rattle.rules.proofs.ShapeLaws.{shape-is}
+use Rattle.rules.proofs.TiledLaws.{chain-tiled, tiled-in}
 use Rattle.audit.specs.Audit.{isSettledM, isSharedM, noMarks, marksOf, metAll, walksWell}
-use Rattle.survey.specs.Survey.{allSound, wholeChain, markM, markAll}
+use Rattle.survey.specs.Survey.{markM, markAll}
 use Rattle.sweep.specs.Sweep.{listAt, allWhole}
 use Rattle.survey.specs.declared.Tally.{Tally}
-use Rattle.survey.proofs.SurveyLaws.{chunks-few}
+use Rattle.survey.proofs.SurveyLaws.{chunks-few, whole-iff}
 use Rattle.audit.proofs.SurveyMeaning.{ChainFacts, found-facts, facts-found, tally-ordinary, tally-free, tallyFor}
 use Rattle.audit.proofs.MarksMeaning.{ordinaries, ordinaries-once, marks-are}
 use Rattle.audit.proofs.SweepMeaning.{Marks, MemberFacts, BinIs, Combs, Covered, combs-bins, bins-combs}
@@ -51,21 +53,14 @@ marked-long ms k c = go (ordinaryKind k)
     go true = length-flipped ms c
     go false = refl
 
--- the walk of the chain: every chunk is sound, and the last is the end chunk
-whole-iff : (ws : List ℕ) (s : Summary)
-    → Decides (wholeChain ws s) ((allSound ws s 0 (shape ws (s .bytes)) ≡ true) × (lastOr outside (shape ws (s .bytes)) .place + 8 ≡ s .bytes))
-unfolding wholeChain
-whole-iff ws s = both (itself (allSound ws s 0 (shape ws (s .bytes)))) (number-is (lastOr outside (shape ws (s .bytes)) .place + 8) (s .bytes))
-
--- the tests after it
-settled-iff : (t : Tally) (s : Summary) → Decides (isSettledM t s) ((0 < t .tops) × (0 < t .patrols) × (0 < s .donor .0 → 0 < t .donors))
+-- the tests after the walk of the chain
+settled-iff : (t : Tally) (s : Summary) → Decides (isSettledM t s) ((0 < t .tops) × (0 < s .donor .0 → 0 < t .donors))
 unfolding isSettledM
 settled-iff t s =
     meaning
-    (both (both (denied (number-is (t .tops) 0)) (denied (number-is (t .patrols) 0)))
-    (or-else (number-is (s .donor .0) 0) (denied (number-is (t .donors) 0))))
-    (λ ((tops, patrols), donor). (omega arith, omega arith, λ l. donors donor l))
-    (λ (top, patrol, donor). ((λ e. omega arith, λ e. omega arith), back donor (ℕ-discrete (s .donor .0) 0)))
+    (both (denied (number-is (t .tops) 0)) (or-else (number-is (s .donor .0) 0) (denied (number-is (t .donors) 0))))
+    (λ (tops, donor). (omega arith, λ l. donors donor l))
+    (λ (top, donor). (λ e. omega arith, back donor (ℕ-discrete (s .donor .0) 0)))
   where
     donors : (s .donor .0 ≡ 0) ⊎ (t .donors ≡ 0 → ⊥) → 0 < s .donor .0 → 0 < t .donors
     donors (inl e) l = absurd (omega arith)
@@ -82,8 +77,8 @@ module _ (ws : List ℕ) (h : Heap) (big : 40 ≤ h .bytes) (small : h .bytes �
   abbrev all : List ℕ
   all = ordinaries h es
 
-  some : 0 < h .bytes
-  some = omega arith
+  sized-well : (0 < h .bytes) × (h .bytes ≤ 65536)
+  sized-well = (omega arith, small)
 
   -- the marks after the walk of the chain
   abbrev markedAll : List ℕ
@@ -99,7 +94,7 @@ module _ (ws : List ℕ) (h : Heap) (big : 40 ≤ h .bytes) (small : h .bytes �
       let (member, isOrdinary) = kept-from (ordinary h) es kept in
       (e, member, (here, isOrdinary))
 
-  -- there are few of them, and the bitmap has a mark for each
+  -- there are few of them
   few : length all < 2 ^ 32
   few =
       let a = kept-few (ordinary h) es in
@@ -107,15 +102,21 @@ module _ (ws : List ℕ) (h : Heap) (big : 40 ≤ h .bytes) (small : h .bytes �
       let d : length all ≡ length (keep (ordinary h) es) = length-map (keep (ordinary h) es) (λ (d : Entry). d .place) in
       omega arith
 
-  bounded : (c : ℕ) → Mem c all → c < 65536
-  bounded c m =
-      let (e, member, (here, isOrdinary)) = of-known c m in
-      let i = shape-chain ws (h .bytes) .inside (omega arith) e member in
-      omega arith
-
   module _ (facts : ChainFacts ws h es) where
     eights : (c : ℕ) → Mem c all → c % 8 ≡ 0
     eights c m = let (e, member, (here, isOrdinary)) = of-known c m in rw here at (facts .chain .eights e member)
+
+    -- the header of each is inside the heap: it lies between the ends, and has at least 24 bytes
+    bounded : (c : ℕ) → Mem c all → c + 16 < h .bytes
+    bounded c m =
+        let (e, member, (here, isOrdinary)) = of-known c m in
+        let (low, notEnd, free) = being-as h e Ordinary (ordinary-kind (kindOf h e) isOrdinary) in
+        let (above, large, below) = tiled-in 0 (h .bytes) es (chain-tiled ws (h .bytes) (omega arith) .0) member in
+        let eight = facts .chain .eights e member in
+        let endEight = facts .chain .eights (lastOr outside es) (shape-chain ws (h .bytes) .has-last outside) in
+        let end = facts .chain .reachesEnd in
+        let room = facts .chunks e member .room low (omega arith) in
+        omega arith
 
     -- the size word of an ordinary chunk
     sized : (e : Entry) → Mem e es → ordinary h e ≡ true → word ws (e .place) size ≡ e .size
@@ -127,7 +128,7 @@ module _ (ws : List ℕ) (h : Heap) (big : 40 ≤ h .bytes) (small : h .bytes �
         meaning (marks-are ws h small facts c e) (λ m. (m, λ k. List·Memᴰ·not-nil k)) (λ t. t .0)
 
     abbrev HasBin : ℕ → Type 0
-    HasBin i = BinIs ws (tableOf h) (table .valid) all (h .heads) (h .tails) (h .bytes) some eights bounded i
+    HasBin i = BinIs ws (tableOf h) (table .valid) all (h .heads) (h .tails) (h .bytes) sized-well eights bounded i
 
     -- a bin's list as the walk sees it, and as the check states it
     to-listed : (i : ℕ) → i < h .bins → HasBin i → Listed ws h es i (binList ws h i)
@@ -172,7 +173,7 @@ module _ (ws : List ℕ) (h : Heap) (big : 40 ≤ h .bytes) (small : h .bytes �
 
     -- every ordinary chunk is in a list, as the walk sees it, and as the check states it
     abbrev AllListed : Type 0
-    AllListed = Covered ws (tableOf h) (table .valid) all (h .heads) (h .tails) (h .bytes) some eights bounded (h .bins)
+    AllListed = Covered ws (tableOf h) (table .valid) all (h .heads) (h .tails) (h .bytes) sized-well eights bounded (h .bins)
 
     covered-binned : ((i : ℕ) → i < h .bins → HasBin i) → AllListed
         → (e : Entry) → Mem e es → ordinary h e ≡ true → InItsBin ws h e
@@ -207,7 +208,7 @@ module _ (ws : List ℕ) (h : Heap) (big : 40 ≤ h .bytes) (small : h .bytes �
       → tallyFor h es .free + h .used + 16 ≡ h .bytes → Rest ws h
   rest facts d e shared =
       let (listed, covered) =
-      combs-bins ws (tableOf h) (table .valid) all (h .heads) (h .tails) (h .bytes) some (eights facts) bounded (h .bins) markedAll few
+      combs-bins ws (tableOf h) (table .valid) all (h .heads) (h .tails) (h .bytes) sized-well (eights facts) (bounded facts) (h .bins) markedAll few
       marks-long (marks facts) (ordinaries-once ws h)
       (record {
         whole = rw (table-bins h table) at d;
@@ -221,9 +222,9 @@ module _ (ws : List ℕ) (h : Heap) (big : 40 ≤ h .bytes) (small : h .bytes �
       }
 
   combs : (r : Rest ws h)
-      → Combs ws (tableOf h) (table .valid) all (h .heads) (h .tails) (h .bytes) some (eights (r .chain)) bounded (h .bins) markedAll
+      → Combs ws (tableOf h) (table .valid) all (h .heads) (h .tails) (h .bytes) sized-well (eights (r .chain)) (bounded (r .chain)) (h .bins) markedAll
   combs r =
-      bins-combs ws (tableOf h) (table .valid) all (h .heads) (h .tails) (h .bytes) some (eights (r .chain)) bounded (h .bins) markedAll few
+      bins-combs ws (tableOf h) (table .valid) all (h .heads) (h .tails) (h .bytes) sized-well (eights (r .chain)) (bounded (r .chain)) (h .bins) markedAll few
       marks-long (marks (r .chain)) (ordinaries-once ws h)
       (λ i l. of-listed (r .chain) i l (r .bins i l)) (binned-covered (r .chain) (r .binned))
 
@@ -238,13 +239,13 @@ module _ (ws : List ℕ) (h : Heap) (big : 40 ≤ h .bytes) (small : h .bytes �
       (number-is (tallyFor h es .free + h .used + 16) (h .bytes)))
       (itself (allWhole ws (tableOf h) (h .heads) (h .tails) (h .bytes) markedAll (numbersFrom 0 (length (tableOf h))))))
       (number-is (metAll ws (tableOf h) (h .heads) (h .tails) (summaryOf h)) (tallyFor h es .ordinary)))
-      (λ (((((sound, end), (top, patrol, donor)), shared), whole), count).
+      (λ ((((((sound, end), patrol), (top, donor)), shared), whole), count).
       rest (found-facts ws h big (record { sound = sound; end = end; top = top; donor = donor; patrol = patrol }))
       whole (count ∙ tally-ordinary h es) shared)
       (λ r.
       let f = facts-found ws h big (r .chain) in
       let c = combs r in (
-        ((((f .sound, f .end), (f .top, f .patrol, f .donor)), omega (arith, shared-out (r .chain), tally-free h es, r .used)), subst (λ (n : ℕ). allWhole ws (tableOf h) (h .heads) (h .tails) (h .bytes) markedAll (numbersFrom 0 n) ≡ true) (sym (table-bins h table)) (c .whole)),
+        (((((f .sound, f .end), f .patrol), (f .top, f .donor)), omega (arith, shared-out (r .chain), tally-free h es, r .used)), subst (λ (n : ℕ). allWhole ws (tableOf h) (h .heads) (h .tails) (h .bytes) markedAll (numbersFrom 0 n) ≡ true) (sym (table-bins h table)) (c .whole)),
         subst (λ (n : ℕ). total (λ i. length (listAt ws (tableOf h) (h .heads) (h .tails) (h .bytes) i)) (numbersFrom 0 n) % 2 ^ 32 ≡ length all) (sym (table-bins h table)) (c .count)
             ∙ length-map (keep (ordinary h) es) (λ (d : Entry). d .place) ∙ sym (tally-ordinary h es),
       ))

@@ -33,7 +33,7 @@ isTabledM bins sizes heads tails =
 
 unfoldable pub isSettledM : Tally → Summary → Bool
 isSettledM t s =
-    not (eqb (t .tops) 0) && not (eqb (t .patrols) 0) && (eqb (s .donor .0) 0 || not (eqb (t .donors) 0))
+    not (eqb (t .tops) 0) && (eqb (s .donor .0) 0 || not (eqb (t .donors) 0))
 
 -- the used bytes of the record, so many free bytes, and start and end together are the heap bytes
 unfoldable pub isSharedM : ℕ → Summary → Bool

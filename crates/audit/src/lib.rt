@@ -62,14 +62,11 @@ pub fn is_tabled<'a>(bins: usize, sizes: &[u32], heads: &'a [u32], tails: &'a [u
     is_unused(tails, bins)
 }
 
-// What the walk of the chain must have met: a top, a chunk at the patrol's place, and a donor if the record names one.
+// What the walk of the chain must have met: a top, and a donor if the record names one.
 pub fn is_settled(tally: Tally, summary: Summary) -> bool
     ensures { λ r. ⌜ r ≡ isSettledM tally summary ⌝ }
 {
     if tally.tops == 0 {
-        return false;
-    }
-    if tally.patrols == 0 {
         return false;
     }
     if summary.donor.0 == 0 {
