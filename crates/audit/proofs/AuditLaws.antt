@@ -2,13 +2,16 @@
 use mathlib.Core.Path.{_≡_, refl, sym, _∙_, ap, subst}
 use mathlib.Core.Bool.{Bool, true, false, not, _&&_}
 use mathlib.Core.List.{List}
-use Prim.Native.Nat.{ℕ, suc, _≤_, _<_}
+use Prim.Native.Nat.{ℕ, zero, suc, _≤_, _<_}
+use native.Mathlib.Omega.{arith}
+use lib.Bits.{bitOr, or-add-and, and-le-r}
 use lib.Dec.{eqb, leb}
 use lib.ListN.{length, getD, take, drop-of-length-le}
 use lib.Seq.{drop-cons}
 use borrow.Author.Tests.{eq-eqb, ne-eqb, le-leb, lt-leb, not-true, not-false}
 use Rattle.lists.specs.Lists.{numbersFrom}
 use Rattle.record.specs.declared.heap.Summary.{Summary}
+use Rattle.record.specs.Heap.{places}
 use Rattle.record.specs.Table.{validTable}
 use Rattle.rules.specs.Check.{unusedFrom}
 use Rattle.survey.specs.declared.Survey.{Survey}
@@ -20,7 +23,7 @@ use Rattle.sweep.specs.declared.Sweep.the-variants.{Clean, Dirty}
 use Rattle.sweep.specs.Sweep.{allWhole, CleanIs, SweepIs}
 use Rattle.audit.specs.declared.Audit.{Audit}
 use Rattle.audit.specs.declared.Audit.the-variants.{Passes, Fails}
-use Rattle.audit.specs.Audit.{isTabledM, isSettledM, isSharedM, noMarks, tally, marksOf, walksWell, WalkedIs}
+use Rattle.audit.specs.Audit.{Placed, isTabledM, isSettledM, isSharedM, noMarks, tally, marksOf, walksWell, WalkedIs}
 
 -- a conjunction of many parts: a part fails, and the rest does not matter; a part holds, and the next decides
 still : (b : Bool) {a : Bool} → false ≡ a → false ≡ (a && b)
@@ -36,14 +39,57 @@ failed {t} e h = sym (not-true t h) ∙ e
 pub held : {t a : Bool} → t ≡ a → not t ≡ false → true ≡ a
 held {t} e h = sym (not-false t h) ∙ e
 
--- the rest of an array is unused, one place after the other
-module _ (l : List ℕ) (i : ℕ) where
-  pub unused-goes : i < length l → (t : Bool) → ((t && eqb (getD l i 0) 0) && unusedFrom (suc i) l) ≡ (t && unusedFrom i l)
-  unused-goes h true = rw (drop-cons l i 0 h)
-  unused-goes h false = refl
+-- an or of numbers is 0 exactly if all of them are: of two, of four
+or-zero : (a b : ℕ) → eqb (bitOr a b) 0 ≡ (eqb a 0 && eqb b 0)
+or-zero zero b = refl
+or-zero (suc a) b =
+    rw (ne-eqb (bitOr (suc a) b) 0 (λ e. omega (arith, or-add-and (suc a) b, and-le-r (suc a) b)), ne-eqb (suc a) 0 (λ e. omega arith))
 
-  pub unused-ends : length l ≤ i → unusedFrom i l ≡ true
-  unused-ends h = rw (drop-of-length-le l h)
+four-zero : (a b c d : ℕ) → eqb (bitOr (bitOr (bitOr a b) c) d) 0 ≡ (eqb a 0 && eqb b 0 && eqb c 0 && eqb d 0)
+four-zero a b c d = rw (or-zero (bitOr (bitOr a b) c) d, or-zero (bitOr a b) c, or-zero a b)
+
+-- four tests, of which the middle two change their places
+swap : (a b c d : Bool) → ((a && b) && (c && d)) ≡ ((a && c) && (b && d))
+swap true true c d = refl
+swap true false true d = refl
+swap true false false d = refl
+swap false b c d = refl
+
+-- of three arrays, whether a place is 0 (a, b, c) and whether all past it are (x, y, z): the two tests of each array stand together
+array-by-array : (t a b c x y z : Bool) → ((t && a && b && c) && (x && y && z)) ≡ (t && ((a && x) && (b && y) && (c && z)))
+array-by-array true a b c x y z = swap (a && b) c (x && y) z ∙ rw (swap a b x y)
+array-by-array false a b c x y z = refl
+
+-- the rest of an array is unused: its next place, and what is past it
+unused-one : (l : List ℕ) (i : ℕ) → i < length l → unusedFrom i l ≡ (eqb (getD l i 0) 0 && unusedFrom (suc i) l)
+unused-one l i h = rw (drop-cons l i 0 h)
+
+-- the rest of the three arrays is unused
+abbrev pub unusedAll : ℕ → List ℕ → List ℕ → List ℕ → Bool
+unusedAll i sizes heads tails = unusedFrom i sizes && unusedFrom i heads && unusedFrom i tails
+
+-- one place after the other; seen is the or of all words up to there
+module _ (sizes heads tails : List ℕ) (p : Placed sizes heads tails) (i : ℕ) where
+  pub unused-goes : i < places → (seen : ℕ)
+      → (eqb (bitOr (bitOr (bitOr seen (getD sizes i 0)) (getD heads i 0)) (getD tails i 0)) 0 && unusedAll (suc i) sizes heads tails)
+      ≡ (eqb seen 0 && unusedAll i sizes heads tails)
+  unused-goes h seen =
+      rw (
+        four-zero seen (getD sizes i 0) (getD heads i 0) (getD tails i 0),
+        unused-one sizes i (omega (arith, p .sizePlaces)),
+        unused-one heads i (omega (arith, p .headPlaces)),
+        unused-one tails i (omega (arith, p .tailPlaces)),
+      )
+      (array-by-array (eqb seen 0) (eqb (getD sizes i 0) 0) (eqb (getD heads i 0) 0) (eqb (getD tails i 0) 0) (unusedFrom (suc i) sizes)
+      (unusedFrom (suc i) heads) (unusedFrom (suc i) tails))
+
+  pub unused-ends : places ≤ i → unusedAll i sizes heads tails ≡ true
+  unused-ends h =
+      rw (
+        drop-of-length-le sizes {i = i} (omega (arith, p .sizePlaces)),
+        drop-of-length-le heads {i = i} (omega (arith, p .headPlaces)),
+        drop-of-length-le tails {i = i} (omega (arith, p .tailPlaces)),
+      )
 
 -- the table, and the unused places of the three arrays
 module _ (bins : ℕ) (sizes heads tails : List ℕ) where
@@ -59,19 +105,9 @@ module _ (bins : ℕ) (sizes heads tails : List ℕ) where
     unfolding isTabledM
     not-valid h = still _ (still _ (still _ (hold long (failed et h))))
 
-    module _ (ht : not t ≡ false) {u : Bool} (eu : u ≡ unusedFrom bins sizes) where
-      pub sizes-used : not u ≡ true → false ≡ isTabledM bins sizes heads tails
-      unfolding isTabledM
-      sizes-used h = still _ (still _ (hold (hold long (held et ht)) (failed eu h)))
-
-      module _ (hu : not u ≡ false) {v : Bool} (ev : v ≡ unusedFrom bins heads) where
-        pub heads-used : not v ≡ true → false ≡ isTabledM bins sizes heads tails
-        unfolding isTabledM
-        heads-used h = still _ (hold (hold (hold long (held et ht)) (held eu hu)) (failed ev h))
-
-        pub by-tails : not v ≡ false → {w : Bool} → w ≡ unusedFrom bins tails → w ≡ isTabledM bins sizes heads tails
-        unfolding isTabledM
-        by-tails h ew = hold (hold (hold (hold long (held et ht)) (held eu hu)) (held ev h)) ew
+    pub by-unused : not t ≡ false → {u : Bool} → u ≡ unusedAll bins sizes heads tails → u ≡ isTabledM bins sizes heads tails
+    unfolding isTabledM
+    by-unused h eu = rw (← hold long (held et h)) eu
 
 -- the tally: top and donor were met
 module _ (t : Tally) (s : Summary) where

@@ -1,5 +1,6 @@
 // The check, in time linear in the chunks: one walk of the chain that marks each ordinary chunk, one walk of each
 // bin's list that clears the marks. Nothing is written into the region.
+ghost use mathlib.Core.Bool.{_&&_};
 ghost use mathlib.Core.Path.{_≡_};
 ghost use Rattle.audit.specs.Audit.{isSettledM, isSharedM, isTabledM, Placed, WalkedIs, LookIs};
 ghost use Rattle.chain.specs.Length.{Lent};
@@ -12,6 +13,7 @@ use record::answers::Answer;
 use record::answers::Counts;
 use record::answers::Refusal;
 use record::heap::Heap;
+use record::heap::PLACES;
 use record::heap::Summary;
 use record::table::valid;
 use region::END_SIZE;
@@ -29,17 +31,19 @@ pub enum Audit {
     Fails,
 }
 
-// From a place of an array on there is nothing but 0. The loop has no early exit, so that the compiler can test several places at a time.
-pub fn is_unused(array: &[u32], from: usize) -> bool
-    ensures { λ r. ⌜ r ≡ unusedFrom from (now (array .entry)) ⌝ }
+// From a place on the three arrays hold nothing but 0. One loop goes along all three, with no early exit, so that the compiler can test
+// several places at a time.
+pub fn is_unused<'a>(sizes: &[u32], heads: &'a [u32], tails: &'a [u32], from: usize) -> bool
+    requires { ⌜ Placed (now sizes) (now heads) (now tails) ⌝ }
+    ensures { λ r. ⌜ r ≡ (unusedFrom from (now (sizes .entry)) && unusedFrom from (now (heads .entry)) && unusedFrom from (now (tails .entry))) ⌝ }
 {
-    let mut clean = true;
+    let mut seen = 0;
     let mut i = from;
-    while i < array.len() {
-        clean = clean & (array[i] == 0);
+    while i < PLACES {
+        seen = seen | sizes[i] | heads[i] | tails[i];
         i += 1;
     }
-    clean
+    seen == 0
 }
 
 // The table is valid, and the places past the bin count are unused.
@@ -53,13 +57,7 @@ pub fn is_tabled<'a>(bins: usize, sizes: &[u32], heads: &'a [u32], tails: &'a [u
     if !valid(&sizes[..bins]) {
         return false;
     }
-    if !is_unused(sizes, bins) {
-        return false;
-    }
-    if !is_unused(heads, bins) {
-        return false;
-    }
-    is_unused(tails, bins)
+    is_unused(sizes, heads, tails, bins)
 }
 
 // What the walk of the chain must have met: a top, and a donor if the record names one.
