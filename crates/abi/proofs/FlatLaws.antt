@@ -8,7 +8,8 @@ use native.Mathlib.Omega.{arith}
 use lib.ListN.{length, getD, set, take, drop, length-drop, drop-of-length-le}
 use lib.Seq.{paste, paste-suc, length-paste, take-paste, take-all, take-length, length-take-le}
 use mir.Val.{boolByte}
-use Rattle.abi.specs.Flat.{recordWords}
+use Rattle.record.specs.Heap.{places, recordOf, summaryOf}
+use Rattle.abi.specs.Flat.{sizesFrom, headsFrom, tailsFrom, recordWords, recordIn}
 
 -- one more word
 pub copies-one : (to from after : List ℕ) (at i : ℕ) → at + length from ≤ length to → after ≡ paste to at from i → i < length from
@@ -18,6 +19,11 @@ copies-one to from after at i fits e l = rw (e, add-one i) (paste-suc to at from
 -- a part of the flat record
 pub part-length : (rs : List ℕ) (n : ℕ) → length rs ≡ recordWords → n + 32 ≤ recordWords → length (take 32 (drop n rs)) ≡ 32
 part-length rs n whole inside = length-take-le 32 (drop n rs) (omega (arith, length-drop n rs))
+
+-- the summary and the three arrays, as they stand in the words, make the record that the words say
+pub parts-are : (rs : List ℕ) → recordOf (summaryOf (recordIn rs)) (take places (drop sizesFrom rs)) (take places (drop headsFrom rs)) (take places (drop tailsFrom rs)) ≡ recordIn rs
+unfolding recordIn
+parts-are rs = refl
 
 -- a copy that fills all
 pub fills-whole : (to from : List ℕ) → length to ≡ 32 → length from ≡ 32 → paste to 0 from (length from) ≡ from

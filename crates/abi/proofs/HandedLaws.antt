@@ -3,24 +3,32 @@ use mathlib.Core.Path.{_≡_, refl, sym, ap, _∙_}
 use mathlib.Core.Bool.{Bool, true, false, cond}
 use mathlib.Core.List.{List}
 use Prim.Native.Nat.{ℕ, _<_, _≤_}
+use native.Mathlib.Omega.{arith}
 use lib.Dec.{eqb, ltb}
-use lib.ListN.{length, getD, set}
+use lib.ListN.{length, getD, set, take, drop}
 use borrow.Author.Tests.{eq-eqb, ne-eqb, le-leb, lt-leb}
 use Rattle.record.specs.declared.answers.Answer.{Answer}
 use Rattle.record.specs.declared.answers.Answer.the-variants.{Done, Granted, Returned, Told, ToldNone, Counted, Refused}
 use Rattle.record.specs.declared.answers.Refusal.the-variants.{HeapFails}
 use Rattle.record.specs.declared.answers.Reply.{Reply}
 use Rattle.record.specs.declared.heap.Heap.{Heap}
+use Rattle.record.specs.declared.heap.Summary.{Summary}
+use Rattle.record.specs.Heap.{places, summaryOf}
 use Rattle.rules.specs.Ask.{chunkAnswers, binAnswers, askedSpot, isThere, askRefusals, asked, askChunk, askBin}
 use Rattle.rules.specs.Draft.{asRead}
 use Rattle.rules.specs.Merge.{check}
 use Rattle.rules.specs.Outcome.{Outcome, Refusals, judged, heapFails}
 use Rattle.rules.specs.Statements.{Left, leftBy, Meets}
+use Rattle.audit.specs.declared.Audit.{Audit}
+use Rattle.audit.specs.Audit.{AuditIs, LookIs, answerOf}
+use Rattle.audit.proofs.AuditMeaning.{answer-is}
+use Rattle.heap.proofs.CallLaws.{checks}
 use Rattle.patrol.specs.declared.Toured.{Toured}
 use Rattle.patrol.specs.Tours.{leaving}
 use Rattle.rules.proofs.OutcomeLaws.{judged-so}
-use Rattle.abi.specs.Flat.{mergePlace, patrolPlace, recordWords, recordIn, recordOut, answerOut, refusalOut}
+use Rattle.abi.specs.Flat.{mergePlace, sizesFrom, headsFrom, tailsFrom, patrolPlace, recordWords, recordIn, recordOut, answerOut, refusalOut}
 use Rattle.abi.specs.Handed.{handed, handedBy, openedBy, patrolledBy, flatAfter}
+use Rattle.abi.proofs.FlatLaws.{parts-are, part-length}
 use Rattle.abi.proofs.BackLaws.{back-and-flat}
 
 -- the first word is what the call returns
@@ -106,6 +114,21 @@ unfolding askBin
 bin-stays ws q i h =
     let answers = binAnswers (asRead ws h .lists i) in
     judged-stays h (askRefusals (heapFails ws h) q answers (ltb i (h .bins))) (asked h q answers) refl
+
+-- the check of the record's parts, where they stand in the words, is that of the record that the words say
+module _ (ws rs : List ℕ) (whole : length rs ≡ recordWords) (found : Audit) {s : Summary} (q : s ≡ summaryOf (recordIn rs))
+    (look : LookIs ws s (take places (drop sizesFrom rs)) (take places (drop headsFrom rs)) (take places (drop tailsFrom rs)) found) where
+  looks : AuditIs ws (recordIn rs) found
+  looks =
+      rw (q, parts-are rs) at (look (part-length rs sizesFrom whole (omega arith)) (part-length rs headsFrom whole (omega arith)) (part-length rs tailsFrom whole (omega arith)))
+
+  pub tells-check : getD rs mergePlace 0 ≤ 1 → {said : Answer} {r : ℕ} {five : List ℕ} → said ≡ answerOf found
+      → (r ≡ refusalOut said) × (five ≡ answerOut said)
+      → handed r five rs ws ≡ handedBy ws rs (check ws (recordIn rs))
+  tells-check l {said} a told =
+      let h = recordIn rs in
+      tells ws rs whole l (check ws) (check-stays ws) (record { answer = said; heap = h }) refl
+      (checks ws h said (a ∙ answer-is ws h found looks)) told
 
 -- setup hands back its record, accepted or refused
 pub opens : (ws : List ℕ) (o : Outcome) (reply : Reply) {after five state : List ℕ} → Meets ws o reply after

@@ -6,6 +6,7 @@ ghost use lib.ListN.{length};
 ghost use lib.Seq.{paste};
 ghost use Rattle.abi.specs.Flat.{recordIn, recordOut, recordWords, complement, answerOut, refusalOut};
 ghost use Rattle.abi.specs.Handed.{flatAfter};
+ghost use Rattle.record.specs.Heap.{summaryOf};
 ghost use Rattle.record.specs.declared.answers.Answer.the-variants.{Refused};
 ghost use Rattle.record.specs.declared.answers.Refusal.the-variants.{HeapFails};
 use crate::ANSWER_WORDS;
@@ -16,6 +17,7 @@ use record::answers::Reply;
 use record::answers::number;
 use record::heap::Heap;
 use record::heap::PLACES;
+use record::heap::Summary;
 use region::Chunk;
 
 // Where the parts of the record stand: its scalars one after the other, then the sizes, heads and tails of the bins, and last the
@@ -32,11 +34,11 @@ pub const MERGE: usize = 4;
 
 const USED: usize = 5;
 
-const SIZES: usize = 6;
+pub const SIZES: usize = 6;
 
-const HEADS: usize = SIZES + PLACES;
+pub const HEADS: usize = SIZES + PLACES;
 
-const TAILS: usize = HEADS + PLACES;
+pub const TAILS: usize = HEADS + PLACES;
 
 pub const PATROL: usize = TAILS + PLACES;
 
@@ -55,6 +57,21 @@ fn copy(to: &mut [u32], at: usize, from: &[u32])
     }
 }
 
+// The record without its arrays, which a call can lend where they stand.
+pub fn unpack_summary(words: &[u32; RECORD_WORDS]) -> Summary
+    ensures { λ r. ⌜ r ≡ summaryOf (recordIn (now (words .entry))) ⌝ }
+{
+    Summary {
+        bytes: words[BYTES],
+        bins: words[BINS],
+        donor: Chunk(words[DONOR]),
+        top: Chunk(words[TOP]),
+        merge: words[MERGE] == 1,
+        used: words[USED],
+        patrol: Chunk(words[PATROL]),
+    }
+}
+
 pub fn unpack(words: [u32; RECORD_WORDS]) -> Heap
     ensures { λ r. ⌜ r ≡ recordIn words ⌝ }
     ensures { λ _. ⌜ length words ≡ recordWords ⌝ }
@@ -65,17 +82,21 @@ pub fn unpack(words: [u32; RECORD_WORDS]) -> Heap
     copy(&mut sizes, 0, &words[SIZES..HEADS]);
     copy(&mut heads, 0, &words[HEADS..TAILS]);
     copy(&mut tails, 0, &words[TAILS..PATROL]);
+    let summary = unpack_summary(&words);
+    let donor = summary.donor;
+    let top = summary.top;
+    let patrol = summary.patrol;
     Heap {
-        bytes: words[BYTES],
-        bins: words[BINS],
+        bytes: summary.bytes,
+        bins: summary.bins,
         sizes: sizes,
         heads: heads,
         tails: tails,
-        donor: Chunk(words[DONOR]),
-        top: Chunk(words[TOP]),
-        merge: words[MERGE] == 1,
-        used: words[USED],
-        patrol: Chunk(words[PATROL]),
+        donor: donor,
+        top: top,
+        merge: summary.merge,
+        used: summary.used,
+        patrol: patrol,
     }
 }
 

@@ -1,6 +1,7 @@
 // The calls for C, each with the record and the answer as flat words: include/kruzhvela.h declares them.
-// What a call does is in the crate heap, and how words say a record in flat. The record's words are called `state` here:
-// `record` is a word of the language of the proofs.
+// What a call does is in the crate heap, and how words say a record in flat. The check and the patrol are called in crates of their own
+// (audit, patrol), since they need not have the record whole. The record's words are called `state` here: `record` is a word of the
+// language of the proofs.
 ghost use mathlib.Core.Path.{_≡_};
 ghost use Rattle.abi.specs.Flat.{recordIn};
 ghost use Rattle.abi.specs.Handed.{handed, handedBy, openedBy, patrolledBy};
@@ -12,14 +13,20 @@ ghost use Rattle.rules.specs.Patrol.{patrol};
 ghost use Rattle.rules.specs.Reallocate.{reallocate};
 ghost use Rattle.rules.specs.Setup.{setup};
 use crate::flat::BYTES;
+use crate::flat::HEADS;
 use crate::flat::MERGE;
 use crate::flat::PATROL;
+use crate::flat::SIZES;
+use crate::flat::TAILS;
 use crate::flat::answer_words;
 use crate::flat::hand_back;
 use crate::flat::pack;
 use crate::flat::refuse_record;
 use crate::flat::tell;
 use crate::flat::unpack;
+use crate::flat::unpack_summary;
+use audit::answer_of;
+use audit::look;
 use patrol::tour;
 use region::Block;
 use region::Chunk;
@@ -140,6 +147,7 @@ pub extern "C" fn kz_set_merge(
     hand_back(reply, state, answer)
 }
 
+// The check is lent the record's arrays where they stand in the words, so that it copies none of them.
 #[no_mangle]
 pub extern "C" fn kz_check(
     region: &mut [u32],
@@ -151,10 +159,13 @@ pub extern "C" fn kz_check(
     if state[MERGE] > 1 {
         return refuse_record(answer);
     }
-    let heap = unpack(*state);
-    let reply = heap::check(region, heap);
-    let said = reply.answer;
-    tell(said, answer)
+    let summary = unpack_summary(state);
+    let words = &state[..];
+    let sizes = &words[SIZES..HEADS];
+    let heads = &words[HEADS..TAILS];
+    let tails = &words[TAILS..PATROL];
+    let found = look(region, summary, sizes, heads, tails);
+    tell(answer_of(found), answer)
 }
 
 #[no_mangle]

@@ -8,9 +8,8 @@ use native.Mathlib.Omega.{arith}
 use lib.ListN.{length, take}
 use lib.Seq.{length-take-le}
 use Rattle.lists.proofs.ListsLaws.{Decides, at-most, itself, both, not-so, zeros-from, meaning}
-use Rattle.record.specs.declared.answers.Answer.the-variants.{Counted, Refused}
+use Rattle.record.specs.declared.answers.Answer.the-variants.{Counted}
 use Rattle.record.specs.declared.answers.Counts.{Counts}
-use Rattle.record.specs.declared.answers.Refusal.the-variants.{HeapFails}
 use Rattle.record.specs.declared.heap.Heap.{Heap}
 use Rattle.record.specs.Heap.{tableOf, summaryOf}
 use Rattle.record.specs.Table.{validTable}
@@ -25,7 +24,7 @@ use Rattle.rules.proofs.EvenLaws.{evenPart, even-passes, even-fits, even-agrees
 use Rattle.sweep.specs.Sweep.{BothEnds}
 use Rattle.audit.specs.declared.Audit.{Audit}
 use Rattle.audit.specs.declared.Audit.the-variants as found
-use Rattle.audit.specs.Audit.{Placed, isTabledM, countsIn, walksWell, WalkedIs, AuditIs}
+use Rattle.audit.specs.Audit.{Placed, isTabledM, countsIn, walksWell, WalkedIs, AuditIs, answerOf}
 use Rattle.audit.proofs.SurveyMeaning.{tally-ordinary, tally-free, tallyFor}
 use Rattle.audit.proofs.WalksMeaning.{Rest, well-iff}
 
@@ -160,19 +159,14 @@ lent-ends bins sizes heads tails p e =
     let l = lent-sizes bins sizes heads tails e in
     record { enoughHeads = omega (arith, p .sizePlaces, p .headPlaces); enoughTails = omega (arith, p .sizePlaces, p .tailPlaces) }
 
--- the answer of the check, by what was found
+-- the answer by what was found is the check's
+pub answer-is : (ws : List ℕ) (h : Heap) (r : Audit) → AuditIs ws h r → answerOf r ≡ checked ws h
+unfolding AuditIs answerOf checked
+answer-is ws h found.Fails fails = rw fails
+answer-is ws h (found.Passes c) (well, counts) = rw well (ap Counted counts)
+
+-- whether it passes, by what was found
 module _ (ws : List ℕ) (h : Heap) {r : Audit} (k : AuditIs ws h r) where
-  pub answer-fails : r ≡ found.Fails → Refused HeapFails ≡ checked ws h
-  unfolding AuditIs checked
-  answer-fails e = rw (subst (λ (q : Audit). AuditIs ws h q) e k)
-
-  pub answer-counts : {c : Counts} → r ≡ found.Passes c → Counted c ≡ checked ws h
-  unfolding AuditIs checked
-  answer-counts {c} e =
-      let (well, counts) : (passes ws h ≡ true) × (c ≡ countsOf h (shape ws (h .bytes))) = subst (λ (q : Audit). AuditIs ws h q) e k in
-      rw well (ap Counted counts)
-
-  -- and whether it passes
   pub finds-failing : r ≡ found.Fails → false ≡ passes ws h
   unfolding AuditIs
   finds-failing e =

@@ -7,7 +7,10 @@ use Prim.Native.Nat.{ℕ, _+_, _%_, _^_}
 use lib.Dec.{eqb, leb}
 use lib.ListN.{length, take, replicate}
 use Rattle.lists.specs.Lists.{total, numbersFrom}
+use Rattle.record.specs.declared.answers.Answer.{Answer}
+use Rattle.record.specs.declared.answers.Answer.the-variants.{Counted, Refused}
 use Rattle.record.specs.declared.answers.Counts.{Counts}
+use Rattle.record.specs.declared.answers.Refusal.the-variants.{HeapFails}
 use Rattle.record.specs.declared.heap.Heap.{Heap}
 use Rattle.record.specs.declared.heap.Summary.{Summary}
 use Rattle.record.specs.Heap.{places, recordOf}
@@ -79,3 +82,8 @@ AuditIs ws h (Passes c) = (passes ws h ≡ true) × (c ≡ countsOf h (shape ws 
 abbrev pub LookIs : List ℕ → Summary → List ℕ → List ℕ → List ℕ → Audit → Type 0
 LookIs ws s sizes heads tails r =
     length sizes ≡ 32 → length heads ≡ 32 → length tails ≡ 32 → AuditIs ws (recordOf s sizes heads tails) r
+
+-- the check's answer, by what was found
+unfoldable pub answerOf : Audit → Answer
+answerOf (Passes c) = Counted c
+answerOf Fails = Refused HeapFails

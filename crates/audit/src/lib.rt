@@ -2,7 +2,7 @@
 // bin's list that clears the marks. Nothing is written into the region.
 ghost use mathlib.Core.Bool.{_&&_};
 ghost use mathlib.Core.Path.{_≡_};
-ghost use Rattle.audit.specs.Audit.{isSettledM, isSharedM, isTabledM, Placed, WalkedIs, LookIs};
+ghost use Rattle.audit.specs.Audit.{answerOf, isSettledM, isSharedM, isTabledM, Placed, WalkedIs, LookIs};
 ghost use Rattle.chain.specs.Length.{Lent};
 ghost use Rattle.sweep.specs.Sweep.{BothEnds};
 ghost use Rattle.rules.specs.Check.{passes, unusedFrom};
@@ -141,15 +141,21 @@ pub fn look<'a>(
     walk_all(&region[..even], &sizes[..bins], heads, tails, summary)
 }
 
-// The check as a call answers it: the four counts, or the refusal.
-pub fn verdict(region: &[u32], h: Heap) -> Answer
-    ensures { λ r. ⌜ r ≡ checked (now (region .entry)) h ⌝ }
+// The check's answer, by what was found: the four counts, or the refusal.
+pub fn answer_of(found: Audit) -> Answer
+    ensures { λ r. ⌜ r ≡ answerOf found ⌝ }
 {
-    let found = look(region, h.summary(), &h.sizes, &h.heads, &h.tails);
     match found {
         Audit::Passes(counts) => Answer::Counted(counts),
         Audit::Fails => Answer::Refused(Refusal::HeapFails),
     }
+}
+
+// The check as a call answers it.
+pub fn verdict(region: &[u32], h: Heap) -> Answer
+    ensures { λ r. ⌜ r ≡ checked (now (region .entry)) h ⌝ }
+{
+    answer_of(look(region, h.summary(), &h.sizes, &h.heads, &h.tails))
 }
 
 // The check as every other call asks for it.

@@ -1,8 +1,9 @@
 -- `audit::verdict` answers what the check finds. Assumes nothing.
+use mathlib.Core.Path.{_∙_}
 use Prim.Native.Nat.{ℕ}
 use borrow.Author.Needs.{needs, length-unmapped}
 use Rattle.audit.specs.Audit.{AuditIs}
-use Rattle.audit.proofs.AuditMeaning.{answer-counts, answer-fails}
+use Rattle.audit.proofs.AuditMeaning.{answer-is}
 use Rattle.audit.proofs.verdict.Statement.{statement}
 use Rattle.audit.proofs.verdict.Tie as tie
 
@@ -23,12 +24,7 @@ found c =
     (length-unmapped ℕ (h .sizes) 32 (search needs)) (length-unmapped ℕ (h .heads) 32 (search needs)) (length-unmapped ℕ (h .tails) 32 (search needs))
 
 returns : tie.Need-returns
-returns c = answer-counts _ _ (found (c .before .before .before)) (c .before .found .given .1)
-
-returns-2 : tie.Need-returns-2
-returns-2 c = answer-fails _ _ (found (c .before .before)) (c .enum-told .given .1)
+returns c = c .answer-of .ensures ∙ answer-is _ _ (c .before .look .result) (found (c .before))
 
 pub verdict-spec : {M : Type 1} → statement M
-verdict-spec =
-    tie.close
-    (tie.spec (λ c κs. search needs) (λ c κs. search needs) (λ c. search needs) (λ c. search needs) returns returns-2)
+verdict-spec = tie.close (tie.spec (λ c κs. search needs) (λ c κs. search needs) (λ c κs. search needs) returns)

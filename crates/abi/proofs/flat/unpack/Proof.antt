@@ -14,12 +14,14 @@ whole c = search needs
 returns : tie.Need-returns
 unfolding recordIn
 returns c =
-    let tails = c .before in
+    let summed = c .before .before .before in
+    let tails = summed .before .before .before in
     let heads = tails .before .before .before .before .before in
     let sizes = heads .before .before .before .before .before in
     let s = sizes .before .before .before .before in
     let words = s .args .t1 in (
       rw (
+        summed .unpack-summary .ensures,
         tails .copy3 .ensures ∙ fills-whole (replicate 32 0) (take 32 (drop tailsFrom words)) refl (part-length words tailsFrom (whole s) (omega arith)),
         heads .copy2 .ensures ∙ fills-whole (replicate 32 0) (take 32 (drop headsFrom words)) refl (part-length words headsFrom (whole s) (omega arith)),
         sizes .copy .ensures ∙ fills-whole (replicate 32 0) (take 32 (drop sizesFrom words)) refl (part-length words sizesFrom (whole s) (omega arith)),
@@ -46,11 +48,5 @@ unpack-spec =
     (λ c. search needs)
     (λ c. search needs)
     (λ c κs. search needs)
-    (λ c. search needs)
-    (λ c. search needs)
-    (λ c. search needs)
-    (λ c. search needs)
-    (λ c. search needs)
-    (λ c. search needs)
-    (λ c. search needs)
+    (λ c κs. search needs)
     returns)
