@@ -48,11 +48,8 @@ fn main() {
     println!("cargo:rerun-if-changed={NEWLIB}");
     println!("cargo:rustc-check-cfg=cfg(newlib)");
     let out = PathBuf::from(env::var_os("OUT_DIR").expect("OUT_DIR"));
-    let limit = Path::new("c/limit.c");
-    let bounded = ["-DBOUNDS_CHECKS".to_string()];
     let mut objects = vec![
-        compile(&out, "limit", limit, &[]),
-        compile(&out, "bounded", limit, &bounded),
+        compile(&out, "limit", Path::new("c/limit.c"), &[]),
         compile(&out, "patrol", Path::new("c/patrol.c"), &[]),
     ];
     if Path::new(NEWLIB).is_file() {

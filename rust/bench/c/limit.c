@@ -1,6 +1,6 @@
-/* The peer of the proved check, written by hand in C: it reads the same words and keeps the same bitmap of marks. It writes the
-   check's answer, or zeros and false if the heap fails.
-   With BOUNDS_CHECKS a bounds check precedes each word and each mark, as in the proved check: the difference is what they cost. */
+/* The peer of the proved check, written by hand in C for speed: it tests the same conditions on the same words, with the same
+   bitmap of marks, and gives the same answer (src/agree.rs holds it to that). No word and no mark has a bounds check of its own:
+   each walk goes only to places that it has tested. */
 #include <stdbool.h>
 #include <stddef.h>
 #include <stdint.h>
@@ -9,144 +9,166 @@
 #include "kruzhvela.h"
 #include "layout.h"
 
-/* The bitmap: one bit for each aligned place of the largest heap. A word of it covers WORD_COVERS heap bytes. */
-enum { WORD_BITS = 32, WORD_COVERS = ALIGNMENT * WORD_BITS, MARKS = MOST_WORDS * WORD_BYTES / WORD_COVERS };
+/* The bitmap has a bit for each aligned place of the largest heap. */
+enum { WORD_BITS = 32, MARKS = MOST_WORDS * WORD_BYTES / ALIGNMENT / WORD_BITS };
 
-#ifdef BOUNDS_CHECKS
-#define CHECK bounded_check
-#define IN_BOUNDS(i, count) ((i) < (count))
-#else
-#define CHECK limit_check
-#define IN_BOUNDS(i, count) 1
-#endif
-
+/* A walk along the chain: the chunk that it is at, the one before, what it counted, and an or of all places that it came to. */
 typedef struct {
-    uint32_t chunks, ordinary, used, free;
-} Counts;
+    uint32_t at, before, chunks, ordinary, free, places;
+} Walk;
 
-typedef struct {
-    const uint32_t *words;
-    size_t count;
-} Region;
-
-static inline uint32_t word(Region region, uint32_t chunk, uint32_t number)
+/* A word of the chunk at a place, which may not be aligned: the walk of the chain tests that for all places together, at its end. */
+static inline uint32_t word(const uint32_t *words, uint32_t chunk, uint32_t number)
 {
-    size_t i = (size_t)(chunk / WORD_BYTES) + number;
-    return IN_BOUNDS(i, region.count) ? region.words[i] : 0;
+    uint32_t value;
+    memcpy(&value, (const char *)words + chunk + number * WORD_BYTES, sizeof value);
+    return value;
 }
 
-static inline bool is_marked(const uint32_t *marks, uint32_t chunk)
-{
-    return IN_BOUNDS(chunk / WORD_COVERS, MARKS) && (marks[chunk / WORD_COVERS] >> (chunk / ALIGNMENT % WORD_BITS) & 1) == 1;
-}
-
-static inline void flip(uint32_t *marks, uint32_t chunk)
-{
-    if (IN_BOUNDS(chunk / WORD_COVERS, MARKS))
-        marks[chunk / WORD_COVERS] ^= 1u << (chunk / ALIGNMENT % WORD_BITS);
-}
-
+/* Both loops go to their end, so that the compiler can test several places at a time. A bin count of 0 fails too: then the first
+   size would have to be 0. */
 static bool table_valid(const uint32_t *record)
 {
-    uint32_t bins = record[KZ_RECORD_BINS];
-    if (bins < 1 || bins > KZ_MOST_BINS || record[KZ_RECORD_SIZES] != LEAST_CHUNK)
+    const uint32_t *sizes = record + KZ_RECORD_SIZES, *heads = record + KZ_RECORD_HEADS, *tails = record + KZ_RECORD_TAILS;
+    uint32_t bins = record[KZ_RECORD_BINS], wrong = 0;
+    if (bins > KZ_MOST_BINS || sizes[0] != LEAST_CHUNK)
         return false;
     for (uint32_t i = 1; i < bins; i++)
-        if (record[KZ_RECORD_SIZES + i] % ALIGNMENT != 0 || record[KZ_RECORD_SIZES + i] <= record[KZ_RECORD_SIZES + i - 1])
-            return false;
+        wrong |= sizes[i] % ALIGNMENT | (sizes[i] <= sizes[i - 1]);
     for (uint32_t i = bins; i < KZ_MOST_BINS; i++)
-        if ((record[KZ_RECORD_SIZES + i] | record[KZ_RECORD_HEADS + i] | record[KZ_RECORD_TAILS + i]) != 0)
-            return false;
-    return true;
+        wrong |= sizes[i] | heads[i] | tails[i];
+    return wrong == 0;
 }
 
-static bool walk_chain(Region region, const uint32_t *record, uint32_t *marks, Counts *counts)
+static inline Walk step(Walk walk, uint32_t next)
 {
-    uint32_t end = record[KZ_RECORD_BYTES] - HEADER_BYTES, donor = record[KZ_RECORD_DONOR], top = record[KZ_RECORD_TOP];
-    uint32_t patrol = record[KZ_RECORD_PATROL], at = 0, before = 0;
-    bool donor_seen = donor == 0, patrol_seen = false;
+    walk.chunks++;
+    walk.places |= next;
+    walk.before = walk.at;
+    walk.at = next;
+    return walk;
+}
+
+/* Goes over chunks in use and ordinary chunks, which it marks, to the chunk at `stop` or to the first chunk that is wrong. A
+   backward link is compared whole, with its flags: with that of a chunk in use, then with that of a free one. */
+static inline Walk walk_to(Walk walk, uint32_t stop, const uint32_t *words, uint32_t *marks)
+{
     for (;;) {
-        uint32_t next = word(region, at, FORWARD), back = word(region, at, BACKWARD);
-        counts->chunks++;
-        patrol_seen |= at == patrol;
-        if ((back & ~(uint32_t)IN_USE) != before)
-            return false;
-        if (at == end)
-            return next == 0 && (back & IN_USE) == IN_USE && before == top && donor_seen && patrol_seen;
-        if (next <= at || next > end || next % ALIGNMENT != 0)
-            return false;
-        uint32_t size = next - at;
-        if (at == 0) {
-            if (size != HEADER_BYTES || (back & IN_USE) == 0)
-                return false;
-        } else if (size < LEAST_CHUNK) {
-            return false;
-        } else if ((back & IN_USE) == IN_USE) {
-            counts->used += size;
-        } else {
-            if (word(region, at, SIZE) != size)
-                return false;
-            counts->free += size;
-            if (at == donor || at == top) {
-                donor_seen |= at == donor;
-                if ((word(region, at, NEXT_IN_BIN) | word(region, at, PREVIOUS_IN_BIN) | word(region, at, BIN)) != 0)
-                    return false;
-            } else {
-                flip(marks, at);
-                counts->ordinary++;
-            }
+        uint32_t at = walk.at, next = word(words, at, FORWARD);
+        if (next > stop)
+            return walk;
+        uint32_t back = word(words, at, BACKWARD);
+        if (next < at + LEAST_CHUNK)
+            return walk;
+        if (back != walk.before + IN_USE) {
+            uint32_t size = next - at;
+            if (back != walk.before || word(words, at, SIZE) != size)
+                return walk;
+            walk.free += size;
+            walk.ordinary++;
+            marks[at / ALIGNMENT / WORD_BITS] |= 1u << at / ALIGNMENT % WORD_BITS;
         }
-        before = at;
-        at = next;
+        walk = step(walk, next);
     }
 }
 
-static bool walk_lists(Region region, const uint32_t *record, uint32_t *marks, uint32_t ordinary)
+/* Donor and top are free and in no bin. */
+static inline bool is_reserved(const uint32_t *words, uint32_t at, uint32_t before, uint32_t size)
 {
-    uint32_t met = 0;
-    for (uint32_t bin = 0; bin < record[KZ_RECORD_BINS]; bin++) {
-        uint32_t least = record[KZ_RECORD_SIZES + bin];
-        uint32_t limit = bin + 1 < record[KZ_RECORD_BINS] ? record[KZ_RECORD_SIZES + bin + 1] : UINT32_MAX;
-        uint32_t before = 0;
-        for (uint32_t at = record[KZ_RECORD_HEADS + bin]; at != 0;) {
-            if (at % ALIGNMENT != 0 || at >= record[KZ_RECORD_BYTES])
+    return word(words, at, BACKWARD) == before && word(words, at, SIZE) == size &&
+           (word(words, at, NEXT_IN_BIN) | word(words, at, PREVIOUS_IN_BIN) | word(words, at, BIN)) == 0;
+}
+
+/* Goes along the chain from one known place to the next: the patrol's, the donor, the top. So no chunk between them has to be
+   compared with these. */
+static bool walk_chain(const uint32_t *words, const uint32_t *record, uint32_t *marks, Walk *walked)
+{
+    uint32_t end = record[KZ_RECORD_BYTES] - HEADER_BYTES, donor = record[KZ_RECORD_DONOR], top = record[KZ_RECORD_TOP];
+    uint32_t patrol = record[KZ_RECORD_PATROL];
+    bool patrol_met = patrol == 0 || patrol == donor || patrol == top || patrol == end;
+    if (words[FORWARD] != HEADER_BYTES || words[BACKWARD] != IN_USE)
+        return false;
+    if (donor % ALIGNMENT != 0 || donor >= top || top > end - LEAST_CHUNK)
+        return false;
+    Walk walk = step((Walk){0}, HEADER_BYTES);
+    while (walk.at <= top) {
+        uint32_t stop = walk.at <= donor ? donor : top;
+        if (!patrol_met && patrol >= walk.at && patrol < stop) {
+            walk = walk_to(walk, patrol, words, marks);
+            if (walk.at != patrol)
                 return false;
-            if (!is_marked(marks, at))
+            patrol_met = true;
+        }
+        walk = walk_to(walk, stop, words, marks);
+        uint32_t at = walk.at, next = word(words, at, FORWARD), size = next - at;
+        if (at != stop || next > (at == top ? end : top) || size < LEAST_CHUNK || !is_reserved(words, at, walk.before, size))
+            return false;
+        walk.free += size;
+        walk = step(walk, next);
+    }
+    *walked = step(walk, end);
+    return walk.at == end && word(words, end, FORWARD) == 0 && word(words, end, BACKWARD) == top + IN_USE && patrol_met &&
+           walk.places % ALIGNMENT == 0;
+}
+
+/* The number of a place among the aligned ones. The low bits come on top, so that a place that is not aligned is above all. */
+static inline uint32_t number_of(uint32_t place)
+{
+    return place / ALIGNMENT | place << (WORD_BITS - 3);
+}
+
+/* Goes along the bins' lists. Each member must be marked, so it is an ordinary chunk. No mark is cleared: a chunk that came twice
+   would have two members before it, or two bins, but it names one of each. So if there are as many members as ordinary chunks,
+   each of these is in a list. */
+static bool walk_lists(const uint32_t *words, const uint32_t *record, const uint32_t *marks, uint32_t ordinary)
+{
+    const uint32_t *sizes = record + KZ_RECORD_SIZES, *heads = record + KZ_RECORD_HEADS, *tails = record + KZ_RECORD_TAILS;
+    uint32_t bins = record[KZ_RECORD_BINS], numbers = record[KZ_RECORD_BYTES] / ALIGNMENT, met = 0;
+    for (uint32_t bin = 0; bin < bins; bin++) {
+        if ((heads[bin] | tails[bin]) == 0)
+            continue;
+        uint32_t least = sizes[bin], most = bin + 1 < bins ? sizes[bin + 1] - 1 : UINT32_MAX, before = 0;
+        for (uint32_t at = heads[bin]; at != 0;) {
+            uint32_t number = number_of(at);
+            if (number >= numbers)
                 return false;
-            flip(marks, at);
-            uint32_t size = word(region, at, SIZE);
-            if (word(region, at, PREVIOUS_IN_BIN) != before || word(region, at, BIN) != bin * BIN_FACTOR || size < least ||
-                size >= limit)
+            if ((marks[number / WORD_BITS] >> number % WORD_BITS & 1) == 0)
+                return false;
+            if (word(words, at, PREVIOUS_IN_BIN) != before || word(words, at, BIN) != bin * BIN_FACTOR ||
+                word(words, at, SIZE) - least > most - least)
                 return false;
             met++;
             before = at;
-            at = word(region, at, NEXT_IN_BIN);
+            at = word(words, at, NEXT_IN_BIN);
         }
-        if (record[KZ_RECORD_TAILS + bin] != before)
+        if (tails[bin] != before)
             return false;
     }
     return met == ordinary;
 }
 
-bool CHECK(const uint32_t *words, size_t count, const uint32_t *record, uint32_t *answer)
+/* Every chunk but start and end is in use or free, so the used bytes are what the free ones leave. */
+static bool passes(const uint32_t *words, size_t count, const uint32_t *record, Walk *walk)
 {
-    Region region = {words, count / 2 * 2};
     uint32_t marks[MARKS];
-    Counts counts = {0, 0, 0, 0};
-    memset(answer, 0, KZ_ANSWER_WORDS * sizeof *answer);
     if (count < FEWEST_WORDS || count > MOST_WORDS || record[KZ_RECORD_BYTES] != count / 2 * ALIGNMENT ||
         record[KZ_RECORD_MERGE] > 1 || !table_valid(record))
         return false;
-    if (record[KZ_RECORD_DONOR] >= record[KZ_RECORD_TOP])
-        return false;
     memset(marks, 0, sizeof marks);
-    if (!walk_chain(region, record, marks, &counts) || counts.used != record[KZ_RECORD_USED])
-        return false;
-    if (!walk_lists(region, record, marks, counts.ordinary))
-        return false;
-    answer[KZ_CHECK_CHUNKS] = counts.chunks;
-    answer[KZ_CHECK_ORDINARY] = counts.ordinary;
-    answer[KZ_CHECK_USED] = counts.used;
-    answer[KZ_CHECK_FREE] = counts.free;
-    return true;
+    return walk_chain(words, record, marks, walk) &&
+           record[KZ_RECORD_USED] == record[KZ_RECORD_BYTES] - 2 * HEADER_BYTES - walk->free &&
+           walk_lists(words, record, marks, walk->ordinary);
+}
+
+uint32_t limit_check(const uint32_t *words, size_t count, const uint32_t *record, uint32_t *answer)
+{
+    Walk walk;
+    memset(answer, 0, KZ_ANSWER_WORDS * sizeof *answer);
+    if (!passes(words, count, record, &walk))
+        return answer[KZ_ANSWER_REFUSAL] = KZ_HEAP_FAILS;
+    answer[KZ_CHECK_CHUNKS] = walk.chunks;
+    answer[KZ_CHECK_ORDINARY] = walk.ordinary;
+    answer[KZ_CHECK_USED] = record[KZ_RECORD_USED];
+    answer[KZ_CHECK_FREE] = walk.free;
+    return KZ_ACCEPTED;
 }

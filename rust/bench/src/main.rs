@@ -1,10 +1,14 @@
 //! Measures the proved heap against its peers, prints the tables and writes docs/BENCHMARKS.md.
-//! `bench check`, `bench patrol` or `bench calls` measures one part and leaves the others as they stand in the page.
-//! `bench steps WHO N` only plays N steps, for a profiler that counts instructions.
+//! `bench check`, `bench instructions`, `bench patrol` or `bench calls` measures one part and leaves the others as they stand
+//! in the page. For a profiler that counts instructions, `bench steps WHO N` only plays N steps, and
+//! `bench checks WHO FILL CHUNKS N` only makes N checks (WHO: kruzhvela or limit, FILL: free or used).
 
+#[cfg(test)]
+mod agree;
 mod calls;
 mod checks;
 mod clock;
+mod instructions;
 mod loads;
 mod patrols;
 mod peers;
@@ -13,13 +17,14 @@ mod report;
 use std::path::Path;
 use std::{env, fs};
 
-/// A part of the page: its word, its heading, and the function that measures and writes it.
-type Part = (&'static str, &'static str, fn() -> String);
+/// A part of the page: its word, its heading, and the function that measures and writes it, if it can be measured here.
+type Part = (&'static str, &'static str, fn() -> Option<String>);
 
-const PARTS: [Part; 3] = [
-    ("check", report::CHECK, || report::checks(&checks::rows())),
-    ("patrol", report::PATROL, || report::patrols(&patrols::rows())),
-    ("calls", report::CALLS, || report::calls(&calls::rows())),
+const PARTS: [Part; 4] = [
+    ("check", report::CHECK, || Some(report::checks(&checks::rows()))),
+    ("instructions", report::INSTRUCTIONS, || Some(report::instructions(&instructions::rows()?))),
+    ("patrol", report::PATROL, || Some(report::patrols(&patrols::rows()))),
+    ("calls", report::CALLS, || Some(report::calls(&calls::rows()))),
 ];
 
 /// The heading of the part that is written by hand.
@@ -32,23 +37,34 @@ fn under<'a>(page: &'a str, heading: &str) -> &'a str {
     &page[at..end]
 }
 
+/// Plays what a profiler is to count, if the words ask for it, and says whether they did.
+fn played(words: &[&str]) -> bool {
+    match words {
+        ["steps", who, steps] => calls::play(who, steps.parse().unwrap_or(0)),
+        ["checks", who, fill, chunks, times] => {
+            instructions::play(who, fill, chunks.parse().unwrap_or(0), times.parse().unwrap_or(0));
+        }
+        _ => return false,
+    }
+    true
+}
+
 fn main() -> std::io::Result<()> {
     let words: Vec<String> = env::args().skip(1).collect();
-    if let [word, who, steps] = &words[..] {
-        if word == "steps" {
-            calls::play(who, steps.parse().unwrap_or(0));
-            return Ok(());
-        }
+    let words: Vec<&str> = words.iter().map(String::as_str).collect();
+    if played(&words) {
+        return Ok(());
     }
-    if let Some(unknown) = words.iter().find(|word| PARTS.iter().all(|(part, ..)| part != word)) {
-        panic!("{unknown} is no part of the page: check, patrol, calls");
+    if let Some(unknown) = words.iter().find(|word| PARTS.iter().all(|(part, ..)| part != *word)) {
+        panic!("{unknown} is no part of the page: {}", PARTS.map(|(part, ..)| part).join(", "));
     }
     let path = Path::new(env!("CARGO_MANIFEST_DIR")).join("../../docs/BENCHMARKS.md");
     let before = fs::read_to_string(&path).unwrap_or_default();
     let mut page = report::method();
     for (word, heading, measure) in PARTS {
-        if words.is_empty() || words.iter().any(|asked| asked == word) {
-            let part = format!("{heading}\n\n{}\n", measure());
+        let asked = words.is_empty() || words.contains(&word);
+        if let Some(measured) = asked.then(measure).flatten() {
+            let part = format!("{heading}\n\n{measured}\n");
             print!("{part}");
             page += &part;
         } else {

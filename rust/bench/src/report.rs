@@ -3,19 +3,21 @@
 use crate::calls::{self, KINDS, LIVE};
 use crate::checks::{self, CHUNKS, FILLS};
 use crate::clock::ROUNDS;
+use crate::instructions::{Cost, BINS};
 use crate::patrols::{self, Way, WAYS};
 use std::fmt::Write;
 use std::process::Command;
 
 pub const CHECK: &str = "## The check, relative to a walk by hand";
+pub const INSTRUCTIONS: &str = "## The instructions of a check, relative to a walk by hand";
 pub const PATROL: &str = "## The patrol, relative to the same loop by hand";
 pub const CALLS: &str = "## The calls, relative to other allocators";
 
 const METHOD: &str = "\
-`cd rust && cargo run --release -p bench` (after `bash tools/archive`) writes this page, and with the word `check`, `patrol` or `calls` that part of it. Each ratio is to a peer measured in the same run. \
+`cd rust && cargo run --release -p bench` (after `bash tools/archive`) writes this page, and with the word `check`, `instructions`, `patrol` or `calls` that part of it. Each ratio is to a peer measured in the same run. \
 Times are medians of interleaved runs: a round runs every work once, and a first round, which warms the caches, is not counted. \
 The heap, the record and the peers' arenas stay in the processor's first two caches. The proved heap is called through `kruzhvela::flat`, the functions of C: \
-each call unpacks the record from its `KZ_RECORD_WORDS` words and, the check and the questions apart, packs it again.
+each call but the check and the patrol unpacks the record from its `KZ_RECORD_WORDS` words and, the questions apart, packs it again.
 ";
 
 fn line(command: &str, words: &[&str]) -> String {
@@ -66,22 +68,40 @@ fn ratios(lines: Vec<(String, Vec<Times>)>) -> String {
     text
 }
 
-/// The check's times as ratios to those of the walk that `peer` selects.
-fn check_ratios(rows: &[checks::Row], peer: fn(&checks::Row) -> f64) -> String {
-    let times = |row: &checks::Row| Times { chunks: row.chunks, ours: row.ours, peer: peer(row) };
+fn check_ratios(rows: &[checks::Row]) -> String {
+    let times = |row: &checks::Row| Times { chunks: row.chunks, ours: row.ours, peer: row.limit };
     let of = |fill| rows.iter().filter(|row| row.fill == fill).map(times).collect();
     ratios(FILLS.iter().map(|&(fill, name)| (name.to_string(), of(fill))).collect())
 }
 
 pub fn checks(rows: &[checks::Row]) -> String {
     format!(
-        "{}\n\nThe peer (`rust/bench/c/limit.c`) is the same walk written by hand in C: it reads the same words and keeps the same bitmap. \
-         Aim: at most 1.20, and at most 1.10 for the exponent of growth (1 is linear).\n\n{}\n\
-         Relative to the same walk by hand with a bounds check before each word and each mark. The proved check has these, since it relies on no earlier walk.\n\n{}",
+        "{}\n\nThe peer (`rust/bench/c/limit.c`) is the check written by hand in C for speed: it tests the same conditions on the same words and keeps the same bitmap. \
+         Aim: at most 1.20, and at most 1.10 for the exponent of growth (1 is linear).\n\n{}",
         measured(),
-        check_ratios(rows, |row| row.limit),
-        check_ratios(rows, |row| row.bounded)
+        check_ratios(rows)
     )
+}
+
+/// The table of what a check costs in instructions, for a chunk of each kind and once.
+pub fn instructions([ours, limit]: &[Cost; 2]) -> String {
+    let costs = [
+        ("for a chunk in use", ours.used, limit.used),
+        ("for an ordinary chunk", ours.ordinary, limit.ordinary),
+        ("once for each check", ours.once, limit.once),
+    ];
+    let mut text = format!(
+        "Counted by {} on {}; the peer is compiled by {}. The heaps have 16,384 words, {} bins and 100 or 1,100 chunks, all in use or all ordinary.\n\n\
+         | Instructions of a check | proved | by hand | ratio |\n|---|---|---|---|\n",
+        line("valgrind", &["--version"]),
+        line("uname", &["-sm"]),
+        line("sh", &["-c", "cc --version | head -1"]),
+        BINS.len()
+    );
+    for (part, ours, peer) in costs {
+        let _ = writeln!(text, "| {part} | {ours:.1} | {peer:.1} | {:.2} |", ours / peer);
+    }
+    text
 }
 
 fn patrol_ratios(rows: &[patrols::Row], ways: &[Way]) -> String {
