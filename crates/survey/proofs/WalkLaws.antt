@@ -1,6 +1,6 @@
 -- The walk as the code makes it: the start by its two words, chunk after chunk while the chain goes on, then the end chunk.
 -- That fewer tests suffice than the definitions make is shown here. Assumes nothing.
-use mathlib.Core.Path.{_≡_, refl, sym, _∙_, ap}
+use mathlib.Core.Path.{_≡_, refl, sym, _∙_, ap, subst}
 use mathlib.Core.Bool.{Bool, true, false, cond, _&&_, false≢true}
 use mathlib.Core.List.{List, []}
 use mathlib.Core.Logic.{_⊎_, inl, inr}
@@ -258,9 +258,9 @@ module _ (ws : List ℕ) (s : Summary) (lent : Lent ws (s .bytes)) where
         pub walk-breaks : seen ≡ Unsound → wholeChain ws s ≡ false
         walk-breaks u = breaks ws s ms₀ ms t p c (o .onward) (told-unsound p c (sym told ∙ u))
 
-        pub walk-goes : {k : Kind} → seen ≡ Sound k → {t′ : Tally} → t′ ≡ addedM t (shareOf k (n - c))
+        goes-next : {k : Kind} → seen ≡ Sound k → {t′ : Tally} → t′ ≡ addedM t (shareOf k (n - c))
             → {ms′ : List ℕ} → ms′ ≡ markM ms k c → Walking ws s ms₀ ms′ t′ c n limit
-        walk-goes {k} u et em =
+        goes-next {k} u et em =
             let ((room, below), eight) = goes-iff limit .0 h in
             let (kind, sound) = told-sound p c k (sym told ∙ u) in
             rw (et, em)
@@ -273,6 +273,13 @@ module _ (ws : List ℕ) (s : Summary) (lent : Lent ws (s .bytes)) where
               below = o .below;
               sought = still-sought (o .sought);
             })
+
+        -- with the link as the code holds it
+        pub walk-goes : {k : Kind} → seen ≡ Sound k → {m : ℕ} → m ≡ n → {t′ : Tally} → t′ ≡ addedM t (shareOf k (m - c))
+            → {ms′ : List ℕ} → ms′ ≡ markM ms k c → Walking ws s ms₀ ms′ t′ c m limit
+        walk-goes {k} u e {t′} et {ms′} em =
+            subst (λ (x : ℕ). Walking ws s ms₀ ms′ t′ c x limit) (sym e)
+            (goes-next u (et ∙ ap (λ (x : ℕ). addedM t (shareOf k (x - c))) e) em)
 
     -- the end chunk is sound exactly if its two words are right
     end-iff : c + 8 ≡ s .bytes → Decides (soundAt ws s p (chunk ws s c)) ((n ≡ 0) × (link ≡ p + 1))

@@ -150,6 +150,7 @@ fn first_limit(patrol: Chunk, last: u32) -> u32
 }
 
 // The limit is the patrol's place and then the end chunk: so no chunk but the last below a limit is compared with either.
+// The next chunk's links are read behind the test of the link that leads to it, which tells the compiler that its place is a multiple of 8.
 pub fn walk(region: &[u32], summary: Summary, marks: &mut [u32]) -> Survey
     requires { ⌜ Lent (now region) (summary .bytes) ⌝ }
     requires { ⌜ length (now marks) ≡ 256 ⌝ }
@@ -164,25 +165,23 @@ pub fn walk(region: &[u32], summary: Summary, marks: &mut [u32]) -> Survey
     }
     let mut limit = first_limit(summary.patrol, last);
     let mut tally = begun();
-    let mut before = 0;
-    let mut at = END_SIZE;
+    let mut visit = meet(region, 0, END_SIZE);
     loop {
-        let visit = meet(region, before, at);
+        let chunk = visit.chunk;
         if goes_on(visit, limit) {
             let seen = examine(region, visit, summary);
             let Seen::Sound(kind) = seen else {
                 return Survey::Broken;
             };
-            mark(marks, kind, Chunk(at));
-            tally = tallied(tally, kind, visit.next - at);
-            before = at;
-            at = visit.next;
+            mark(marks, kind, chunk);
+            tally = tallied(tally, kind, visit.next - chunk.0);
+            visit = meet(region, chunk.0, visit.next);
             continue;
         }
         if limit == last {
             return finish(visit, last, tally);
         }
-        if at != limit {
+        if chunk.0 != limit {
             return Survey::Broken;
         }
         limit = last;
