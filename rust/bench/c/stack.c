@@ -1,4 +1,5 @@
-/* The stack that kz_patrol takes for runs of a few sizes: on a whole heap, with a wrong backward link, and with broken links.
+/* The stack that kz_check takes, and that kz_patrol takes for runs of a few sizes: on a whole heap, with a wrong backward link, and with
+   broken links.
    tools/run_c native rust/bench/c/stack.c, or x86-64, prints it. A thread makes the call on a stack that was filled before; how far
    down it was written, less what an empty function writes, is what the call took. */
 #define _POSIX_C_SOURCE 200809L
@@ -23,6 +24,13 @@ static uint32_t nothing(uint32_t *a, size_t b, uint32_t *c, uint32_t d, uint32_t
 {
     (void)a, (void)b, (void)c, (void)d, (void)e;
     return 0;
+}
+
+/* The check, which has no run size, in the shape of a run. */
+static uint32_t check(uint32_t *heap, size_t words, uint32_t *state, uint32_t unused, uint32_t *told)
+{
+    (void)unused;
+    return kz_check(heap, words, state, told);
 }
 
 /* Calls from far enough below the thread's own frames that those do not count. */
@@ -103,8 +111,10 @@ int main(void)
 {
     if (!fill())
         return 1;
-    /* once before, so that what the call needs of libc is bound */
+    /* once before, so that what the calls need of libc is bound */
     kz_patrol(region, WORDS, record, 1, answer);
+    kz_check(region, WORDS, record, answer);
+    printf("a check: %zu bytes of stack\n", depth(check) - depth(nothing));
     taken(1, 0);
     taken(16, 0);
     taken(2000, 0);
