@@ -1,26 +1,23 @@
 -- The two walks together: on a region and a record whose table is right they come through exactly when all other facts of the check hold
 -- (`well-iff`). Assumes nothing.
-use mathlib.Core.Path.{_≡_, refl, sym, _∙_, subst}
+use mathlib.Core.Path.{_≡_, sym, _∙_, subst}
 use mathlib.Core.Logic.{_⊎_, inl, inr}
-use mathlib.Core.Bool.{Bool, true, false, cond}
-use mathlib.Core.List.{List, [], _∷_, List·Memᴰ·not-nil, Memᴰ·map, Memᴰ·of-map}
+use mathlib.Core.Bool.{true}
+use mathlib.Core.List.{List, Memᴰ·map, Memᴰ·of-map}
 use Prim.Native.Nat.{ℕ, _+_, _-_, _%_, _^_, _≤_, _<_, max}
 use native.Mathlib.Decide.{ℕ-discrete}
 use native.Mathlib.Omega.{arith}
-use lib.ListN.{length, getD, length-map, length-replicate}
+use lib.ListN.{length, getD, length-map}
 use Rattle.lists.specs.Lists.{Mem, lastOr, keep, total, numbersFrom}
 use Rattle.lists.proofs.ListsLaws.{Decides, number-is, itself, both, or-else, denied, meaning}
 use Rattle.lists.proofs.MembersLaws.{kept-from, kept-has, kept-few}
-use Rattle.marks.specs.Marks.{flipped}
-use Rattle.marks.proofs.MarksLaws.{length-flipped}
 use Rattle.record.specs.declared.heap.Heap.{Heap}
 use Rattle.record.specs.declared.heap.Summary.{Summary}
-use Rattle.record.specs.declared.kinds.Kind.{Kind}
 use Rattle.record.specs.declared.kinds.Kind.the-variants.{Ordinary}
 use Rattle.record.specs.Heap.{tableOf, summaryOf}
 use Rattle.region.specs.Words.{word, size}
 use Rattle.rules.specs.Check.{Tabled, Listed, InItsBin, BelongsTo, usedBytes, freeBytes}
-use Rattle.rules.specs.Kinds.{ordinary, ordinaryKind, kindOf, outside}
+use Rattle.rules.specs.Kinds.{ordinary, kindOf, outside}
 use Rattle.rules.specs.Shape.{Entry, shape, binList, members, membersFrom}
 use Rattle.rules.proofs.BytesLaws.{bytes-shared}
 use Rattle.rules.proofs.CheckLaws.{table-bins}
@@ -28,8 +25,7 @@ use Rattle.rules.proofs.ChainLaws.{shape-chain}
 use Rattle.rules.proofs.KindsLaws.{being-as, ordinary-kind, ordinary-free}
 use Rattle.rules.proofs.ShapeLaws.{shape-is}
 use Rattle.rules.proofs.TiledLaws.{chain-tiled, tiled-in}
-use Rattle.audit.specs.Audit.{isSettledM, isSharedM, noMarks, marksOf, metAll, walksWell}
-use Rattle.survey.specs.Survey.{markM, markAll}
+use Rattle.audit.specs.Audit.{isSettledM, isSharedM, marksOf, metAll, walksWell}
 use Rattle.sweep.specs.Sweep.{listAt, allWhole}
 use Rattle.survey.specs.declared.Tally.{Tally}
 use Rattle.survey.proofs.SurveyLaws.{chunks-few, whole-iff}
@@ -43,15 +39,6 @@ pub record Rest (ws : List ℕ) (h : Heap) : Type 0 where
   pub bins : (i : ℕ) → i < h .bins → Listed ws h (shape ws (h .bytes)) i (binList ws h i)
   pub binned : (e : Entry) → Mem e (shape ws (h .bytes)) → ordinary h e ≡ true → InItsBin ws h e
   pub used : h .used ≡ usedBytes h (shape ws (h .bytes))
-
--- marking keeps the bitmap's length
-marked-long : (ms : List ℕ) (k : Kind) (c : ℕ) → length (markM ms k c) ≡ length ms
-unfolding markM
-marked-long ms k c = go (ordinaryKind k)
-  where
-    go : (t : Bool) → length (cond t (flipped ms c) ms) ≡ length ms
-    go true = length-flipped ms c
-    go false = refl
 
 -- the tests after the walk of the chain
 settled-iff : (t : Tally) (s : Summary) → Decides (isSettledM t s) ((0 < t .tops) × (0 < s .donor .0 → 0 < t .donors))
@@ -77,8 +64,8 @@ module _ (ws : List ℕ) (h : Heap) (big : 40 ≤ h .bytes) (small : h .bytes �
   abbrev all : List ℕ
   all = ordinaries h es
 
-  sized-well : (0 < h .bytes) × (h .bytes ≤ 65536)
-  sized-well = (omega arith, small)
+  some : 0 < h .bytes
+  some = omega arith
 
   -- the marks after the walk of the chain
   abbrev markedAll : List ℕ
@@ -106,8 +93,8 @@ module _ (ws : List ℕ) (h : Heap) (big : 40 ≤ h .bytes) (small : h .bytes �
     eights : (c : ℕ) → Mem c all → c % 8 ≡ 0
     eights c m = let (e, member, (here, isOrdinary)) = of-known c m in rw here at (facts .chain .eights e member)
 
-    -- the header of each is inside the heap: it lies between the ends, and has at least 24 bytes
-    bounded : (c : ℕ) → Mem c all → c + 16 < h .bytes
+    -- the header of each is behind the start and inside the heap: it lies between the ends, and has at least 24 bytes
+    bounded : (c : ℕ) → Mem c all → (0 < c) × (c + 16 < h .bytes)
     bounded c m =
         let (e, member, (here, isOrdinary)) = of-known c m in
         let (low, notEnd, free) = being-as h e Ordinary (ordinary-kind (kindOf h e) isOrdinary) in
@@ -116,19 +103,18 @@ module _ (ws : List ℕ) (h : Heap) (big : 40 ≤ h .bytes) (small : h .bytes �
         let endEight = facts .chain .eights (lastOr outside es) (shape-chain ws (h .bytes) .has-last outside) in
         let end = facts .chain .reachesEnd in
         let room = facts .chunks e member .room low (omega arith) in
-        omega arith
+        (omega arith, omega arith)
 
     -- the size word of an ordinary chunk
     sized : (e : Entry) → Mem e es → ordinary h e ≡ true → word ws (e .place) size ≡ e .size
     sized e m o = let s = facts .chunks e m in s .sized (ordinary-free h e o (s .flags))
 
-    -- before the walk of the lists every ordinary chunk is marked, and none is met
-    marks : Marks ws (tableOf h) (table .valid) all markedAll []
-    marks c e =
-        meaning (marks-are ws h small facts c e) (λ m. (m, λ k. List·Memᴰ·not-nil k)) (λ t. t .0)
+    -- the ordinary chunks are marked
+    marks : Marks ws (tableOf h) (table .valid) all markedAll
+    marks c e = marks-are ws h small facts c e
 
     abbrev HasBin : ℕ → Type 0
-    HasBin i = BinIs ws (tableOf h) (table .valid) all (h .heads) (h .tails) (h .bytes) sized-well eights bounded i
+    HasBin i = BinIs ws (tableOf h) (table .valid) all (h .heads) (h .tails) (h .bytes) some eights bounded i
 
     -- a bin's list as the walk sees it, and as the check states it
     to-listed : (i : ℕ) → i < h .bins → HasBin i → Listed ws h es i (binList ws h i)
@@ -173,7 +159,7 @@ module _ (ws : List ℕ) (h : Heap) (big : 40 ≤ h .bytes) (small : h .bytes �
 
     -- every ordinary chunk is in a list, as the walk sees it, and as the check states it
     abbrev AllListed : Type 0
-    AllListed = Covered ws (tableOf h) (table .valid) all (h .heads) (h .tails) (h .bytes) sized-well eights bounded (h .bins)
+    AllListed = Covered ws (tableOf h) (table .valid) all (h .heads) (h .tails) (h .bytes) some eights bounded (h .bins)
 
     covered-binned : ((i : ℕ) → i < h .bins → HasBin i) → AllListed
         → (e : Entry) → Mem e es → ordinary h e ≡ true → InItsBin ws h e
@@ -190,13 +176,6 @@ module _ (ws : List ℕ) (h : Heap) (big : 40 ≤ h .bytes) (small : h .bytes �
         let (i, takes, (below, listed)) = f e member isOrdinary in
         (i, below, (rw here at listed))
 
-  marks-long : length markedAll ≡ 256
-  marks-long = all-long noMarks es (length-replicate {A = ℕ} 256 0)
-    where
-      all-long : (ms : List ℕ) (ds : List Entry) → length ms ≡ 256 → length (markAll (summaryOf h) ms ds) ≡ 256
-      all-long ms [] l = l
-      all-long ms (d ∷ ds) l = all-long (markM ms (kindOf h d) (d .place)) ds (marked-long ms (kindOf h d) (d .place) ∙ l)
-
   -- used bytes are what free bytes, start and end leave
   shared-out : ChainFacts ws h es → usedBytes h es + freeBytes h es + 16 ≡ h .bytes
   shared-out facts = bytes-shared ws h (omega arith) (facts .ends .startSize) (facts .chain .reachesEnd)
@@ -208,8 +187,8 @@ module _ (ws : List ℕ) (h : Heap) (big : 40 ≤ h .bytes) (small : h .bytes �
       → tallyFor h es .free + h .used + 16 ≡ h .bytes → Rest ws h
   rest facts d e shared =
       let (listed, covered) =
-      combs-bins ws (tableOf h) (table .valid) all (h .heads) (h .tails) (h .bytes) sized-well (eights facts) (bounded facts) (h .bins) markedAll few
-      marks-long (marks facts) (ordinaries-once ws h)
+      combs-bins ws (tableOf h) (table .valid) all (h .heads) (h .tails) (h .bytes) some (eights facts) (bounded facts) (h .bins) markedAll few
+      (marks facts) (ordinaries-once ws h)
       (record {
         whole = rw (table-bins h table) at d;
         count = (rw (table-bins h table) at e) ∙ sym (length-map (keep (ordinary h) es) (λ (d : Entry). d .place));
@@ -222,10 +201,10 @@ module _ (ws : List ℕ) (h : Heap) (big : 40 ≤ h .bytes) (small : h .bytes �
       }
 
   combs : (r : Rest ws h)
-      → Combs ws (tableOf h) (table .valid) all (h .heads) (h .tails) (h .bytes) sized-well (eights (r .chain)) (bounded (r .chain)) (h .bins) markedAll
+      → Combs ws (tableOf h) (table .valid) all (h .heads) (h .tails) (h .bytes) some (eights (r .chain)) (bounded (r .chain)) (h .bins) markedAll
   combs r =
-      bins-combs ws (tableOf h) (table .valid) all (h .heads) (h .tails) (h .bytes) sized-well (eights (r .chain)) (bounded (r .chain)) (h .bins) markedAll few
-      marks-long (marks (r .chain)) (ordinaries-once ws h)
+      bins-combs ws (tableOf h) (table .valid) all (h .heads) (h .tails) (h .bytes) some (eights (r .chain)) (bounded (r .chain)) (h .bins) markedAll few
+      (marks (r .chain)) (ordinaries-once ws h)
       (λ i l. of-listed (r .chain) i l (r .bins i l)) (binned-covered (r .chain) (r .binned))
 
   -- the walks come through exactly when the facts hold

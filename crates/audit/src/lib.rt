@@ -1,5 +1,5 @@
 // The check, in time linear in the chunks: one walk of the chain that marks each ordinary chunk, one walk of each
-// bin's list that clears the marks. Nothing is written into the region.
+// bin's list that reads the marks. Nothing is written into the region.
 ghost use mathlib.Core.Bool.{_&&_};
 ghost use mathlib.Core.Path.{_≡_};
 ghost use Rattle.audit.specs.Audit.{answerOf, isSettledM, isSharedM, isTabledM, Placed, WalkedIs, LookIs};
@@ -103,7 +103,7 @@ pub fn walk_all<'a>(
     if !is_shared(tally.free, summary) {
         return Audit::Fails;
     }
-    let sweep = sweep_bins(region, &mut marks, table, heads, tails, summary.bytes);
+    let sweep = sweep_bins(region, &marks, table, heads, tails, summary.bytes);
     let Sweep::Clean(met) = sweep else {
         return Audit::Fails;
     };

@@ -25,15 +25,11 @@ pub fn flip(marks: &mut [u32], chunk: Chunk)
     marks[i] ^= 1 << (chunk.0 / ALIGNMENT % BITS);
 }
 
-// Turns the mark over and says whether it was set. One read of the word serves both.
-pub fn unmark(marks: &mut [u32], chunk: Chunk) -> bool
+pub fn is_marked(marks: &[u32], chunk: Chunk) -> bool
     requires { ⌜ chunk .0 / 256 < length (now marks) ⌝ }
     ensures { λ r. ⌜ r ≡ marked (now (marks .entry)) (chunk .0) ⌝ }
-    ensures { λ _. ⌜ now (marks .exit) ≡ flipped (now (marks .entry)) (chunk .0) ⌝ }
 {
     let i = (chunk.0 / SPAN) as usize;
     let bit = 1 << (chunk.0 / ALIGNMENT % BITS);
-    let held = marks[i];
-    marks[i] = held ^ bit;
-    held & bit != 0
+    marks[i] & bit != 0
 }

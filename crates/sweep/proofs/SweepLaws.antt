@@ -13,7 +13,7 @@ use lib.ListN.{length, getD}
 use borrow.Author.Tests.{eq-eqb, ne-eqb, lt-ltb, le-ltb, not-true, not-false}
 use Rattle.lists.specs.Lists.{lastOr, total, numbersFrom}
 use Rattle.lists.proofs.ListsLaws.{number-is, less, both}
-use Rattle.marks.specs.Marks.{marked, flipped}
+use Rattle.marks.specs.Marks.{marked}
 use Rattle.chain.specs.Length.{Lent}
 use Rattle.record.specs.Table.{sizeAt, takesBin}
 use Rattle.region.specs.Words.{word, size, nextInBin, bin}
@@ -23,7 +23,7 @@ use Rattle.sweep.specs.declared.Sizes.{Sizes}
 use Rattle.sweep.specs.declared.Sweep.the-variants.{Clean, Dirty}
 use Rattle.sweep.specs.declared.Swept.{Swept}
 use Rattle.sweep.specs.declared.Swept.the-variants.{Whole, Torn}
-use Rattle.sweep.specs.Sweep.{flipAll, sizesM, saysListedM, isPlacedM, isListedM, combed, beyond, wholeList, WholeIs, SweptIs, NextListed, listAt, allWhole, SweepIs}
+use Rattle.sweep.specs.Sweep.{sizesM, saysListedM, isPlacedM, isListedM, combed, beyond, wholeList, WholeIs, SweptIs, NextListed, listAt, allWhole, SweepIs}
 
 -- the two comparisons of a size with what its bin asks are the test for the bin
 takes-sizes : (table : List ℕ) (i s : ℕ) → i < length table → s < 2 ^ 32
@@ -87,34 +87,33 @@ module _ {ws : List ℕ} {bytes : ℕ} (lent : Lent ws bytes) (c : ℕ) {t : Boo
   mark-inside = let (eight, below) = placed in omega (arith, lent .notTooMany)
 
 -- where the walk of one list stands, at c behind p, with `left` steps left
-module _ (ws table : List ℕ) (i bytes : ℕ) (ms₀ : List ℕ) (first : ℕ) where
-  pub record Combing (ms : List ℕ) (c p left : ℕ) : Type 0 where
+module _ (ws table : List ℕ) (i bytes : ℕ) (ms : List ℕ) (first : ℕ) where
+  pub record Combing (c p left : ℕ) : Type 0 where
     pub combs :
         combed ws table i bytes ms p (membersFrom left ws c)
-        ≡ combed ws table i bytes ms₀ 0 (membersFrom bytes ws first)
+        ≡ combed ws table i bytes ms 0 (membersFrom bytes ws first)
     pub ends : beyond ws c (membersFrom left ws c) ≡ beyond ws first (membersFrom bytes ws first)
     pub count : bytes + length (membersFrom left ws c) ≡ left + length (membersFrom bytes ws first)
     pub lasts : lastOr p (membersFrom left ws c) ≡ lastOr 0 (membersFrom bytes ws first)
-    pub marks : flipAll ms (membersFrom left ws c) ≡ flipAll ms₀ (membersFrom bytes ws first)
     pub within : left ≤ bytes
 
-module _ {ws table : List ℕ} {i bytes : ℕ} {ms₀ : List ℕ} {first : ℕ} where
-  pub combing-begins : Combing ws table i bytes ms₀ first ms₀ first 0 bytes
+module _ {ws table : List ℕ} {i bytes : ℕ} {ms : List ℕ} {first : ℕ} where
+  pub combing-begins : Combing ws table i bytes ms first first 0 bytes
   combing-begins =
-      record { combs = refl; ends = refl; count = refl; lasts = refl; marks = refl; within = omega arith }
+      record { combs = refl; ends = refl; count = refl; lasts = refl; within = omega arith }
 
-  module _ {ms : List ℕ} {c p left : ℕ} (o : Combing ws table i bytes ms₀ first ms c p left) where
+  module _ {c p left : ℕ} (o : Combing ws table i bytes ms first c p left) where
     -- no list is longer than its steps
-    pub torn-long : (ms′ : List ℕ) → left ≡ 0 → (c ≡ 0 → ⊥) → SweptIs ws table i bytes ms₀ first ms′ Torn
+    pub torn-long : left ≡ 0 → (c ≡ 0 → ⊥) → SweptIs ws table i bytes ms first Torn
     unfolding SweptIs
-    torn-long ms′ e n =
+    torn-long e n =
         let r = read-spent ws left c e in
         let q : beyond ws first (membersFrom bytes ws first) ≡ c = sym (o .ends) ∙ ap (beyond ws c) r in
         rw (sym (o .combs) ∙ ap (combed ws table i bytes ms p) r, q, ne-eqb c 0 n)
 
-    pub whole-list : {ms′ : List ℕ} → ms′ ≡ ms → c ≡ 0 → SweptIs ws table i bytes ms₀ first ms′ (Whole (bytes - left) p)
+    pub whole-list : c ≡ 0 → SweptIs ws table i bytes ms first (Whole (bytes - left) p)
     unfolding SweptIs
-    whole-list em e =
+    whole-list e =
         let r : membersFrom left ws c ≡ [] = ap (membersFrom left ws) e ∙ read-none ws left in
         let q : beyond ws first (membersFrom bytes ws first) ≡ c = sym (o .ends) ∙ ap (beyond ws c) r in
         let l : bytes + 0 ≡ left + length (membersFrom bytes ws first) = rw r at (o .count) in
@@ -122,27 +121,25 @@ module _ {ws table : List ℕ} {i bytes : ℕ} {ms₀ : List ℕ} {first : ℕ} 
           whole = rw (sym (o .combs) ∙ ap (combed ws table i bytes ms p) r, q, eq-eqb c 0 e);
           count = omega arith;
           ends = sym (ap (lastOr p) r) ∙ o .lasts;
-          marks = em ∙ sym (ap (flipAll ms) r) ∙ o .marks;
         }
 
     module _ (n : c ≡ 0 → ⊥) (h : 0 < left) {t : Bool} (test : Tested ws table i bytes ms p c t) where
-      pub torn-here : (ms′ : List ℕ) → not t ≡ true → SweptIs ws table i bytes ms₀ first ms′ Torn
+      pub torn-here : not t ≡ true → SweptIs ws table i bytes ms first Torn
       unfolding SweptIs
-      torn-here ms′ ht =
+      torn-here ht =
           let r = read-more ws left c n h in
           rw (sym (o .combs) ∙ ap (combed ws table i bytes ms p) r, sym (test .is) ∙ not-true t ht)
 
-      pub combing-goes : not t ≡ false → {ms′ : List ℕ} → ms′ ≡ flipped ms c → {d : ℕ} → d ≡ word ws c nextInBin
-          → Combing ws table i bytes ms₀ first ms′ d c (left - 1)
-      combing-goes ht em ed =
+      pub combing-goes : not t ≡ false → {d : ℕ} → d ≡ word ws c nextInBin
+          → Combing ws table i bytes ms first d c (left - 1)
+      combing-goes ht ed =
           let r = read-more ws left c n h in
-          rw (em, ed)
+          rw ed
           (record {
             combs = rw (r, sym (test .is) ∙ not-false t ht) at (o .combs);
             ends = rw r at (o .ends);
             count = count r;
             lasts = rw r at (o .lasts);
-            marks = rw r at (o .marks);
             within = omega (arith, o .within);
           })
         where
@@ -174,15 +171,14 @@ module _ {heads tails : List ℕ} {from : ℕ} where
       go i lo hi (no n) = o .passed i lo (omega arith)
 
 -- what a reply says of a list, by its case
-module _ (ws table : List ℕ) (i bytes : ℕ) (ms : List ℕ) (first : ℕ) (ms′ : List ℕ) (r : Swept)
-    (k : SweptIs ws table i bytes ms first ms′ r) where
+module _ (ws table : List ℕ) (i bytes : ℕ) (ms : List ℕ) (first : ℕ) (r : Swept) (k : SweptIs ws table i bytes ms first r) where
   torn-is : r ≡ Torn → wholeList ws table i bytes ms first ≡ false
   unfolding SweptIs
-  torn-is e = subst (λ (q : Swept). SweptIs ws table i bytes ms first ms′ q) e k
+  torn-is e = subst (λ (q : Swept). SweptIs ws table i bytes ms first q) e k
 
-  whole-is : {members last : ℕ} → r ≡ Whole members last → WholeIs ws table i bytes ms first ms′ members last
+  whole-is : {members last : ℕ} → r ≡ Whole members last → WholeIs ws table i bytes ms first members last
   unfolding SweptIs
-  whole-is e = subst (λ (q : Swept). SweptIs ws table i bytes ms first ms′ q) e k
+  whole-is e = subst (λ (q : Swept). SweptIs ws table i bytes ms first q) e k
 
 -- the numbers from b on, n of them in all
 count-on : (b n : ℕ) → b < n → numbersFrom b (n - b) ≡ b ∷ numbersFrom (suc b) (n - suc b)
@@ -192,32 +188,32 @@ count-out : (b n : ℕ) → n ≤ b → numbersFrom b (n - b) ≡ []
 count-out b n h = let e : n - b ≡ 0 = omega arith in rw e
 
 -- where the walk of all lists stands, before bin b
-module _ (ws table heads tails : List ℕ) (bytes : ℕ) (ms₀ : List ℕ) where
+module _ (ws table heads tails : List ℕ) (bytes : ℕ) (ms : List ℕ) where
   abbrev lengthAt : ℕ → ℕ
   lengthAt i = length (listAt ws table heads tails bytes i)
 
-  pub record Sweeping (ms : List ℕ) (b met : ℕ) : Type 0 where
+  pub record Sweeping (b met : ℕ) : Type 0 where
     pub whole :
         allWhole ws table heads tails bytes ms (numbersFrom b (length table - b))
-        ≡ allWhole ws table heads tails bytes ms₀ (numbersFrom 0 (length table))
+        ≡ allWhole ws table heads tails bytes ms (numbersFrom 0 (length table))
     pub count :
         (met + total lengthAt (numbersFrom b (length table - b))) % 2 ^ 32
         ≡ total lengthAt (numbersFrom 0 (length table)) % 2 ^ 32
     pub fits : met < 2 ^ 32
 
-module _ {ws table heads tails : List ℕ} {bytes : ℕ} {ms₀ : List ℕ} where
-  pub sweeping-begins : Sweeping ws table heads tails bytes ms₀ ms₀ 0 0
+module _ {ws table heads tails : List ℕ} {bytes : ℕ} {ms : List ℕ} where
+  pub sweeping-begins : Sweeping ws table heads tails bytes ms 0 0
   sweeping-begins =
       let e : length table - 0 ≡ length table = omega arith in
       record { whole = rw e; count = rw (e, zero-add); fits = omega arith }
 
-  module _ {ms : List ℕ} {met : ℕ} where
+  module _ {met : ℕ} where
     -- an empty list is whole, and has no members
-    over-empty : {b : ℕ} → Sweeping ws table heads tails bytes ms₀ ms b met → getD heads b 0 ≡ 0 → getD tails b 0 ≡ 0
-        → Sweeping ws table heads tails bytes ms₀ ms (suc b) met
+    over-empty : {b : ℕ} → Sweeping ws table heads tails bytes ms b met → getD heads b 0 ≡ 0 → getD tails b 0 ≡ 0
+        → Sweeping ws table heads tails bytes ms (suc b) met
     over-empty {b} o head tail = go (decLt b (length table))
       where
-        go : Dec (b < length table) → Sweeping ws table heads tails bytes ms₀ ms (suc b) met
+        go : Dec (b < length table) → Sweeping ws table heads tails bytes ms (suc b) met
         go (yes h) =
             let r = count-on b (length table) h in
             let none : listAt ws table heads tails bytes b ≡ [] = ap (membersFrom bytes ws) head ∙ read-none ws bytes in
@@ -233,25 +229,25 @@ module _ {ws table heads tails : List ℕ} {bytes : ℕ} {ms₀ : List ℕ} wher
 
     -- so the bins that are passed over add nothing
     over-all : (n b : ℕ) → ((i : ℕ) → b ≤ i → i < b + n → (getD heads i 0 ≡ 0) × (getD tails i 0 ≡ 0))
-        → Sweeping ws table heads tails bytes ms₀ ms b met → Sweeping ws table heads tails bytes ms₀ ms (b + n) met
+        → Sweeping ws table heads tails bytes ms b met → Sweeping ws table heads tails bytes ms (b + n) met
     over-all zero b empty o = rw (add-zero b) o
     over-all (suc n) b empty o =
         let (head, tail) = empty b (omega arith) (omega arith) in
         let e : b + suc n ≡ suc b + n = omega arith in
         rw e (over-all n (suc b) (λ i lo hi. empty i (omega arith) (omega arith)) (over-empty o head tail))
 
-    pub sweeping-skips : {b next : ℕ} → Sweeping ws table heads tails bytes ms₀ ms b met → NextListed heads tails b next
-        → Sweeping ws table heads tails bytes ms₀ ms next met
+    pub sweeping-skips : {b next : ℕ} → Sweeping ws table heads tails bytes ms b met → NextListed heads tails b next
+        → Sweeping ws table heads tails bytes ms next met
     sweeping-skips {b} {next} o p =
         let e : b + (next - b) ≡ next = omega (arith, p .onward) in
         rw e at (over-all (next - b) b (λ i lo hi. p .passed i lo (omega (arith, p .onward))) o)
 
-  module _ {ms : List ℕ} {b met : ℕ} (o : Sweeping ws table heads tails bytes ms₀ ms b met) where
+  module _ {b met : ℕ} (o : Sweeping ws table heads tails bytes ms b met) where
     -- how many members the list of a bin has
     abbrev membersIn : ℕ → ℕ
-    membersIn i = lengthAt ws table heads tails bytes ms₀ i
+    membersIn i = lengthAt ws table heads tails bytes ms i
 
-    pub all-clean : length table ≤ b → SweepIs ws table heads tails bytes ms₀ (Clean met)
+    pub all-clean : length table ≤ b → SweepIs ws table heads tails bytes ms (Clean met)
     unfolding SweepIs
     all-clean h =
         let r = count-out b (length table) h in
@@ -262,26 +258,25 @@ module _ {ws table heads tails : List ℕ} {bytes : ℕ} {ms₀ : List ℕ} wher
         }
 
     -- bin b has been swept, with this reply
-    module _ (h : b < length table) {first : ℕ} (ef : first ≡ getD heads b 0) (ms′ : List ℕ) {r : Swept}
-        (swept : SweptIs ws table b bytes ms first ms′ r) where
-      pub dirty-list : r ≡ Torn → SweepIs ws table heads tails bytes ms₀ Dirty
+    module _ (h : b < length table) {first : ℕ} (ef : first ≡ getD heads b 0) {r : Swept} (swept : SweptIs ws table b bytes ms first r) where
+      pub dirty-list : r ≡ Torn → SweepIs ws table heads tails bytes ms Dirty
       unfolding SweepIs
       dirty-list e =
           sym (o .whole) ∙ ap (allWhole ws table heads tails bytes ms) (count-on b (length table) h)
-          ∙ rw (← ef, torn-is ws table b bytes ms first ms′ r swept e)
+          ∙ rw (← ef, torn-is ws table b bytes ms first r swept e)
 
       module _ {members last : ℕ} (is : r ≡ Whole members last) {t : ℕ} (et : t ≡ getD tails b 0) where
-        abbrev swept-whole : WholeIs ws table b bytes ms first ms′ members last
-        swept-whole = whole-is ws table b bytes ms first ms′ r swept is
+        abbrev swept-whole : WholeIs ws table b bytes ms first members last
+        swept-whole = whole-is ws table b bytes ms first r swept is
 
-        pub dirty-tail : (t ≡ last → ⊥) → SweepIs ws table heads tails bytes ms₀ Dirty
+        pub dirty-tail : (t ≡ last → ⊥) → SweepIs ws table heads tails bytes ms Dirty
         unfolding SweepIs
         dirty-tail n =
             sym (o .whole) ∙ ap (allWhole ws table heads tails bytes ms) (count-on b (length table) h)
             ∙ rw (← ef, swept-whole .whole, ← et, ← (swept-whole .ends), ne-eqb t last n)
 
         pub sweeping-goes : t ≡ last → {met′ : ℕ} → met′ ≡ (met + members) % 2 ^ 32
-            → Sweeping ws table heads tails bytes ms₀ ms′ (b + 1) met′
+            → Sweeping ws table heads tails bytes ms (b + 1) met′
         sweeping-goes e em =
             let r = count-on b (length table) h in
             rw (em, add-one)
@@ -292,9 +287,9 @@ module _ {ws table heads tails : List ℕ} {bytes : ℕ} {ms₀ : List ℕ} wher
             })
           where
             whole : numbersFrom b (length table - b) ≡ b ∷ numbersFrom (suc b) (length table - suc b)
-                → allWhole ws table heads tails bytes ms′ (numbersFrom (suc b) (length table - suc b))
-                ≡ allWhole ws table heads tails bytes ms₀ (numbersFrom 0 (length table))
-            whole r = rw (swept-whole .marks, ef) (rw (r, ← ef, swept-whole .whole, ← et, ← (swept-whole .ends), eq-eqb t last e, ef) at (o .whole))
+                → allWhole ws table heads tails bytes ms (numbersFrom (suc b) (length table - suc b))
+                ≡ allWhole ws table heads tails bytes ms (numbersFrom 0 (length table))
+            whole r = rw (r, ← ef, swept-whole .whole, ← et, ← (swept-whole .ends), eq-eqb t last e) at (o .whole)
 
             count : numbersFrom b (length table - b) ≡ b ∷ numbersFrom (suc b) (length table - suc b)
                 → ((met + members) % 2 ^ 32 + total membersIn (numbersFrom (suc b) (length table - suc b))) % 2 ^ 32

@@ -6,8 +6,8 @@ use mathlib.Core.List.{List, [], _∷_}
 use Prim.Native.Nat.{ℕ, suc, _+_, _*_, _%_, _^_, _≤_, _<_}
 use lib.Dec.{eqb, leb, ltb}
 use lib.ListN.{length, getD}
-use Rattle.lists.specs.Lists.{lastOr, total, numbersFrom}
-use Rattle.marks.specs.Marks.{marked, flipped}
+use Rattle.lists.specs.Lists.{every, lastOr, total, numbersFrom}
+use Rattle.marks.specs.Marks.{marked}
 use Rattle.record.specs.Table.{sizeAt, takesBin}
 use Rattle.region.specs.Words.{word, size, nextInBin, previousInBin, bin}
 use Rattle.rules.specs.Shape.{membersFrom}
@@ -16,11 +16,6 @@ use Rattle.sweep.specs.declared.Sweep.{Sweep}
 use Rattle.sweep.specs.declared.Sweep.the-variants.{Clean, Dirty}
 use Rattle.sweep.specs.declared.Swept.{Swept}
 use Rattle.sweep.specs.declared.Swept.the-variants.{Whole, Torn}
-
--- the marks after each of a list's members had its mark turned over
-abbrev pub flipAll : List ℕ → List ℕ → List ℕ
-flipAll ms [] = ms
-flipAll ms (c ∷ cs) = flipAll (flipped ms c) cs
 
 -- what bin i asks of the words of its members: its bin word, and a size from its own to below the next bin's.
 -- No bin follows the last one: its bound is above every word
@@ -50,10 +45,10 @@ module _ (ws table : List ℕ) (i bytes : ℕ) where
       isPlacedM bytes c && marked ms c && eqb (word ws c bin) (i % 32 * 8) && eqb (word ws c previousInBin) p
       && takesBin table i (word ws c size)
 
-  -- all of a list are, one behind the other, with marks cleared on the way
+  -- all of a list are, one behind the other
   abbrev pub combed : List ℕ → ℕ → List ℕ → Bool
   combed ms p [] = true
-  combed ms p (c ∷ cs) = isListedM ms p c && combed (flipped ms c) c cs
+  combed ms p (c ∷ cs) = isListedM ms p c && combed ms c cs
 
 -- where the forward bin links lead from c, past the members cs
 abbrev pub beyond : List ℕ → ℕ → List ℕ → ℕ
@@ -67,16 +62,15 @@ module _ (ws table : List ℕ) (i bytes : ℕ) where
   wholeList ms first =
       combed ws table i bytes ms 0 (membersFrom bytes ws first) && eqb (beyond ws first (membersFrom bytes ws first)) 0
 
-  -- it is, with so many members and this last one, and the marks are `after` from `ms`
-  pub record WholeIs (ms : List ℕ) (first : ℕ) (after : List ℕ) (met last : ℕ) : Type 0 where
+  -- it is, with so many members and this last one
+  pub record WholeIs (ms : List ℕ) (first met last : ℕ) : Type 0 where
     pub whole : wholeList ms first ≡ true
     pub count : met ≡ length (membersFrom bytes ws first)
     pub ends : last ≡ lastOr 0 (membersFrom bytes ws first)
-    pub marks : after ≡ flipAll ms (membersFrom bytes ws first)
 
-  unfoldable pub SweptIs : List ℕ → ℕ → List ℕ → Swept → Type 0
-  SweptIs ms first after Torn = wholeList ms first ≡ false
-  SweptIs ms first after (Whole met last) = WholeIs ms first after met last
+  unfoldable pub SweptIs : List ℕ → ℕ → Swept → Type 0
+  SweptIs ms first Torn = wholeList ms first ≡ false
+  SweptIs ms first (Whole met last) = WholeIs ms first met last
 
 -- every bin of the table has both ends of its list
 pub record BothEnds (table heads tails : List ℕ) : Type 0 where
@@ -92,12 +86,13 @@ module _ (ws table heads tails : List ℕ) (bytes : ℕ) where
   abbrev pub listAt : ℕ → List ℕ
   listAt i = membersFrom bytes ws (getD heads i 0)
 
-  -- the lists of the bins in `is`, one after the other
+  -- the list of bin i is whole, and the tail is its last member
+  abbrev pub wholeBin : List ℕ → ℕ → Bool
+  wholeBin ms i = wholeList ws table i bytes ms (getD heads i 0) && eqb (getD tails i 0) (lastOr 0 (listAt i))
+
+  -- so are those of the bins in `is`
   abbrev pub allWhole : List ℕ → List ℕ → Bool
-  allWhole ms [] = true
-  allWhole ms (i ∷ is) =
-      wholeList ws table i bytes ms (getD heads i 0) && eqb (getD tails i 0) (lastOr 0 (listAt i))
-      && allWhole (flipAll ms (listAt i)) is
+  allWhole ms is = every (wholeBin ms) is
 
   -- every list is whole, and they have so many members in all
   pub record CleanIs (ms : List ℕ) (met : ℕ) : Type 0 where

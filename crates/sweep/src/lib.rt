@@ -1,4 +1,5 @@
-// The walk of the bins' lists: each member must be marked, and its mark is cleared, so that no chunk is met twice.
+// The walk of the bins' lists: each member must be marked. The marks are only read: no chunk comes twice in a list, since its backward
+// bin link names one chunk before it, and none is in two lists, since its size belongs to one bin.
 // The marks were made by the walk of the chain, in the crate `survey`; the chain itself is not looked at here.
 ghost use mathlib.Core.Path.{_≡_};
 ghost use Prim.Native.Nat.{_+_, _/_, _^_, _≤_, _<_};
@@ -7,7 +8,7 @@ ghost use Rattle.chain.specs.Length.{Lent};
 ghost use Rattle.region.specs.Words.{word, size, bin};
 ghost use Rattle.sweep.specs.Sweep.{sizesM, saysListedM, isPlacedM, SweptIs, BothEnds, NextListed, SweepIs};
 use bins::bin_word;
-use marks::unmark;
+use marks::is_marked;
 use region::ALIGNMENT;
 use region::BIN;
 use region::Chunk;
@@ -84,10 +85,9 @@ pub enum Swept {
 }
 
 // No list has more members than there are heap bytes, so that a ring of links is found when these are used up.
-// The mark is turned over before the words are compared: of the marks after a torn list nothing is said.
 pub fn sweep_list(
     region: &[u32],
-    marks: &mut [u32],
+    marks: &[u32],
     table: &[u32],
     bin: usize,
     first: u32,
@@ -96,7 +96,7 @@ pub fn sweep_list(
     requires { ⌜ Lent (now region) bytes ⌝ }
     requires { ⌜ length (now marks) ≡ 256 ⌝ }
     requires { ⌜ bin < length (now table) ⌝ }
-    ensures { λ r. ⌜ SweptIs (now (region .entry)) (now (table .entry)) bin bytes (now (marks .entry)) first (now (marks .exit)) r ⌝ }
+    ensures { λ r. ⌜ SweptIs (now (region .entry)) (now (table .entry)) bin bytes (now (marks .entry)) first r ⌝ }
 {
     let sizes = sizes_of(table, bin);
     let mut at = first;
@@ -109,7 +109,7 @@ pub fn sweep_list(
         if !is_placed(Chunk(at), bytes) {
             return Swept::Torn;
         }
-        if !unmark(marks, Chunk(at)) {
+        if !is_marked(marks, Chunk(at)) {
             return Swept::Torn;
         }
         if !is_listed(region, sizes, before, Chunk(at)) {
@@ -145,7 +145,7 @@ fn next_listed<'a>(heads: &'a [u32], tails: &'a [u32], from: usize, count: usize
 
 pub fn sweep_bins<'a>(
     region: &[u32],
-    marks: &mut [u32],
+    marks: &[u32],
     table: &[u32],
     heads: &'a [u32],
     tails: &'a [u32],

@@ -27,7 +27,7 @@ module _ (swept : tie.After-sweep-bins) where
 returns-6 : tie.Need-returns-6
 returns-6 c =
     let clean = c .before .before .before in
-    let sweep = clean .before .before .before in
+    let sweep = clean .before .before in
     let test = tested sweep in
     walked
     (all-well
@@ -59,7 +59,7 @@ returns-3 c =
 
 returns-4 : tie.Need-returns-4
 returns-4 c =
-    let sweep = c .before .before .before in
+    let sweep = c .before .before in
     let test = tested sweep in
     walked
     (lists-dirty
@@ -73,7 +73,7 @@ returns-4 c =
 returns-5 : tie.Need-returns-5
 returns-5 c =
     let clean = c .before .before .before in
-    let sweep = clean .before .before .before in
+    let sweep = clean .before .before in
     let test = tested sweep in
     walked
     (other-count

@@ -1,7 +1,7 @@
 -- `sweep::sweep_list` combs one list. The invariant: what is done and what is left come to the whole list; the measure: the steps left.
 -- Assumes nothing.
 use native.Mathlib.Omega.{arith}
-use mathlib.Core.Path.{_≡_, refl}
+use mathlib.Core.Path.{refl}
 use Prim.Native.Nat.{_+_, _/_, _<_}
 use borrow.Author.Needs.{needs}
 use lib.ListN.{length}
@@ -11,11 +11,11 @@ use Rattle.sweep.proofs.sweep_list.Statement.{statement}
 use Rattle.sweep.proofs.sweep_list.Tie as tie
 
 abbrev Inv-loop : tie.InvT-loop
-Inv-loop region marks₀ table bin first bytes sizes at₀ before₀ left₀ marks at before left =
-    Combing region table bin bytes marks₀ first marks at before left × (length marks ≡ length marks₀)
+Inv-loop region marks table bin first bytes sizes at₀ before₀ left₀ at before left =
+    Combing region table bin bytes marks first at before left
 
 abbrev μ-loop : tie.MeasureT-loop
-μ-loop region marks₀ table bin first bytes sizes at₀ before₀ left₀ marks at before left = left
+μ-loop region marks table bin first bytes sizes at₀ before₀ left₀ at before left = left
 
 -- in the loop: what the bin asks of its members, and what the function was given
 module _ (turn : tie.In-loop Inv-loop μ-loop) where
@@ -37,12 +37,8 @@ module _ (placed : tie.Else2 Inv-loop μ-loop) where
   in-marks = mark-inside (start turn .pre .0) (turn .before .loop .at) (placed .before .is-placed .ensures) (placed .if2 .left)
 
 -- behind the test of its mark
-module _ (marked : tie.Else3 Inv-loop μ-loop) where
-  abbrev unmarked : tie.After-unmark Inv-loop μ-loop
-  unmarked = marked .before .before .before
-
-  abbrev placed : tie.Else2 Inv-loop μ-loop
-  placed = unmarked .before .before
+abbrev placed : tie.Else3 Inv-loop μ-loop → tie.Else2 Inv-loop μ-loop
+placed marked = marked .before .before
 
 -- behind the test of its words: what the three tests come to
 module _ (told : tie.After-is-listed Inv-loop μ-loop) where
@@ -54,17 +50,13 @@ module _ (told : tie.After-is-listed Inv-loop μ-loop) where
 
   member-tested :
       Tested (start here .args .region .now) (start here .args .table .now) (start here .args .bin) (start here .args .bytes)
-      (here .before .loop .marks) (here .before .loop .before) (here .before .loop .at) (told .is-listed .result)
+      (start here .args .marks .now) (here .before .loop .before) (here .before .loop .at) (told .is-listed .result)
   member-tested =
-      by-words (placed marked .before .is-placed .ensures) (placed marked .if2 .left) (unmarked marked .unmark .ensures .0)
+      by-words (placed marked .before .is-placed .ensures) (placed marked .if2 .left) (marked .before .is-marked .ensures)
       (marked .if3 .left) (start here .pre .1 .1) (asked here .sizes-of .ensures) (told .is-listed .ensures)
 
-loop-holds : tie.Need-loop-holds Inv-loop μ-loop
-loop-holds c = (combing-begins, refl)
-
 returns : tie.Need-returns Inv-loop μ-loop
-returns c =
-    torn-long (c .before .before .loop .inv .0) _ (c .if1 .taken) (c .before .loop-test .taken)
+returns c = torn-long (c .before .before .loop .inv) (c .if1 .taken) (c .before .loop-test .taken)
 
 enough : tie.Need-is-placed-requires Inv-loop μ-loop
 enough c κs = omega (arith, start (c .before) .pre .0 .enough)
@@ -72,21 +64,18 @@ enough c κs = omega (arith, start (c .before) .pre .0 .enough)
 returns-2 : tie.Need-returns-2 Inv-loop μ-loop
 returns-2 c =
     let turn = c .before .before .before in
-    torn-here (turn .before .loop .inv .0) (turn .loop-test .taken) (omega arith)
-    (not-placed (c .before .is-placed .ensures) (c .if2 .taken)) _ refl
+    torn-here (turn .before .loop .inv) (turn .loop-test .taken) (omega arith)
+    (not-placed (c .before .is-placed .ensures) (c .if2 .taken)) refl
 
-in-bitmap : tie.Need-unmark-requires Inv-loop μ-loop
-in-bitmap c κs =
-    let turn = turn (c .before) in
-    omega (arith, in-marks (c .before), turn .before .loop .inv .1, start turn .pre .1 .0)
+in-bitmap : tie.Need-is-marked-requires Inv-loop μ-loop
+in-bitmap c κs = omega (arith, in-marks c, start (turn c) .pre .1 .0)
 
 returns-3 : tie.Need-returns-3 Inv-loop μ-loop
 returns-3 c =
-    let unmarked = c .before .before .before in
-    let placed = unmarked .before .before in
+    let placed = c .before .before in
     let turn = turn placed in
-    torn-here (turn .before .loop .inv .0) (turn .loop-test .taken) (omega arith)
-    (not-marked (placed .before .is-placed .ensures) (placed .if2 .left) (unmarked .unmark .ensures .0) (c .if3 .taken)) _ refl
+    torn-here (turn .before .loop .inv) (turn .loop-test .taken) (omega arith)
+    (not-marked (placed .before .is-placed .ensures) (placed .if2 .left) (c .before .is-marked .ensures) (c .if3 .taken)) refl
 
 header : tie.Need-is-listed-requires Inv-loop μ-loop
 header c κs = in-words (placed c)
@@ -94,8 +83,8 @@ header c κs = in-words (placed c)
 returns-4 : tie.Need-returns-4 Inv-loop μ-loop
 returns-4 c =
     let turn = here (c .before) in
-    torn-here (turn .before .loop .inv .0) (turn .loop-test .taken) (omega arith)
-    (member-tested (c .before)) _ (c .if4 .taken)
+    torn-here (turn .before .loop .inv) (turn .loop-test .taken) (omega arith)
+    (member-tested (c .before)) (c .if4 .taken)
 
 -- the place of a listed member is below that of the last mark, so that no index made of it wraps
 low : (c : tie.Else4 Inv-loop μ-loop) → here (c .before) .before .loop .at / 256 < 256
@@ -108,17 +97,15 @@ loop-again : tie.Need-loop-again Inv-loop μ-loop
 unfolding word
 loop-again c =
     let listed = c .before in
-    let turn = here (listed .before) in (
-      combing-goes (turn .before .loop .inv .0) (turn .loop-test .taken) (omega arith)
-          (member-tested (listed .before)) (listed .if4 .left) (unmarked (marked (listed .before)) .unmark .ensures .1) refl,
-      search needs,
-    )
+    let turn = here (listed .before) in
+    combing-goes (turn .before .loop .inv) (turn .loop-test .taken) (omega arith)
+    (member-tested (listed .before)) (listed .if4 .left) refl
 
-within : tie.Need-sub-t23 Inv-loop μ-loop
-within c = c .before .loop .inv .0 .within
+within : tie.Need-sub-t21 Inv-loop μ-loop
+within c = c .before .loop .inv .within
 
 returns-5 : tie.Need-returns-5 Inv-loop μ-loop
-returns-5 c = whole-list (c .before .loop .inv .0) refl (c .loop-test .left)
+returns-5 c = whole-list (c .before .loop .inv) (c .loop-test .left)
 
 pub sweep-list-spec : {M : Type 1} → statement M
 sweep-list-spec =
@@ -127,17 +114,13 @@ sweep-list-spec =
     Inv-loop
     μ-loop
     (λ c κs. search needs)
-    loop-holds
-    (λ c. search needs)
+    (λ c. combing-begins)
     returns
     enough
-    (λ c. search needs)
     returns-2
     in-bitmap
-    (λ c. search needs)
     returns-3
     header
-    (λ c. search needs)
     returns-4
     (λ c. omega (arith, low c))
     (λ c. search needs)
@@ -148,5 +131,4 @@ sweep-list-spec =
     (λ c. omega arith)
     loop-again
     within
-    (λ c. search needs)
     returns-5)
