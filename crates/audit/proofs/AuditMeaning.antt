@@ -12,7 +12,7 @@ use Rattle.record.specs.declared.answers.Answer.the-variants.{Counted}
 use Rattle.record.specs.declared.answers.Counts.{Counts}
 use Rattle.record.specs.declared.heap.Heap.{Heap}
 use Rattle.record.specs.Heap.{tableOf, summaryOf}
-use Rattle.record.specs.Table.{validTable}
+use Rattle.record.specs.Table.{ValidTable}
 use Rattle.record.proofs.TableLaws.{valid-iff}
 use Rattle.chain.specs.Length.{fitsLengthM}
 use Rattle.chain.proofs.LengthLaws.{length-iff}
@@ -139,24 +139,25 @@ module _ (ws : List ℕ) (h : Heap) where
           let p = passes-of (walks .0 well) in
           (passes-iff ws h .1 p, counts ∙ counts-are p)
 
--- what the code lends on is there
-pub lent-sizes : (bins : ℕ) (sizes heads tails : List ℕ) → isTabledM bins sizes heads tails ≡ true → bins ≤ length sizes
+-- the table that the code lends on is there, and valid
+pub lent-table : (bins : ℕ) (sizes heads tails : List ℕ) → isTabledM bins sizes heads tails ≡ true
+    → (bins ≤ length sizes) × ValidTable (take bins sizes)
 unfolding isTabledM
-lent-sizes bins sizes heads tails e =
-    let ((((enough, valid), sizesUnused), headsUnused), tailsUnused) =
+lent-table bins sizes heads tails e =
+    let (((table, sizesUnused), headsUnused), tailsUnused) =
     both
-    (both (both (both (at-most bins (length sizes)) (itself (validTable (take bins sizes)))) (itself (unusedFrom bins sizes)))
+    (both (both (both (at-most bins (length sizes)) (valid-iff (take bins sizes))) (itself (unusedFrom bins sizes)))
     (itself (unusedFrom bins heads)))
     (itself (unusedFrom bins tails))
     .0 e in
-    enough
+    table
 
 -- so every bin has both ends of its list
 pub lent-ends : (bins : ℕ) (sizes heads tails : List ℕ) → Placed sizes heads tails → isTabledM bins sizes heads tails ≡ true
     → BothEnds (take bins sizes) heads tails
 lent-ends bins sizes heads tails p e =
-    let long = length-take-le bins sizes (lent-sizes bins sizes heads tails e) in
-    let l = lent-sizes bins sizes heads tails e in
+    let l = lent-table bins sizes heads tails e .0 in
+    let long = length-take-le bins sizes l in
     record { enoughHeads = omega (arith, p .sizePlaces, p .headPlaces); enoughTails = omega (arith, p .sizePlaces, p .tailPlaces) }
 
 -- the answer by what was found is the check's

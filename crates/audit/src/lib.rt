@@ -4,6 +4,7 @@ ghost use mathlib.Core.Bool.{_&&_};
 ghost use mathlib.Core.Path.{_≡_};
 ghost use Rattle.audit.specs.Audit.{answerOf, isSettledM, isSharedM, isTabledM, Placed, WalkedIs, LookIs};
 ghost use Rattle.chain.specs.Length.{Lent};
+ghost use Rattle.record.specs.Table.{ValidTable};
 ghost use Rattle.sweep.specs.Sweep.{BothEnds};
 ghost use Rattle.rules.specs.Check.{passes, unusedFrom};
 ghost use Rattle.rules.specs.Merge.{checked};
@@ -89,6 +90,7 @@ pub fn walk_all<'a>(
     summary: Summary,
 ) -> Audit
     requires { ⌜ Lent (now region) (summary .bytes) ⌝ }
+    requires { ⌜ ValidTable (now table) ⌝ }
     requires { ⌜ BothEnds (now table) (now heads) (now tails) ⌝ }
     ensures { λ r. ⌜ WalkedIs (now (region .entry)) (now (table .entry)) (now (heads .entry)) (now (tails .entry)) summary r ⌝ }
 {

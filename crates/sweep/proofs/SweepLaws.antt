@@ -3,19 +3,19 @@ use mathlib.Core.Path.{_≡_, refl, sym, _∙_, ap, subst}
 use mathlib.Core.Bool.{Bool, true, false, not, cond, _&&_, _||_, and-assoc}
 use mathlib.Core.List.{List, [], _∷_}
 use Prim.Native.Nat.{ℕ, zero, suc, _+_, _-_, _/_, _%_, _^_, _≤_, _<_}
-use native.Mathlib.Decide.{ℕ-discrete, decLt}
+use native.Mathlib.Decide.{ℕ-discrete, decLt, decLe}
 use native.Mathlib.Nat.{zero-add, add-zero}
 use native.Mathlib.Numerals.{add-one}
 use native.Mathlib.Omega.{arith}
 use lib.Bits.{bitOr, or-add-and, and-le-l, and-le-r}
 use lib.Dec.{leb, ltb}
 use lib.ListN.{length, getD}
-use borrow.Author.Tests.{eq-eqb, ne-eqb, lt-ltb, le-ltb, not-true, not-false}
+use borrow.Author.Tests.{eq-eqb, ne-eqb, le-leb, lt-leb, lt-ltb, le-ltb, not-true, not-false}
 use Rattle.lists.specs.Lists.{lastOr, total, numbersFrom}
 use Rattle.lists.proofs.ListsLaws.{number-is, less, both}
 use Rattle.marks.specs.Marks.{marked}
 use Rattle.chain.specs.Length.{Lent}
-use Rattle.record.specs.Table.{sizeAt, takesBin}
+use Rattle.record.specs.Table.{ValidTable, sizeAt, takesBin}
 use Rattle.region.specs.Words.{word, size, nextInBin, bin}
 use Rattle.rules.specs.Shape.{membersFrom}
 use Rattle.rules.proofs.ShapeLaws.{read-none, read-spent, read-more}
@@ -25,17 +25,41 @@ use Rattle.sweep.specs.declared.Swept.{Swept}
 use Rattle.sweep.specs.declared.Swept.the-variants.{Whole, Torn}
 use Rattle.sweep.specs.Sweep.{sizesM, saysListedM, isPlacedM, isListedM, combed, beyond, wholeList, WholeIs, SweptIs, NextListed, listAt, allWhole, SweepIs}
 
--- the two comparisons of a size with what its bin asks are the test for the bin
-takes-sizes : (table : List ℕ) (i s : ℕ) → i < length table → s < 2 ^ 32
-    → takesBin table i s ≡ (leb (sizesM table i .least) s && ltb s (sizesM table i .above))
-unfolding takesBin
-takes-sizes table i s inside small = rw (lt-ltb i (length table) inside) (go (leb (length table) (suc i)))
+-- a size is below a bound exactly if it is at most the span more than the least one
+below-span : (least above s : ℕ) → least < above → ltb s above ≡ leb s (least + (above - 1 - least))
+below-span least above s h = go (decLt s above)
   where
-    go : (last : Bool)
-        → (leb (sizeAt table i) s && (last || ltb s (sizeAt table (suc i))))
-        ≡ (leb (sizeAt table i) s && ltb s (cond last (2 ^ 32) (sizeAt table (suc i))))
-    go true = rw (lt-ltb s (2 ^ 32) small)
-    go false = refl
+    go : Dec (s < above) → ltb s above ≡ leb s (least + (above - 1 - least))
+    go (yes l) = lt-ltb s above l ∙ sym (le-leb s _ (omega arith))
+    go (no n) = le-ltb s above (omega arith) ∙ sym (lt-leb s _ (omega arith))
+
+-- the two comparisons of a size with what its bin asks are the test for the bin
+takes-sizes : (table : List ℕ) (i s : ℕ) → ValidTable table → i < length table → sizeAt table i < 2 ^ 32 → s < 2 ^ 32
+    → takesBin table i s ≡ (leb (sizesM table i .least) s && leb s (sizesM table i .least + sizesM table i .span))
+unfolding takesBin
+takes-sizes table i s valid inside word small = rw (lt-ltb i (length table) inside) (go (decLe (length table) (suc i)))
+  where
+    go : Dec (length table ≤ suc i)
+        → (leb (sizeAt table i) s && (leb (length table) (suc i) || ltb s (sizeAt table (suc i))))
+        ≡ (leb (sizeAt table i) s
+        && leb s (sizeAt table i + (cond (leb (length table) (suc i)) (2 ^ 32 - 1) (sizeAt table (suc i) - 1) - sizeAt table i)))
+    go (yes l) = rw (le-leb (length table) (suc i) l, ← below-span (sizeAt table i) (2 ^ 32) s word, lt-ltb s (2 ^ 32) small)
+    go (no n) =
+        rw (
+          lt-leb (length table) (suc i) (omega arith),
+          below-span (sizeAt table i) (sizeAt table (suc i)) s (valid .ascends i (omega arith)),
+        )
+
+-- the code's one comparison makes both: r is the wrapped difference of a size and the least one
+pub span-tested : (least span s r : ℕ) → least + span < 2 ^ 32 → r < 2 ^ 32 → (r + least) % 2 ^ 32 ≡ s
+    → leb r span ≡ (leb least s && leb s (least + span))
+span-tested least span s r fits small e = go (decLe least s) (decLe r span)
+  where
+    go : Dec (least ≤ s) → Dec (r ≤ span) → leb r span ≡ (leb least s && leb s (least + span))
+    go (yes l) (yes k) = rw (le-leb r span k, le-leb least s l, le-leb s (least + span) (omega arith))
+    go (yes l) (no k) = rw (lt-leb r span (omega arith), le-leb least s l, lt-leb s (least + span) (omega arith))
+    go (no l) (yes k) = absurd (omega arith)
+    go (no l) (no k) = rw (lt-leb r span (omega arith), lt-leb least s (omega arith))
 
 -- what the test of a member comes to. It is a record, so that the checker finds by itself what is tested
 pub record Tested (ws table : List ℕ) (i bytes : ℕ) (ms : List ℕ) (p c : ℕ) (t : Bool) : Type 0 where
@@ -52,16 +76,17 @@ module _ {ws table : List ℕ} {i bytes : ℕ} {ms : List ℕ} {p c : ℕ} {t : 
     unfolding isListedM
     not-marked h = record { is = rw (sym et ∙ not-false t ht, sym em ∙ not-true m h) }
 
-    pub by-words : not m ≡ false → i < length table → {sizes : Sizes} → sizes ≡ sizesM table i
+    pub by-words : not m ≡ false → ValidTable table → i < length table → {sizes : Sizes}
+        → (sizes ≡ sizesM table i) × (sizes .least + sizes .span < 2 ^ 32)
         → {w : Bool} → (w ≡ saysListedM ws sizes p c) × (word ws c size < 2 ^ 32) → Tested ws table i bytes ms p c w
     unfolding isListedM saysListedM
-    by-words hm inside es (ew, small) =
+    by-words hm valid inside (es, fits) (ew, small) =
         record {
           is =
               rw (
                 sym et ∙ not-false t ht,
                 sym em ∙ not-false m hm,
-                takes-sizes table i (word ws c size) inside small,
+                takes-sizes table i (word ws c size) valid inside (omega (arith, rw es at fits)) small,
                 ← and-assoc,
               )
               (rw es at ew);

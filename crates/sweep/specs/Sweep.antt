@@ -3,7 +3,7 @@
 use mathlib.Core.Path.{_≡_}
 use mathlib.Core.Bool.{Bool, true, false, cond, _&&_}
 use mathlib.Core.List.{List, [], _∷_}
-use Prim.Native.Nat.{ℕ, suc, _+_, _*_, _%_, _^_, _≤_, _<_}
+use Prim.Native.Nat.{ℕ, suc, _+_, _-_, _*_, _%_, _^_, _≤_, _<_}
 use lib.Dec.{eqb, leb, ltb}
 use lib.ListN.{length, getD}
 use Rattle.lists.specs.Lists.{every, lastOr, total, numbersFrom}
@@ -18,20 +18,20 @@ use Rattle.sweep.specs.declared.Swept.{Swept}
 use Rattle.sweep.specs.declared.Swept.the-variants.{Whole, Torn}
 
 -- what bin i asks of the words of its members: its bin word, and a size from its own to below the next bin's.
--- No bin follows the last one: its bound is above every word
+-- No bin follows the last one: every word from its size on is one of its sizes
 abbrev pub sizesM : List ℕ → ℕ → Sizes
 sizesM table i =
     record {
       word = i % 32 * 8;
       least = sizeAt table i;
-      above = cond (leb (length table) (suc i)) (2 ^ 32) (sizeAt table (suc i));
+      span = cond (leb (length table) (suc i)) (2 ^ 32 - 1) (sizeAt table (suc i) - 1) - sizeAt table i;
     }
 
 -- the words of the chunk at c are right for a member behind one at p, of the bin that asks for these sizes
 unfoldable pub saysListedM : List ℕ → Sizes → ℕ → ℕ → Bool
 saysListedM ws s p c =
     eqb (word ws c bin) (s .word) && eqb (word ws c previousInBin) p && leb (s .least) (word ws c size)
-    && ltb (word ws c size) (s .above)
+    && leb (word ws c size) (s .least + s .span)
 
 -- c is a multiple of 8, and the six words of a header are inside the heap bytes, which are a multiple of 8 too
 abbrev pub isPlacedM : ℕ → ℕ → Bool

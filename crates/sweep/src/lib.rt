@@ -5,6 +5,7 @@ ghost use mathlib.Core.Path.{_≡_};
 ghost use Prim.Native.Nat.{_+_, _/_, _^_, _≤_, _<_};
 ghost use lib.ListN.{length};
 ghost use Rattle.chain.specs.Length.{Lent};
+ghost use Rattle.record.specs.Table.{ValidTable};
 ghost use Rattle.region.specs.Words.{word, size, bin};
 ghost use Rattle.sweep.specs.Sweep.{sizesM, saysListedM, isPlacedM, SweptIs, BothEnds, NextListed, SweepIs};
 use bins::bin_word;
@@ -17,32 +18,32 @@ use region::NEXT_IN_BIN;
 use region::PREVIOUS_IN_BIN;
 use region::SIZE;
 
-// Above every word: no bin follows the last one, and so nothing bounds its sizes.
-const ABOVE_WORDS: u64 = 1 << 32;
-
 // On multiples of 8 the six words of a header are inside the heap exactly if the chunk is further below the end than this.
 const BELOW_END: u32 = LEAST - ALIGNMENT;
 
-// What a bin asks of the words of its members: its bin word, and a size from `least` to below `above`.
+// What a bin asks of the words of its members: its bin word, and a size from `least` to `span` more.
 pub struct Sizes {
     pub word: u32,
     pub least: u32,
-    pub above: u64,
+    pub span: u32,
 }
 
-// The table is read once for a list, not for each member.
+// The table is read once for a list, not for each member. No bin follows the last one, and so every word from its size on is one of its sizes.
 fn sizes_of(table: &[u32], bin: usize) -> Sizes
+    requires { ⌜ ValidTable (now table) ⌝ }
     requires { ⌜ bin < length (now table) ⌝ }
     ensures { λ r. ⌜ r ≡ sizesM (now (table .entry)) bin ⌝ }
+    ensures { λ r. ⌜ r .least + r .span < 2 ^ 32 ⌝ }
 {
     let next = bin + 1;
+    let least = table[bin];
     Sizes {
         word: bin_word(bin),
-        least: table[bin],
-        above: if next < table.len() {
-            table[next] as u64
+        least: least,
+        span: if next < table.len() {
+            table[next] - 1 - least
         } else {
-            ABOVE_WORDS
+            u32::MAX - least
         },
     }
 }
@@ -58,9 +59,11 @@ fn is_placed(chunk: Chunk, bytes: u32) -> bool
     chunk.0 < bytes - BELOW_END
 }
 
-// The words of a member: its bin word, its backward bin link and its size are right. A size is a word, so that it is below `ABOVE_WORDS`.
+// The words of a member: its bin word, its backward bin link and its size are right. A size below `least` wraps to a difference above `span`,
+// so that one comparison tests both bounds.
 fn is_listed(region: &[u32], sizes: Sizes, before: u32, chunk: Chunk) -> bool
     requires { ⌜ chunk .0 / 4 + bin < length (now region) ⌝ }
+    requires { ⌜ sizes .least + sizes .span < 2 ^ 32 ⌝ }
     ensures { λ r. ⌜ r ≡ saysListedM (now (region .entry)) sizes before (chunk .0) ⌝ }
     ensures { λ _. ⌜ word (now (region .entry)) (chunk .0) size < 2 ^ 32 ⌝ }
 {
@@ -72,10 +75,7 @@ fn is_listed(region: &[u32], sizes: Sizes, before: u32, chunk: Chunk) -> bool
     if region[i + PREVIOUS_IN_BIN as usize] != before {
         return false;
     }
-    if size < sizes.least {
-        return false;
-    }
-    (size as u64) < sizes.above
+    std::num::wrapping_sub_u32(size, sizes.least) <= sizes.span
 }
 
 pub enum Swept {
@@ -95,6 +95,7 @@ pub fn sweep_list(
 ) -> Swept
     requires { ⌜ Lent (now region) bytes ⌝ }
     requires { ⌜ length (now marks) ≡ 256 ⌝ }
+    requires { ⌜ ValidTable (now table) ⌝ }
     requires { ⌜ bin < length (now table) ⌝ }
     ensures { λ r. ⌜ SweptIs (now (region .entry)) (now (table .entry)) bin bytes (now (marks .entry)) first r ⌝ }
 {
@@ -153,6 +154,7 @@ pub fn sweep_bins<'a>(
 ) -> Sweep
     requires { ⌜ Lent (now region) bytes ⌝ }
     requires { ⌜ length (now marks) ≡ 256 ⌝ }
+    requires { ⌜ ValidTable (now table) ⌝ }
     requires { ⌜ BothEnds (now table) (now heads) (now tails) ⌝ }
     ensures { λ r. ⌜ SweepIs (now (region .entry)) (now (table .entry)) (now (heads .entry)) (now (tails .entry)) bytes (now (marks .entry)) r ⌝ }
 {

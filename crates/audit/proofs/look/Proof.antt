@@ -8,7 +8,7 @@ use borrow.Author.Tests.{not-true, not-false}
 use Rattle.chain.specs.Length.{fitsLengthM}
 use Rattle.chain.proofs.LengthLaws.{lent-words, lent-even}
 use Rattle.audit.specs.Audit.{isTabledM}
-use Rattle.audit.proofs.AuditMeaning.{audit-short, audit-untabled, audit-walked, lent-sizes, lent-ends}
+use Rattle.audit.proofs.AuditMeaning.{audit-short, audit-untabled, audit-walked, lent-table, lent-ends}
 use Rattle.audit.proofs.look.Statement.{statement}
 use Rattle.audit.proofs.look.Tie as tie
 
@@ -37,12 +37,12 @@ returns-3 c s h t =
     let right = c .before .before .before .before in
     audit-walked _ _ (start (long right) .pre) (fits (long right)) (tabled right) _ (c .walk-all .ensures)
 
--- the walks get the words of the heap bytes, and both ends of every bin's list
+-- the walks get the words of the heap bytes, a valid table, and both ends of every bin's list
 walk-all-requires : tie.Need-walk-all-requires
 walk-all-requires c κs =
     let right = c .before .before .before in (
       lent-even _ _ (fits (long right)),
-      lent-ends _ _ _ _ (start (long right) .pre) (tabled right),
+      (lent-table _ _ _ _ (tabled right) .1, lent-ends _ _ _ _ (start (long right) .pre) (tabled right)),
     )
 
 pub look-spec : {M : Type 1} → statement M
@@ -56,7 +56,7 @@ look-spec =
     returns-2
     (λ c. search needs)
     (λ c. sym (length-take-le _ _ (lent-words _ _ (fits (long (c .before .before))))))
-    -- the blanks of `lent-sizes` are the bin count, the sizes, the heads and the tails
-    (λ c. sym (length-take-le _ _ (lent-sizes _ _ _ _ (tabled (c .before .before .before)))))
+    -- the blanks of `lent-table` are the bin count, the sizes, the heads and the tails
+    (λ c. sym (length-take-le _ _ (lent-table _ _ _ _ (tabled (c .before .before .before)) .0)))
     walk-all-requires
     returns-3)

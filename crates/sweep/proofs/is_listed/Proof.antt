@@ -2,20 +2,24 @@
 use Prim.Native.Nat.{_+_, _/_, _^_, _<_}
 use native.Mathlib.Omega.{arith}
 use borrow.Author.Needs.{needs}
-use borrow.Author.Tests.{eq-eqb, ne-eqb, le-leb, lt-leb}
+use borrow.Author.Tests.{eq-eqb, ne-eqb}
 use lib.ListN.{getD}
 use Rattle.region.specs.Words.{word, size}
 use Rattle.sweep.specs.Sweep.{saysListedM}
+use Rattle.sweep.proofs.SweepLaws.{span-tested}
 use Rattle.sweep.proofs.is_listed.Statement.{statement}
 use Rattle.sweep.proofs.is_listed.Tie as tie
 
--- the size is a word of the region, so it is below 2 ^ 32
-module _ (read : tie.After-shared-slice-known) where
-  is-word : getD (read .before .before .args .region .now) (read .before .before .args .chunk .0 / 4 + size) 0 < 2 ^ 32
-  is-word = omega (arith, read .shared-slice-known .given (read .before .before .args .chunk .0 / 4 + size))
+-- behind the read of the size: the call began. The size is a word of the region, so it is below 2 ^ 32
+module _ (read : tie.After-shared-slice-known2) where
+  abbrev start : tie.Start
+  start = read .before .before .before
+
+  is-word : getD (start .args .region .now) (start .args .chunk .0 / 4 + size) 0 < 2 ^ 32
+  is-word = omega (arith, read .shared-slice-known2 .given (start .args .chunk .0 / 4 + size))
 
 -- behind the test of the bin word: the size is read
-abbrev size-read : tie.Else1 → tie.After-shared-slice-known
+abbrev size-read : tie.Else1 → tie.After-shared-slice-known2
 size-read same-bin = same-bin .before .before .before
 
 returns : tie.Need-returns
@@ -34,21 +38,10 @@ returns-3 : tie.Need-returns-3
 unfolding saysListedM word
 returns-3 c =
     let same-before = c .before .before in
-    let same-bin = same-before .before .before in (
-      rw (eq-eqb _ _ (same-bin .if1 .left), eq-eqb _ _ (same-before .if2 .left), lt-leb _ _ (c .if3 .taken)),
-      is-word (size-read same-bin),
-    )
-
-fits : tie.Need-cast-result
-fits c = omega (arith, is-word (size-read (c .before .before .before .before)))
-
-returns-4 : tie.Need-returns-4
-unfolding saysListedM word
-returns-4 c =
-    let large = c .before in
-    let same-before = large .before .before in
-    let same-bin = same-before .before .before in (
-      rw (eq-eqb _ _ (same-bin .if1 .left), eq-eqb _ _ (same-before .if2 .left), le-leb _ _ (large .if3 .left)),
+    let same-bin = same-before .before .before in
+    let sizes = start (size-read same-bin) .args .sizes in (
+      rw (eq-eqb _ _ (same-bin .if1 .left), eq-eqb _ _ (same-before .if2 .left))
+          (span-tested (sizes .least) (sizes .span) _ _ (start (size-read same-bin) .pre .1) (search needs) (c .before .wrapping-sub-u32 .ensures)),
       is-word (size-read same-bin),
     )
 
@@ -71,6 +64,5 @@ is-listed-spec =
     (λ c. search needs)
     (λ c. search needs)
     returns-2
-    returns-3
-    fits
-    returns-4)
+    (λ c κs. search needs)
+    returns-3)

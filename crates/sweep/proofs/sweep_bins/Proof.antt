@@ -26,18 +26,18 @@ turn swept = swept .before .before
 ends : tie.Need-next-listed-requires Inv-loop μ-loop
 ends c κs =
     let start = c .before .before .before .before .before in
-    (start .pre .1 .1 .enoughHeads, start .pre .1 .1 .enoughTails)
+    (start .pre .1 .1 .1 .enoughHeads, start .pre .1 .1 .1 .enoughTails)
 
 loop-holds : tie.Need-loop-holds Inv-loop μ-loop
 loop-holds c = sweeping-skips sweeping-begins (c .next-listed .ensures)
 
 head-inside : tie.Need-shared-slice-read-sweep-list Inv-loop μ-loop
-head-inside c = let ends = start (c .before) .pre .1 .1 in omega arith
+head-inside c = let ends = start (c .before) .pre .1 .1 .1 in omega arith
 
 list-lent : tie.Need-sweep-list-requires Inv-loop μ-loop
 list-lent c κs =
     let turn = c .before in
-    (start turn .pre .0, (start turn .pre .1 .0, turn .loop-test .taken))
+    (start turn .pre .0, (start turn .pre .1 .0, (start turn .pre .1 .1 .0, turn .loop-test .taken)))
 
 returns : tie.Need-returns Inv-loop μ-loop
 returns c =
@@ -48,7 +48,7 @@ returns c =
 tail-inside : tie.Need-shared-slice-read-if1 Inv-loop μ-loop
 tail-inside c =
     let swept = c .before .before .before .before in
-    let ends = start (turn swept) .pre .1 .1 in
+    let ends = start (turn swept) .pre .1 .1 .1 in
     omega arith
 
 returns-2 : tie.Need-returns-2 Inv-loop μ-loop
@@ -70,7 +70,7 @@ module _ (summed : tie.After-wrapping-add-u32 Inv-loop μ-loop) where
 ends-2 : tie.Need-next-listed-requires-2 Inv-loop μ-loop
 ends-2 c κs =
     let start = start (turn (list-swept c)) in
-    (start .pre .1 .1 .enoughHeads, start .pre .1 .1 .enoughTails)
+    (start .pre .1 .1 .1 .enoughHeads, start .pre .1 .1 .1 .enoughTails)
 
 fewer-left : tie.Need-loop-less Inv-loop μ-loop
 fewer-left c = omega (arith, c .next-listed2 .ensures .onward)

@@ -53,7 +53,7 @@ module _ (told : tie.After-is-listed Inv-loop μ-loop) where
       (start here .args .marks .now) (here .before .loop .before) (here .before .loop .at) (told .is-listed .result)
   member-tested =
       by-words (placed marked .before .is-placed .ensures) (placed marked .if2 .left) (marked .before .is-marked .ensures)
-      (marked .if3 .left) (start here .pre .1 .1) (asked here .sizes-of .ensures) (told .is-listed .ensures)
+      (marked .if3 .left) (start here .pre .1 .1 .0) (start here .pre .1 .1 .1) (asked here .sizes-of .ensures) (told .is-listed .ensures)
 
 returns : tie.Need-returns Inv-loop μ-loop
 returns c = torn-long (c .before .before .loop .inv) (c .if1 .taken) (c .before .loop-test .taken)
@@ -78,7 +78,7 @@ returns-3 c =
     (not-marked (placed .before .is-placed .ensures) (placed .if2 .left) (c .before .is-marked .ensures) (c .if3 .taken)) refl
 
 header : tie.Need-is-listed-requires Inv-loop μ-loop
-header c κs = in-words (placed c)
+header c κs = (in-words (placed c), asked (turn (placed c)) .sizes-of .ensures .1)
 
 returns-4 : tie.Need-returns-4 Inv-loop μ-loop
 returns-4 c =
