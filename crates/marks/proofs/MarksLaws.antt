@@ -59,9 +59,16 @@ pub shifted : (n : ℕ) → 1 * 2 ^ (n % 32) % 2 ^ 32 ≡ 2 ^ (n % 32)
 shifted n = let l : 1 + n % 32 ≤ 32 = omega arith in shl-exact 1 (n % 32) 32 (omega arith) l ∙ one-mul _
 
 -- the code's test of a mark
-pub mark-tested : (ms : List ℕ) (c : ℕ) → not (eqb (bitAnd (getD ms (c / 256) 0) (2 ^ (c / 8 % 32))) 0) ≡ marked ms c
+mark-tested : (ms : List ℕ) (c : ℕ) → not (eqb (bitAnd (getD ms (c / 256) 0) (2 ^ (c / 8 % 32))) 0) ≡ marked ms c
 unfolding marked
 mark-tested ms c = bit-tested (getD ms (c / 256) 0) (c / 8 % 32)
+
+-- the same of a mark by its number
+pub mark-numbered : (ms : List ℕ) (k : ℕ) → not (eqb (bitAnd (getD ms (k / 32) 0) (2 ^ (k % 32))) 0) ≡ marked ms (8 * k)
+mark-numbered ms k =
+    let i : k / 32 ≡ 8 * k / 256 = omega arith in
+    let bit : k % 32 ≡ 8 * k / 8 % 32 = omega arith in
+    rw (i, bit) (mark-tested ms (8 * k))
 
 pub length-flipped : (ms : List ℕ) (c : ℕ) → length (flipped ms c) ≡ length ms
 unfolding flipped

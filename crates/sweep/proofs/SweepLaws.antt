@@ -2,7 +2,7 @@
 use mathlib.Core.Path.{_≡_, refl, sym, _∙_, ap, subst}
 use mathlib.Core.Bool.{Bool, true, false, not, cond, _&&_, _||_, and-assoc}
 use mathlib.Core.List.{List, [], _∷_}
-use Prim.Native.Nat.{ℕ, zero, suc, _+_, _-_, _/_, _%_, _^_, _≤_, _<_}
+use Prim.Native.Nat.{ℕ, zero, suc, _+_, _-_, _*_, _/_, _%_, _^_, _≤_, _<_}
 use native.Mathlib.Decide.{ℕ-discrete, decLt, decLe}
 use native.Mathlib.Nat.{zero-add, add-zero}
 use native.Mathlib.Numerals.{add-one}
@@ -12,8 +12,8 @@ use lib.Dec.{leb, ltb}
 use lib.ListN.{length, getD}
 use borrow.Author.Tests.{eq-eqb, ne-eqb, le-leb, lt-leb, lt-ltb, le-ltb, not-true, not-false}
 use Rattle.lists.specs.Lists.{lastOr, total, numbersFrom}
-use Rattle.lists.proofs.ListsLaws.{number-is, less, both}
-use Rattle.marks.specs.Marks.{marked}
+use Rattle.lists.proofs.ListsLaws.{same-test, number-is, less, both}
+use Rattle.marks.specs.Marks.{numberM, marked}
 use Rattle.chain.specs.Length.{Lent}
 use Rattle.record.specs.Table.{ValidTable, sizeAt, takesBin}
 use Rattle.region.specs.Words.{word, size, nextInBin, bin}
@@ -92,13 +92,16 @@ module _ {ws table : List ℕ} {i bytes : ℕ} {ms : List ℕ} {p c : ℕ} {t : 
               (rw es at ew);
         }
 
--- the code's test of a limit below the end, which does not wrap
-pub below-end : (c bytes : ℕ) → 16 ≤ bytes → ltb c (bytes - 16) ≡ ltb (c + 16) bytes
-below-end c bytes h = go (decLt c (bytes - 16))
-  where
-    go : Dec (c < bytes - 16) → ltb c (bytes - 16) ≡ ltb (c + 16) bytes
-    go (yes l) = lt-ltb c (bytes - 16) l ∙ sym (lt-ltb (c + 16) bytes (omega arith))
-    go (no n) = le-ltb c (bytes - 16) (omega arith) ∙ sym (le-ltb (c + 16) bytes (omega arith))
+-- one comparison of its number tests the place of a member
+module _ {ws : List ℕ} {bytes : ℕ} (lent : Lent ws bytes) (c : ℕ) where
+  number-placed : ltb (numberM c) (bytes / 8 - 2) ≡ isPlacedM bytes c
+  number-placed =
+      same-test (less (numberM c) (bytes / 8 - 2)) (both (number-is (c % 8) 0) (less (c + 16) bytes))
+      (λ l. (omega (arith, lent .notTooMany), omega (arith, lent .eights, lent .notTooMany)))
+      (λ (eight, below). omega (arith, lent .eights))
+
+  pub by-number : {k : ℕ} → k ≡ numberM c → {t : Bool} → t ≡ ltb k (bytes / 8 - 2) → t ≡ isPlacedM bytes c
+  by-number ek et = et ∙ ap (λ (n : ℕ). ltb n (bytes / 8 - 2)) ek ∙ number-placed
 
 -- a chunk that passes the test of its place has its header among the words, and its mark in the bitmap
 module _ {ws : List ℕ} {bytes : ℕ} (lent : Lent ws bytes) (c : ℕ) {t : Bool} (et : t ≡ isPlacedM bytes c) (ht : not t ≡ false) where
@@ -110,6 +113,14 @@ module _ {ws : List ℕ} {bytes : ℕ} (lent : Lent ws bytes) (c : ℕ) {t : Boo
 
   pub mark-inside : c / 256 < 256
   mark-inside = let (eight, below) = placed in omega (arith, lent .notTooMany)
+
+  -- its number is that of its mark
+  module _ {k : ℕ} (ek : k ≡ numberM c) where
+    pub number-inside : k / 32 < 256
+    number-inside = let (eight, below) = placed in omega (arith, lent .notTooMany)
+
+    pub own-mark : (ms : List ℕ) {m : Bool} → m ≡ marked ms (8 * k) → m ≡ marked ms c
+    own-mark ms em = let (eight, below) = placed in let same : 8 * k ≡ c = omega arith in em ∙ ap (marked ms) same
 
 -- where the walk of one list stands, at c behind p, with `left` steps left
 module _ (ws table : List ℕ) (i bytes : ℕ) (ms : List ℕ) (first : ℕ) where

@@ -1,15 +1,17 @@
 // The walk of the bins' lists: each member must be marked. The marks are only read: no chunk comes twice in a list, since its backward
 // bin link names one chunk before it, and none is in two lists, since its size belongs to one bin.
 // The marks were made by the walk of the chain, in the crate `survey`; the chain itself is not looked at here.
+ghost use lib.Dec.{ltb};
 ghost use mathlib.Core.Path.{_≡_};
-ghost use Prim.Native.Nat.{_+_, _/_, _^_, _≤_, _<_};
+ghost use Prim.Native.Nat.{_+_, _-_, _/_, _^_, _≤_, _<_};
 ghost use lib.ListN.{length};
 ghost use Rattle.chain.specs.Length.{Lent};
 ghost use Rattle.record.specs.Table.{ValidTable};
 ghost use Rattle.region.specs.Words.{word, size, bin};
-ghost use Rattle.sweep.specs.Sweep.{sizesM, saysListedM, isPlacedM, SweptIs, BothEnds, NextListed, SweepIs};
+ghost use Rattle.sweep.specs.Sweep.{sizesM, saysListedM, SweptIs, BothEnds, NextListed, SweepIs};
 use bins::bin_word;
 use marks::is_marked;
+use marks::number_of;
 use region::ALIGNMENT;
 use region::BIN;
 use region::Chunk;
@@ -18,8 +20,8 @@ use region::NEXT_IN_BIN;
 use region::PREVIOUS_IN_BIN;
 use region::SIZE;
 
-// On multiples of 8 the six words of a header are inside the heap exactly if the chunk is further below the end than this.
-const BELOW_END: u32 = LEAST - ALIGNMENT;
+// The six words of a header are inside the heap exactly if more multiples of 8 than this are from the chunk to the end.
+const BELOW_END: u32 = LEAST / ALIGNMENT - 1;
 
 // What a bin asks of the words of its members: its bin word, and a size from `least` to `span` more.
 pub struct Sizes {
@@ -48,15 +50,13 @@ fn sizes_of(table: &[u32], bin: usize) -> Sizes
     }
 }
 
-// The place of a member: a multiple of 8 with a whole header inside the heap. Behind this test its words and its mark need no test of bounds.
-fn is_placed(chunk: Chunk, bytes: u32) -> bool
+// The place of a member by its number: a multiple of 8 with a whole header inside the heap. Behind this test its words and its mark need no
+// test of bounds.
+fn is_placed(number: u32, bytes: u32) -> bool
     requires { ⌜ 16 ≤ bytes ⌝ }
-    ensures { λ r. ⌜ r ≡ isPlacedM bytes (chunk .0) ⌝ }
+    ensures { λ r. ⌜ r ≡ ltb number (bytes / 8 - 2) ⌝ }
 {
-    if chunk.0 % ALIGNMENT != 0 {
-        return false;
-    }
-    chunk.0 < bytes - BELOW_END
+    number < bytes / ALIGNMENT - BELOW_END
 }
 
 // The words of a member: its bin word, its backward bin link and its size are right. A size below `least` wraps to a difference above `span`,
@@ -107,10 +107,11 @@ pub fn sweep_list(
         if left == 0 {
             return Swept::Torn;
         }
-        if !is_placed(Chunk(at), bytes) {
+        let number = number_of(Chunk(at));
+        if !is_placed(number, bytes) {
             return Swept::Torn;
         }
-        if !is_marked(marks, Chunk(at)) {
+        if !is_marked(marks, number) {
             return Swept::Torn;
         }
         if !is_listed(region, sizes, before, Chunk(at)) {

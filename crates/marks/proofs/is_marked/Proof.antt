@@ -1,13 +1,13 @@
 -- `marks::is_marked` tests one bit of one word. Assumes nothing.
 use borrow.Author.Needs.{needs}
-use Rattle.marks.proofs.MarksLaws.{shifted, mark-tested}
+use Rattle.marks.proofs.MarksLaws.{shifted, mark-numbered}
 use Rattle.marks.proofs.is_marked.Statement.{statement}
 use Rattle.marks.proofs.is_marked.Tie as tie
 
 returns : tie.Need-returns
 returns c =
-    let given = c .before .before .before .args in
-    rw shifted (mark-tested (given .marks .now) (given .chunk .0))
+    let given = c .before .args in
+    rw shifted (mark-numbered (given .marks .now) (given .number))
 
 pub is-marked-spec : {M : Type 1} → statement M
 is-marked-spec =

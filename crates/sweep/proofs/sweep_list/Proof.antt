@@ -1,12 +1,14 @@
 -- `sweep::sweep_list` combs one list. The invariant: what is done and what is left come to the whole list; the measure: the steps left.
 -- Assumes nothing.
 use native.Mathlib.Omega.{arith}
-use mathlib.Core.Path.{refl}
+use mathlib.Core.Path.{_≡_, refl}
 use Prim.Native.Nat.{_+_, _/_, _<_}
 use borrow.Author.Needs.{needs}
 use lib.ListN.{length}
+use Rattle.marks.specs.Marks.{marked}
 use Rattle.region.specs.Words.{word, bin}
-use Rattle.sweep.proofs.SweepLaws.{Tested, not-placed, not-marked, by-words, header-inside, mark-inside, Combing, combing-begins, combing-goes, torn-long, torn-here, whole-list}
+use Rattle.sweep.specs.Sweep.{isPlacedM}
+use Rattle.sweep.proofs.SweepLaws.{Tested, not-placed, not-marked, by-words, by-number, header-inside, mark-inside, number-inside, own-mark, Combing, combing-begins, combing-goes, torn-long, torn-here, whole-list}
 use Rattle.sweep.proofs.sweep_list.Statement.{statement}
 use Rattle.sweep.proofs.sweep_list.Tie as tie
 
@@ -25,16 +27,36 @@ module _ (turn : tie.In-loop Inv-loop μ-loop) where
   abbrev start : tie.Start Inv-loop μ-loop
   start = asked .before .before .before .before
 
--- behind the test of a member's place: its header is among the words, its mark in the bitmap
-module _ (placed : tie.Else2 Inv-loop μ-loop) where
+-- the test of a member's place
+module _ (tested : tie.After-is-placed Inv-loop μ-loop) where
+  abbrev numbered : tie.After-number-of Inv-loop μ-loop
+  numbered = tested .before
+
   abbrev turn : tie.In-loop Inv-loop μ-loop
-  turn = placed .before .before .before
+  turn = numbered .before .before
 
-  in-words : turn .before .loop .at / 4 + bin < length (start turn .args .region .now)
-  in-words = header-inside (start turn .pre .0) (turn .before .loop .at) (placed .before .is-placed .ensures) (placed .if2 .left)
+  place-tested : tested .is-placed .result ≡ isPlacedM (start turn .args .bytes) (turn .before .loop .at)
+  place-tested = by-number (start turn .pre .0) (turn .before .loop .at) (numbered .number-of .ensures) (tested .is-placed .ensures)
 
-  in-marks : turn .before .loop .at / 256 < 256
-  in-marks = mark-inside (start turn .pre .0) (turn .before .loop .at) (placed .before .is-placed .ensures) (placed .if2 .left)
+-- behind it: the member's header is among the words, its mark in the bitmap
+module _ (placed : tie.Else2 Inv-loop μ-loop) where
+  abbrev tested : tie.After-is-placed Inv-loop μ-loop
+  tested = placed .before
+
+  in-words : turn tested .before .loop .at / 4 + bin < length (start (turn tested) .args .region .now)
+  in-words = header-inside (start (turn tested) .pre .0) (turn tested .before .loop .at) (place-tested tested) (placed .if2 .left)
+
+  in-marks : turn tested .before .loop .at / 256 < 256
+  in-marks = mark-inside (start (turn tested) .pre .0) (turn tested .before .loop .at) (place-tested tested) (placed .if2 .left)
+
+-- its mark
+mark-read : (c : tie.After-is-marked Inv-loop μ-loop)
+    → let here = turn (tested (c .before)) in c .is-marked .result ≡ marked (start here .args .marks .now) (here .before .loop .at)
+mark-read c =
+    let placed = c .before in
+    let here = turn (tested placed) in
+    own-mark (start here .pre .0) (here .before .loop .at) (place-tested (tested placed)) (placed .if2 .left)
+    (numbered (tested placed) .number-of .ensures) _ (c .is-marked .ensures)
 
 -- behind the test of its mark
 abbrev placed : tie.Else3 Inv-loop μ-loop → tie.Else2 Inv-loop μ-loop
@@ -42,43 +64,46 @@ placed marked = marked .before .before
 
 -- behind the test of its words: what the three tests come to
 module _ (told : tie.After-is-listed Inv-loop μ-loop) where
-  abbrev marked : tie.Else3 Inv-loop μ-loop
-  marked = told .before
+  abbrev is-known : tie.Else3 Inv-loop μ-loop
+  is-known = told .before
 
   abbrev here : tie.In-loop Inv-loop μ-loop
-  here = turn (placed marked)
+  here = turn (tested (placed is-known))
 
   member-tested :
       Tested (start here .args .region .now) (start here .args .table .now) (start here .args .bin) (start here .args .bytes)
       (start here .args .marks .now) (here .before .loop .before) (here .before .loop .at) (told .is-listed .result)
   member-tested =
-      by-words (placed marked .before .is-placed .ensures) (placed marked .if2 .left) (marked .before .is-marked .ensures)
-      (marked .if3 .left) (start here .pre .1 .1 .0) (start here .pre .1 .1 .1) (asked here .sizes-of .ensures) (told .is-listed .ensures)
+      by-words (place-tested (tested (placed is-known))) (placed is-known .if2 .left) (mark-read (is-known .before))
+      (is-known .if3 .left) (start here .pre .1 .1 .0) (start here .pre .1 .1 .1) (asked here .sizes-of .ensures) (told .is-listed .ensures)
 
 returns : tie.Need-returns Inv-loop μ-loop
 returns c = torn-long (c .before .before .loop .inv) (c .if1 .taken) (c .before .loop-test .taken)
 
 enough : tie.Need-is-placed-requires Inv-loop μ-loop
-enough c κs = omega (arith, start (c .before) .pre .0 .enough)
+enough c κs = omega (arith, start (c .before .before) .pre .0 .enough)
 
 returns-2 : tie.Need-returns-2 Inv-loop μ-loop
 returns-2 c =
-    let turn = c .before .before .before in
+    let turn = turn (c .before) in
     torn-here (turn .before .loop .inv) (turn .loop-test .taken) (omega arith)
-    (not-placed (c .before .is-placed .ensures) (c .if2 .taken)) refl
+    (not-placed (place-tested (c .before)) (c .if2 .taken)) refl
 
 in-bitmap : tie.Need-is-marked-requires Inv-loop μ-loop
-in-bitmap c κs = omega (arith, in-marks c, start (turn c) .pre .1 .0)
+in-bitmap c κs =
+    let here = turn (tested c) in
+    let low = number-inside (start here .pre .0) (here .before .loop .at) (place-tested (tested c)) (c .if2 .left) (numbered (tested c) .number-of .ensures) in
+    omega (arith, start here .pre .1 .0)
 
 returns-3 : tie.Need-returns-3 Inv-loop μ-loop
 returns-3 c =
     let placed = c .before .before in
-    let turn = turn placed in
+    let turn = turn (tested placed) in
     torn-here (turn .before .loop .inv) (turn .loop-test .taken) (omega arith)
-    (not-marked (placed .before .is-placed .ensures) (placed .if2 .left) (c .before .is-marked .ensures) (c .if3 .taken)) refl
+    (not-marked (place-tested (tested placed)) (placed .if2 .left) (mark-read (c .before)) (c .if3 .taken)) refl
 
 header : tie.Need-is-listed-requires Inv-loop μ-loop
-header c κs = (in-words (placed c), asked (turn (placed c)) .sizes-of .ensures .1)
+header c κs = (in-words (placed c), asked (turn (tested (placed c))) .sizes-of .ensures .1)
 
 returns-4 : tie.Need-returns-4 Inv-loop μ-loop
 returns-4 c =
@@ -88,10 +113,10 @@ returns-4 c =
 
 -- the place of a listed member is below that of the last mark, so that no index made of it wraps
 low : (c : tie.Else4 Inv-loop μ-loop) → here (c .before) .before .loop .at / 256 < 256
-low c = in-marks (placed (marked (c .before)))
+low c = in-marks (placed (is-known (c .before)))
 
 next-inside : tie.Need-shared-slice-read-at Inv-loop μ-loop
-next-inside c = omega (arith, in-words (placed (marked (c .before .before))))
+next-inside c = omega (arith, in-words (placed (is-known (c .before .before))))
 
 loop-again : tie.Need-loop-again Inv-loop μ-loop
 unfolding word
@@ -101,7 +126,7 @@ loop-again c =
     combing-goes (turn .before .loop .inv) (turn .loop-test .taken) (omega arith)
     (member-tested (listed .before)) (listed .if4 .left) refl
 
-within : tie.Need-sub-t21 Inv-loop μ-loop
+within : tie.Need-sub-t22 Inv-loop μ-loop
 within c = c .before .loop .inv .within
 
 returns-5 : tie.Need-returns-5 Inv-loop μ-loop
@@ -116,6 +141,7 @@ sweep-list-spec =
     (λ c κs. search needs)
     (λ c. combing-begins)
     returns
+    (λ c κs. search needs)
     enough
     returns-2
     in-bitmap
