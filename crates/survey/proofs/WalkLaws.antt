@@ -214,9 +214,9 @@ module _ (ws : List ℕ) (s : Summary) (lent : Lent ws (s .bytes)) where
     pub walk-inside : c / 4 + 1 < length ws
     walk-inside = omega (arith, o .room, lent .words, o .eight)
 
-    goes-iff : (m : ℕ) → Decides (goesOnM (visitedIn ws p c) m) (((c + 24 ≤ n) × (n ≤ m)) × (n % 8 ≡ 0))
+    goes-iff : (m : ℕ) → Decides (goesOnM (visitedIn ws p c) m) (((n % 8 ≡ 0) × (c + 24 ≤ n)) × (n ≤ m))
     unfolding goesOnM
-    goes-iff m = both (both (at-most (c + 24) n) (at-most n m)) (number-is (n % 8) 0)
+    goes-iff m = both (both (number-is (n % 8) 0) (at-most (c + 24) n)) (at-most n m)
 
     last-iff : (m : ℕ) → Decides (isLastM (visitedIn ws p c) m) (((c ≡ m) × (n ≡ 0)) × (link ≡ p + 1))
     unfolding isLastM
@@ -226,7 +226,7 @@ module _ (ws : List ℕ) (s : Summary) (lent : Lent ws (s .bytes)) where
     module _ (h : goesOnM (visitedIn ws p c) limit ≡ true) where
       pub walk-between : Between ws s (visitedIn ws p c)
       walk-between =
-          let ((room, below), eight) = goes-iff limit .0 h in
+          let ((eight, room), below) = goes-iff limit .0 h in
           record {
             placed = walk-placed;
             header = omega (arith, lent .words, o .eight, o .below);
@@ -236,17 +236,17 @@ module _ (ws : List ℕ) (s : Summary) (lent : Lent ws (s .bytes)) where
 
       end-is : end ws s c ≡ n
       end-is =
-          let ((room, below), eight) = goes-iff limit .0 h in
+          let ((eight, room), below) = goes-iff limit .0 h in
           end-up ws (s .bytes) c (omega arith, omega (arith, o .below))
 
       not-end : end ws s c ≡ s .bytes → ⊥
-      not-end q = let ((room, below), eight) = goes-iff limit .0 h in omega (arith, end-is, o .below)
+      not-end q = let ((eight, room), below) = goes-iff limit .0 h in omega (arith, end-is, o .below)
 
       -- the patrol's place is not passed over
       still-sought : Sought ws s c limit → Sought ws s n limit
       still-sought (inl q) = inl q
       still-sought (inr (l, left)) =
-          let ((room, below), eight) = goes-iff limit .0 h in
+          let ((eight, room), below) = goes-iff limit .0 h in
           let later = seen-later ws s c (λ q. omega arith) not-end in
           inr (l, ap (seenFrom ws s) (sym end-is) ∙ sym later ∙ left)
 
@@ -261,7 +261,7 @@ module _ (ws : List ℕ) (s : Summary) (lent : Lent ws (s .bytes)) where
         goes-next : {k : Kind} → seen ≡ Sound k → {t′ : Tally} → t′ ≡ addedM t (shareOf k (n - c))
             → {ms′ : List ℕ} → ms′ ≡ markM ms k c → Walking ws s ms₀ ms′ t′ c n limit
         goes-next {k} u et em =
-            let ((room, below), eight) = goes-iff limit .0 h in
+            let ((eight, room), below) = goes-iff limit .0 h in
             let (kind, sound) = told-sound p c k (sym told ∙ u) in
             rw (et, em)
             (record {
@@ -335,7 +335,7 @@ module _ (ws : List ℕ) (s : Summary) (lent : Lent ws (s .bytes)) where
             go : Dec (end ws s c - c < 24) → end ws s c - c < 24
             go (yes l) = l
             go (no f) =
-                absurd (false≢true (sym more ∙ goes-iff last .1 ((omega (arith, o .room), omega (arith, lent .eights, o .room)), omega arith)))
+                absurd (false≢true (sym more ∙ goes-iff last .1 ((omega arith, omega (arith, o .room)), omega (arith, lent .eights, o .room))))
 
         stuck : Dec (end ws s c ≡ s .bytes) → Dec (c + 8 ≡ s .bytes) → Dec (end ws s c % 8 ≡ 0) → wholeChain ws s ≡ false
         stuck (yes e) (yes here) _ = breaks ws s ms₀ ms t p c (o .onward) (not-last here)
@@ -394,5 +394,5 @@ module _ (ws : List ℕ) (s : Summary) (lent : Lent ws (s .bytes)) where
                   let up = end-link ws (s .bytes) c m in
                   let (above, inside, _) = chain-next ws (s .bytes) c m in
                   walk-stuck
-                  (not-so (goes-iff last) (λ ((room, _), eight). false≢true (sym more ∙ goes-iff limit .1 ((room, omega arith), eight))))
+                  (not-so (goes-iff last) (λ ((eight, room), _). false≢true (sym more ∙ goes-iff limit .1 ((eight, room), omega arith))))
                   (not-so (last-iff last) (λ ((_, none), _). omega arith))

@@ -41,9 +41,9 @@ pub record Placed (v : Visit) : Type 0 where
 abbrev pub Headed : List ℕ → ℕ → Type 0
 Headed ws c = c / 4 + bin < length ws
 
--- the chain goes on behind the chunk, where `last` is the end chunk's place
+-- the chain goes on behind the chunk, and not past the limit
 unfoldable pub goesOnM : Visit → ℕ → Bool
-goesOnM v last = leb (v .chunk .0 + 24) (v .next) && leb (v .next) last && eqb (v .next % 8) 0
+goesOnM v limit = eqb (v .next % 8) 0 && leb (v .chunk .0 + 24) (v .next) && leb (v .next) limit
 
 -- the start chunk by its two words
 unfoldable pub isFirstM : ℕ → ℕ → Bool

@@ -25,19 +25,18 @@ pub struct Visit {
     pub link: u32,
 }
 
-// The chain goes on: the forward link leads to a multiple of 8, far enough up that the chunk has room for a header, and not past the
-// end chunk.
-pub fn goes_on(visit: Visit, last: u32) -> bool
+// The chain goes on: the forward link leads to a multiple of 8, far enough up that the chunk has room for a header, and not past the limit.
+pub fn goes_on(visit: Visit, limit: u32) -> bool
     requires { ⌜ Placed visit ⌝ }
-    ensures { λ r. ⌜ r ≡ goesOnM visit last ⌝ }
+    ensures { λ r. ⌜ r ≡ goesOnM visit limit ⌝ }
 {
+    if visit.next % ALIGNMENT != 0 {
+        return false;
+    }
     if visit.next < visit.chunk.0 + LEAST {
         return false;
     }
-    if last < visit.next {
-        return false;
-    }
-    visit.next % ALIGNMENT == 0
+    visit.next <= limit
 }
 
 // The end chunk: the last 8 bytes, in use, behind the chunk before, and with no next chunk.
