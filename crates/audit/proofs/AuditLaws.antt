@@ -23,7 +23,7 @@ use Rattle.sweep.specs.declared.Sweep.the-variants.{Clean, Dirty}
 use Rattle.sweep.specs.Sweep.{allWhole, CleanIs, SweepIs}
 use Rattle.audit.specs.declared.Audit.{Audit}
 use Rattle.audit.specs.declared.Audit.the-variants.{Passes, Fails}
-use Rattle.audit.specs.Audit.{Placed, isTabledM, isSettledM, isSharedM, noMarks, tally, marksOf, walksWell, WalkedIs}
+use Rattle.audit.specs.Audit.{HasPlaces, isTabledM, isSettledM, isSharedM, noMarks, tally, marksOf, walksWell, WalkedIs}
 
 -- a conjunction of many parts: a part fails, and the rest does not matter; a part holds, and the next decides
 still : (b : Bool) {a : Bool} → false ≡ a → false ≡ (a && b)
@@ -69,7 +69,7 @@ abbrev pub unusedAll : ℕ → List ℕ → List ℕ → List ℕ → Bool
 unusedAll i sizes heads tails = unusedFrom i sizes && unusedFrom i heads && unusedFrom i tails
 
 -- one place after the other; seen is the or of all words up to there
-module _ (sizes heads tails : List ℕ) (p : Placed sizes heads tails) (i : ℕ) where
+module _ (sizes heads tails : List ℕ) (p : HasPlaces sizes heads tails) (i : ℕ) where
   pub unused-goes : i < places → (seen : ℕ)
       → (eqb (bitOr (bitOr (bitOr seen (getD sizes i 0)) (getD heads i 0)) (getD tails i 0)) 0 && unusedAll (suc i) sizes heads tails)
       ≡ (eqb seen 0 && unusedAll i sizes heads tails)

@@ -24,12 +24,12 @@ use Rattle.rules.proofs.EvenLaws.{evenPart, even-passes, even-fits, even-agrees
 use Rattle.sweep.specs.Sweep.{BothEnds}
 use Rattle.audit.specs.declared.Audit.{Audit}
 use Rattle.audit.specs.declared.Audit.the-variants as found
-use Rattle.audit.specs.Audit.{Placed, isTabledM, countsIn, walksWell, WalkedIs, AuditIs, answerOf}
+use Rattle.audit.specs.Audit.{HasPlaces, isTabledM, countsIn, walksWell, WalkedIs, AuditIs, answerOf}
 use Rattle.audit.proofs.SurveyMeaning.{tally-ordinary, tally-free, tallyFor}
 use Rattle.audit.proofs.WalksMeaning.{Rest, well-iff}
 
 -- the test of the table
-tabled-iff : (h : Heap) → Placed (h .sizes) (h .heads) (h .tails) → Decides (isTabledM (h .bins) (h .sizes) (h .heads) (h .tails)) (Tabled h)
+tabled-iff : (h : Heap) → HasPlaces (h .sizes) (h .heads) (h .tails) → Decides (isTabledM (h .bins) (h .sizes) (h .heads) (h .tails)) (Tabled h)
 unfolding isTabledM
 tabled-iff h p =
     meaning
@@ -58,7 +58,7 @@ module _ (ws : List ℕ) (h : Heap) where
   unfolding AuditIs
   audit-short e = not-so (passes-iff ws h) (λ p. false≢true (sym e ∙ length-iff ws h .1 (p .fits)))
 
-  module _ (places : Placed (h .sizes) (h .heads) (h .tails)) where
+  module _ (places : HasPlaces (h .sizes) (h .heads) (h .tails)) where
     pub audit-untabled : isTabledM (h .bins) (h .sizes) (h .heads) (h .tails) ≡ false → AuditIs ws h found.Fails
     unfolding AuditIs
     audit-untabled e = not-so (passes-iff ws h) (λ p. false≢true (sym e ∙ tabled-iff h places .1 (p .table)))
@@ -153,7 +153,7 @@ lent-table bins sizes heads tails e =
     table
 
 -- so every bin has both ends of its list
-pub lent-ends : (bins : ℕ) (sizes heads tails : List ℕ) → Placed sizes heads tails → isTabledM bins sizes heads tails ≡ true
+pub lent-ends : (bins : ℕ) (sizes heads tails : List ℕ) → HasPlaces sizes heads tails → isTabledM bins sizes heads tails ≡ true
     → BothEnds (take bins sizes) heads tails
 lent-ends bins sizes heads tails p e =
     let l = lent-table bins sizes heads tails e .0 in

@@ -24,7 +24,7 @@ use Rattle.audit.specs.declared.Audit.{Audit}
 use Rattle.audit.specs.declared.Audit.the-variants.{Passes, Fails}
 
 -- each of the record's three arrays has its places
-pub record Placed (sizes heads tails : List ℕ) : Type 0 where
+pub record HasPlaces (sizes heads tails : List ℕ) : Type 0 where
   pub sizePlaces : length sizes ≡ places
   pub headPlaces : length heads ≡ places
   pub tailPlaces : length tails ≡ places

@@ -2,7 +2,7 @@
 // bin's list that reads the marks. Nothing is written into the region.
 ghost use mathlib.Core.Bool.{_&&_};
 ghost use mathlib.Core.Path.{_≡_};
-ghost use Rattle.audit.specs.Audit.{answerOf, isSettledM, isSharedM, isTabledM, Placed, WalkedIs, LookIs};
+ghost use Rattle.audit.specs.Audit.{answerOf, isSettledM, isSharedM, isTabledM, HasPlaces, WalkedIs, LookIs};
 ghost use Rattle.chain.specs.Length.{Lent};
 ghost use Rattle.record.specs.Table.{ValidTable};
 ghost use Rattle.sweep.specs.Sweep.{BothEnds};
@@ -35,7 +35,7 @@ pub enum Audit {
 // From a place on the three arrays hold nothing but 0. One loop goes along all three, with no early exit, so that the compiler can test
 // several places at a time.
 pub fn is_unused<'a>(sizes: &[u32], heads: &'a [u32], tails: &'a [u32], from: usize) -> bool
-    requires { ⌜ Placed (now sizes) (now heads) (now tails) ⌝ }
+    requires { ⌜ HasPlaces (now sizes) (now heads) (now tails) ⌝ }
     ensures { λ r. ⌜ r ≡ (unusedFrom from (now (sizes .entry)) && unusedFrom from (now (heads .entry)) && unusedFrom from (now (tails .entry))) ⌝ }
 {
     let mut seen = 0;
@@ -49,7 +49,7 @@ pub fn is_unused<'a>(sizes: &[u32], heads: &'a [u32], tails: &'a [u32], from: us
 
 // The table is valid, and the places past the bin count are unused.
 pub fn is_tabled<'a>(bins: usize, sizes: &[u32], heads: &'a [u32], tails: &'a [u32]) -> bool
-    requires { ⌜ Placed (now sizes) (now heads) (now tails) ⌝ }
+    requires { ⌜ HasPlaces (now sizes) (now heads) (now tails) ⌝ }
     ensures { λ r. ⌜ r ≡ isTabledM bins (now (sizes .entry)) (now (heads .entry)) (now (tails .entry)) ⌝ }
 {
     if sizes.len() < bins {
@@ -129,7 +129,7 @@ pub fn look<'a>(
     heads: &'a [u32],
     tails: &'a [u32],
 ) -> Audit
-    requires { ⌜ Placed (now sizes) (now heads) (now tails) ⌝ }
+    requires { ⌜ HasPlaces (now sizes) (now heads) (now tails) ⌝ }
     ensures { λ r. ⌜ LookIs (now (region .entry)) summary (now (sizes .entry)) (now (heads .entry)) (now (tails .entry)) r ⌝ }
 {
     if !fits_length(region.len(), summary.bytes) {

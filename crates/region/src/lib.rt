@@ -87,7 +87,7 @@ pub struct Links {
     pub backward: u32,
 }
 
-// The check reads both links of every chunk: one bounds check covers both words.
+// The patrol reads both links of every chunk: one bounds check covers both words.
 pub fn links_of(region: &[u32], chunk: Chunk) -> Links
     ensures { λ r. ⌜ (r .forward ≡ word (now (region .entry)) (chunk .0) forward) × (r .backward ≡ word (now (region .entry)) (chunk .0) backward) ⌝ }
 {

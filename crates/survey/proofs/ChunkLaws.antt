@@ -15,7 +15,7 @@ use Rattle.rules.specs.Shape.{Entry}
 use Rattle.rules.proofs.KindsLaws.{kind-in-use, kind-top, kind-donor, kind-ordinary}
 use Rattle.survey.specs.declared.chunks.Seen.the-variants.{Sound, Unsound}
 use Rattle.survey.specs.declared.chunks.Visit.{Visit}
-use Rattle.survey.specs.Chunks.{Between, entryOf, isBackedM, isSizedM, isDonorM, isTopM, examineM}
+use Rattle.survey.specs.Chunks.{Followed, entryOf, isBackedM, isSizedM, isDonorM, isTopM, examineM}
 
 -- the test of the second word, taken apart
 pub backed-iff : (link p c : ℕ) → Decides (isBackedM link p c) (((c % 8 ≡ 0) × (link % 8 ≤ 1)) × (link - link % 8 ≡ p))
@@ -31,7 +31,7 @@ module _ (link p c : ℕ) (eight : c % 8 ≡ 0) (below : p % 8 ≡ 0) where
   unbacked n m = not-so (backed-iff link p c) (λ ((_, flags), back). n (omega arith))
 
 -- the chunk at c behind one at p, its second word `link`, its forward link `next`
-module _ (ws : List ℕ) (s : Summary) (v : Visit) (b : Between ws s v) where
+module _ (ws : List ℕ) (s : Summary) (v : Visit) (b : Followed ws s v) where
   abbrev e : Entry
   e = entryOf v
 

@@ -28,7 +28,7 @@ use Rattle.survey.specs.declared.chunks.Seen.the-variants.{Sound, Unsoun
 use Rattle.survey.specs.declared.Survey.{Survey}
 use Rattle.survey.specs.declared.Survey.the-variants.{Surveyed, Broken}
 use Rattle.survey.specs.declared.Tally.{Tally}
-use Rattle.survey.specs.Chunks.{Placed, Between, visited, visitedIn, isFirstM, goesOnM, isLastM, isBackedM, isSizedM, isStartM, isEndM, isSoundM, soundAt, examineM}
+use Rattle.survey.specs.Chunks.{WellPlaced, Followed, visited, visitedIn, isFirstM, goesOnM, isLastM, isBackedM, isSizedM, isStartM, isEndM, isSoundM, soundAt, examineM}
 use Rattle.survey.specs.Survey.{nothing, shareOf, addedM, firstLimitM, finishM, markM, allSound, wholeChain, SurveyIs}
 use Rattle.survey.proofs.ChunkLaws.{backed-iff}
 use Rattle.survey.proofs.SurveyLaws.{chain, chunk, end, Onward, survey-begins, whole-iff, unseen-fails, unsound-fails, short-fails, breaks, ends, goes-on}
@@ -207,7 +207,7 @@ module _ (ws : List ℕ) (s : Summary) (lent : Lent ws (s .bytes)) where
     abbrev link : ℕ
     link = word ws c backward
 
-    pub walk-placed : Placed (visitedIn ws p c)
+    pub walk-placed : WellPlaced (visitedIn ws p c)
     walk-placed =
         record { eight = o .eight; eightBefore = o .eightBefore; behind = o .behind; within = omega (arith, o .room, lent .notTooMany) }
 
@@ -224,8 +224,8 @@ module _ (ws : List ℕ) (s : Summary) (lent : Lent ws (s .bytes)) where
 
     -- the chain goes on behind it
     module _ (h : goesOnM (visitedIn ws p c) limit ≡ true) where
-      pub walk-between : Between ws s (visitedIn ws p c)
-      walk-between =
+      pub walk-followed : Followed ws s (visitedIn ws p c)
+      walk-followed =
           let ((eight, room), below) = goes-iff limit .0 h in
           record {
             placed = walk-placed;

@@ -31,7 +31,7 @@ abbrev pub entryOf : Visit → Entry
 entryOf v = entry (v .chunk .0) (v .next - v .chunk .0) (v .link % 8)
 
 -- the chunk and the one before it are where chunks can be, one behind the other
-pub record Placed (v : Visit) : Type 0 where
+pub record WellPlaced (v : Visit) : Type 0 where
   pub eight : v .chunk .0 % 8 ≡ 0
   pub eightBefore : v .before .0 % 8 ≡ 0
   pub behind : v .before .0 < v .chunk .0
@@ -54,8 +54,8 @@ unfoldable pub isLastM : Visit → ℕ → Bool
 isLastM v last = eqb (v .chunk .0) last && eqb (v .next) 0 && eqb (v .link) (v .before .0 + 1)
 
 -- a chunk behind which the chain goes on
-pub record Between (ws : List ℕ) (s : Summary) (v : Visit) : Type 0 where
-  pub placed : Placed v
+pub record Followed (ws : List ℕ) (s : Summary) (v : Visit) : Type 0 where
+  pub placed : WellPlaced v
   pub header : Headed ws (v .chunk .0)
   pub room : v .chunk .0 + 24 ≤ v .next
   pub below : v .next + 8 ≤ s .bytes

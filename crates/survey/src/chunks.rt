@@ -3,7 +3,7 @@
 ghost use mathlib.Core.Bool.{cond};
 ghost use mathlib.Core.Path.{_≡_};
 ghost use Rattle.rules.specs.Check.{unbinned};
-ghost use Rattle.survey.specs.Chunks.{Between, Headed, Placed, examineM, goesOnM, isDonorM, isLastM, isTopM};
+ghost use Rattle.survey.specs.Chunks.{Followed, Headed, WellPlaced, examineM, goesOnM, isDonorM, isLastM, isTopM};
 ghost use Rattle.survey.specs.declared.chunks.Seen.the-variants.{Sound, Unsound};
 use record::heap::Summary;
 use record::kinds::Kind;
@@ -27,7 +27,7 @@ pub struct Visit {
 
 // The chain goes on: the forward link leads to a multiple of 8, far enough up that the chunk has room for a header, and not past the limit.
 pub fn goes_on(visit: Visit, limit: u32) -> bool
-    requires { ⌜ Placed visit ⌝ }
+    requires { ⌜ WellPlaced visit ⌝ }
     ensures { λ r. ⌜ r ≡ goesOnM visit limit ⌝ }
 {
     if visit.next % ALIGNMENT != 0 {
@@ -41,7 +41,7 @@ pub fn goes_on(visit: Visit, limit: u32) -> bool
 
 // The end chunk: the last 8 bytes, in use, behind the chunk before, and with no next chunk.
 pub fn is_last(visit: Visit, last: u32) -> bool
-    requires { ⌜ Placed visit ⌝ }
+    requires { ⌜ WellPlaced visit ⌝ }
     ensures { λ r. ⌜ r ≡ isLastM visit last ⌝ }
 {
     if visit.chunk.0 != last {
@@ -107,7 +107,7 @@ fn by_test(sound: bool, kind: Kind) -> Seen
 
 // A free chunk has its size in its third word.
 pub fn examine_free(region: &[u32], visit: Visit, summary: Summary) -> Seen
-    requires { ⌜ Between (now region) summary visit ⌝ }
+    requires { ⌜ Followed (now region) summary visit ⌝ }
     requires { ⌜ visit .link ≡ visit .before .0 ⌝ }
     ensures { λ r. ⌜ r ≡ examineM (now (region .entry)) summary visit ⌝ }
 {
@@ -127,7 +127,7 @@ pub fn examine_free(region: &[u32], visit: Visit, summary: Summary) -> Seen
 
 // The place of the chunk before is a multiple of 8, so that one comparison of the second word tests the backward link and the flags.
 pub fn examine(region: &[u32], visit: Visit, summary: Summary) -> Seen
-    requires { ⌜ Between (now region) summary visit ⌝ }
+    requires { ⌜ Followed (now region) summary visit ⌝ }
     ensures { λ r. ⌜ r ≡ examineM (now (region .entry)) summary visit ⌝ }
 {
     if visit.link == visit.before.0 + IN_USE {

@@ -4,7 +4,7 @@ ghost use mathlib.Core.Path.{_≡_};
 ghost use Prim.Native.Nat.{_+_, _/_, _<_};
 ghost use lib.ListN.{length};
 ghost use Rattle.chain.specs.Length.{Lent};
-ghost use Rattle.survey.specs.Chunks.{Placed, isFirstM, visitedIn};
+ghost use Rattle.survey.specs.Chunks.{WellPlaced, isFirstM, visitedIn};
 ghost use Rattle.record.specs.declared.kinds.Kind.the-variants.{Start};
 ghost use Rattle.survey.specs.Survey.{SurveyIs, addedM, finishM, firstLimitM, markM, nothing, shareOf, sharesM};
 use crate::chunks::Seen;
@@ -133,7 +133,7 @@ fn meet(region: &[u32], before: u32, at: u32) -> Visit
 
 // Where the chain does not go on any more it is at its end, or broken.
 fn finish(visit: Visit, last: u32, tally: Tally) -> Survey
-    requires { ⌜ Placed visit ⌝ }
+    requires { ⌜ WellPlaced visit ⌝ }
     ensures { λ r. ⌜ r ≡ finishM visit last tally ⌝ }
 {
     if is_last(visit, last) {

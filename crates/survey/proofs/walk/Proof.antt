@@ -10,9 +10,9 @@ use borrow.Author.Tests.{not-true, not-false}
 use lib.ListN.{length}
 use Rattle.region.specs.Words.{word, forward}
 use Rattle.survey.specs.declared.chunks.Visit.{Visit}
-use Rattle.survey.specs.Chunks.{Placed, Between, visitedIn, goesOnM, examineM}
+use Rattle.survey.specs.Chunks.{WellPlaced, Followed, visitedIn, goesOnM, examineM}
 use Rattle.survey.specs.Survey.{finishM}
-use Rattle.survey.proofs.WalkLaws.{Walking, walk-no-start, walk-far, walking-begins, walk-placed, walk-inside, walk-between, walk-breaks, walk-goes, walk-finish, walk-turns, walk-misses}
+use Rattle.survey.proofs.WalkLaws.{Walking, walk-no-start, walk-far, walking-begins, walk-placed, walk-inside, walk-followed, walk-breaks, walk-goes, walk-finish, walk-turns, walk-misses}
 use Rattle.survey.proofs.walk.Statement.{statement}
 use Rattle.survey.proofs.walk.Tie as tie
 
@@ -61,23 +61,23 @@ module _ (turn : tie.At-loop Inv-loop μ-loop) where
 goes-on-requires : tie.Need-goes-on-requires Inv-loop μ-loop
 goes-on-requires c κs =
     let turn = c .before in
-    subst Placed (sym (turn .loop .inv .1)) (walk-placed _ _ (start turn .pre .0) (turn .loop .inv .0))
+    subst WellPlaced (sym (turn .loop .inv .1)) (walk-placed _ _ (start turn .pre .0) (turn .loop .inv .0))
 
 -- whether the chain goes on, of the links as they stand
 goes : (c : tie.After-goes-on Inv-loop μ-loop) → let turn = c .before .before in c .goes-on .result ≡ goesOnM (visit turn) (turn .loop .limit)
 goes c = let turn = c .before .before in c .goes-on .ensures ∙ ap (λ (v : Visit). goesOnM v (turn .loop .limit)) (turn .loop .inv .1)
 
-between : (c : tie.Then3 Inv-loop μ-loop)
-    → let turn = c .before .before .before in Between (start turn .args .region .now) (start turn .args .summary) (visit turn)
-between c =
+followed : (c : tie.Then3 Inv-loop μ-loop)
+    → let turn = c .before .before .before in Followed (start turn .args .region .now) (start turn .args .summary) (visit turn)
+followed c =
     let turn = c .before .before .before in
-    walk-between _ _ (start turn .pre .0) (turn .loop .inv .0) (sym (goes (c .before)) ∙ c .if3 .taken)
+    walk-followed _ _ (start turn .pre .0) (turn .loop .inv .0) (sym (goes (c .before)) ∙ c .if3 .taken)
 
 examine-requires : tie.Need-examine-requires Inv-loop μ-loop
 examine-requires c κs =
     let turn = c .before .before .before in
     let a = start turn .args in
-    subst (λ (v : Visit). Between (a .region .now) (a .summary) v) (sym (turn .loop .inv .1)) (between c)
+    subst (λ (v : Visit). Followed (a .region .now) (a .summary) v) (sym (turn .loop .inv .1)) (followed c)
 
 -- what was seen, of the links as they stand
 seen : (c : tie.After-examine Inv-loop μ-loop)
@@ -107,7 +107,7 @@ up : (c : tie.Then3 Inv-loop μ-loop)
     × (v .next ≡ word (start turn .args .region .now) (v .chunk .0) forward)
 up c =
     let turn = c .before .before .before in
-    let b = between c in
+    let b = followed c in
     let next = ap (λ (v : Visit). v .next) (turn .loop .inv .1) in
     (omega (arith, b .room), omega (arith, b .below), next)
 
@@ -157,7 +157,7 @@ loop-again c = rw (c .meet2 .ensures) (stands (c .before), refl, marks-long (c .
 finish-requires : tie.Need-finish-requires Inv-loop μ-loop
 finish-requires c κs =
     let turn = c .before .before .before .before in
-    subst Placed (sym (turn .loop .inv .1)) (walk-placed _ _ (start turn .pre .0) (turn .loop .inv .0))
+    subst WellPlaced (sym (turn .loop .inv .1)) (walk-placed _ _ (start turn .pre .0) (turn .loop .inv .0))
 
 -- where the chain does not go on
 stops : (c : tie.Else3 Inv-loop μ-loop) → let turn = c .before .before .before in goesOnM (visit turn) (turn .loop .limit) ≡ false
