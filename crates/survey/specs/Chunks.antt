@@ -38,8 +38,8 @@ pub record WellPlaced (v : Visit) : Type 0 where
   pub within : v .chunk .0 < 65536
 
 -- the six words of a header at c are inside the region
-abbrev pub Headed : List ℕ → ℕ → Type 0
-Headed ws c = c / 4 + bin < length ws
+abbrev pub HeaderInside : List ℕ → ℕ → Type 0
+HeaderInside ws c = c / 4 + bin < length ws
 
 -- the chain goes on behind the chunk, and not past the limit
 unfoldable pub goesOnM : Visit → ℕ → Bool
@@ -56,7 +56,7 @@ isLastM v last = eqb (v .chunk .0) last && eqb (v .next) 0 && eqb (v .link) (v .
 -- a chunk behind which the chain goes on
 pub record Followed (ws : List ℕ) (s : Summary) (v : Visit) : Type 0 where
   pub placed : WellPlaced v
-  pub header : Headed ws (v .chunk .0)
+  pub header : HeaderInside ws (v .chunk .0)
   pub room : v .chunk .0 + 24 ≤ v .next
   pub below : v .next + 8 ≤ s .bytes
 

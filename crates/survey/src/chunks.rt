@@ -3,7 +3,7 @@
 ghost use mathlib.Core.Bool.{cond};
 ghost use mathlib.Core.Path.{_≡_};
 ghost use Rattle.rules.specs.Check.{unbinned};
-ghost use Rattle.survey.specs.Chunks.{Followed, Headed, WellPlaced, examineM, goesOnM, isDonorM, isLastM, isTopM};
+ghost use Rattle.survey.specs.Chunks.{Followed, HeaderInside, WellPlaced, examineM, goesOnM, isDonorM, isLastM, isTopM};
 ghost use Rattle.survey.specs.declared.chunks.Seen.the-variants.{Sound, Unsound};
 use record::heap::Summary;
 use record::kinds::Kind;
@@ -54,7 +54,7 @@ pub fn is_last(visit: Visit, last: u32) -> bool
 }
 
 pub fn is_unbinned(region: &[u32], chunk: Chunk) -> bool
-    requires { ⌜ Headed (now region) (chunk .0) ⌝ }
+    requires { ⌜ HeaderInside (now region) (chunk .0) ⌝ }
     ensures { λ r. ⌜ r ≡ unbinned (now (region .entry)) (chunk .0) ⌝ }
 {
     let i = (chunk.0 / 4) as usize;
@@ -69,7 +69,7 @@ pub fn is_unbinned(region: &[u32], chunk: Chunk) -> bool
 
 // The donor is in no bin, and below the top.
 pub fn is_donor(region: &[u32], summary: Summary, chunk: Chunk) -> bool
-    requires { ⌜ Headed (now region) (chunk .0) ⌝ }
+    requires { ⌜ HeaderInside (now region) (chunk .0) ⌝ }
     ensures { λ r. ⌜ r ≡ isDonorM (now (region .entry)) summary (chunk .0) ⌝ }
 {
     if !is_unbinned(region, chunk) {
@@ -80,7 +80,7 @@ pub fn is_donor(region: &[u32], summary: Summary, chunk: Chunk) -> bool
 
 // The top is in no bin, and reaches up to the end chunk.
 pub fn is_top(region: &[u32], summary: Summary, chunk: Chunk, next: u32) -> bool
-    requires { ⌜ Headed (now region) (chunk .0) ⌝ }
+    requires { ⌜ HeaderInside (now region) (chunk .0) ⌝ }
     ensures { λ r. ⌜ r ≡ isTopM (now (region .entry)) summary (chunk .0) next ⌝ }
 {
     if !is_unbinned(region, chunk) {

@@ -149,8 +149,9 @@ fn first_limit(patrol: Chunk, last: u32) -> u32
     if patrol.0 == 0 { last } else { patrol.0 }
 }
 
-// The limit is the patrol's place and then the end chunk: so no chunk but the last below a limit is compared with either.
-// The next chunk's links are read behind the test of the link that leads to it, which tells the compiler that its place is a multiple of 8.
+// The walk goes up to a limit: first the patrol's place, then the end chunk. Links are compared with the limit, so that no chunk's place
+// need be compared with the patrol's.
+// A chunk's links are read right behind the test of the link that leads to it: there the compiler knows that its place is a multiple of 8.
 pub fn walk(region: &[u32], summary: Summary, marks: &mut [u32]) -> Survey
     requires { ⌜ Lent (now region) (summary .bytes) ⌝ }
     requires { ⌜ length (now marks) ≡ 256 ⌝ }
