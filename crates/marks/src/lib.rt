@@ -28,8 +28,9 @@ pub fn flip(marks: &mut [u32], chunk: Chunk)
     marks[i] ^= 1 << (chunk.0 / ALIGNMENT % BITS);
 }
 
-// The number of a place's mark: multiples of 8 are counted from 0. The three low bits, which are 0 there, come to the top: so the number of
-// any other place is above those of all marks, and one comparison tests both. The compiler makes one rotation of this.
+// The number of a place's mark: multiples of 8 are counted from 0. Of any other place the low three bits, which are not all 0, come to the
+// top, so that its number is above those of all marks. One comparison of the number then tests that a place is a multiple of 8 and that it
+// is below a limit. The compiler makes one rotation of this.
 pub fn number_of(chunk: Chunk) -> u32
     ensures { λ r. ⌜ r ≡ numberM (chunk .0) ⌝ }
 {

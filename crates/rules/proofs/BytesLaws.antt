@@ -1,6 +1,6 @@
 -- The heap bytes, shared out: what is used, what is free, and 8 bytes each for start and end (`bytes-shared`). It asks of the chain
 -- only that it begins with a start chunk of 8 bytes and ends with the end chunk. Assumes nothing.
-use mathlib.Core.Path.{_≡_, refl, sym, ap, _∙_}
+use mathlib.Core.Path.{_≡_, refl, ap, _∙_}
 use mathlib.Core.Bool.{cond}
 use mathlib.Core.List.{List, [], _∷_}
 use Prim.Native.Nat.{ℕ, _+_, _-_, _<_}

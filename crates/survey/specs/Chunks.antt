@@ -49,7 +49,7 @@ goesOnM v limit = eqb (v .next % 8) 0 && leb (v .chunk .0 + 24) (v .next) && leb
 unfoldable pub isFirstM : ℕ → ℕ → Bool
 isFirstM next link = eqb next 8 && eqb link 1
 
--- it is the end chunk
+-- the chunk is the end chunk
 unfoldable pub isLastM : Visit → ℕ → Bool
 isLastM v last = eqb (v .chunk .0) last && eqb (v .next) 0 && eqb (v .link) (v .before .0 + 1)
 

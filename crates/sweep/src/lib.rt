@@ -20,7 +20,7 @@ use region::NEXT_IN_BIN;
 use region::PREVIOUS_IN_BIN;
 use region::SIZE;
 
-// The six words of a header are inside the heap exactly if more multiples of 8 than this are from the chunk to the end.
+// A header takes three times 8 bytes: a chunk with a number this far below the end, or less, has no room for one.
 const BELOW_END: u32 = LEAST / ALIGNMENT - 1;
 
 // What a bin asks of the words of its members: its bin word, and a size from `least` to `span` more.

@@ -1,5 +1,4 @@
 -- `chunks::by_test` gives the kind where the test holds. Assumes nothing.
-use borrow.Author.Needs.{needs}
 use Rattle.survey.proofs.chunks.by_test.Statement.{statement}
 use Rattle.survey.proofs.chunks.by_test.Tie as tie
 
