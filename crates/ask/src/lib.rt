@@ -2,6 +2,7 @@
 // A chunk is found on the chain; nothing is written.
 ghost use mathlib.Core.Path.{_≡_};
 ghost use lib.ListN.{length};
+ghost use Rattle.record.specs.Table.{ValidTable};
 ghost use Rattle.rules.specs.Kinds.{isAt};
 ghost use Rattle.rules.specs.Shape.{membersFrom, shape};
 ghost use Rattle.seek.specs.Seek.{hasBlockM, soughtM};
@@ -37,6 +38,7 @@ fn ask_block(region: &[u32], bytes: u32, block: Block) -> Answer
 }
 
 fn ask_place(region: &[u32], table: &[u32], summary: Summary, question: u32, place: u32) -> Answer
+    requires { ⌜ ValidTable (now table) ⌝ }
     ensures { λ r. ⌜ r ≡ toldOf (now (region .entry)) (now (table .entry)) summary question (soughtM (isAt place) 0 (shape (now (region .entry)) (summary .bytes))) ⌝ }
 {
     let sought = find_chunk(region, summary.bytes, place);
@@ -54,6 +56,7 @@ pub fn ask_chunk(
     question: u32,
     place: u32,
 ) -> Answer
+    requires { ⌜ ValidTable (now table) ⌝ }
     ensures { λ r. ⌜ r ≡ askChunkM (now (region .entry)) (now (table .entry)) summary question place ⌝ }
 {
     if question == ASK_CHUNK {

@@ -4,7 +4,7 @@ use mathlib.Core.Bool.{Bool, true, false, cond}
 use mathlib.Core.List.{List, [], _∷_, _++_, append-nil, List·Memᴰ·head, List·Memᴰ·tail, Memᴰ·append-left, Memᴰ·append-right}
 use Prim.Native.Nat.{ℕ, _*_, _/_, _%_, _<_}
 use native.Mathlib.Omega.{arith}
-use lib.Dec.{eqb, ltb}
+use lib.Dec.{eqb}
 use lib.ListN.{getD, set}
 use lib.Seq.{set-getD}
 use borrow.Author.Tests.{ne-eqb}
@@ -94,14 +94,7 @@ module _ {b : Books} {lists : ℕ → List ℕ} {n : ℕ} (w : OnWay b lists n) 
       leave-is b i (upTo (eqb c) (lists i)) c (past (eqb c) (lists i)) (rw (split-at-member m) at (w .holds i l)) (w .binned i c l m)
 
   -- a chunk is put into a bin, of which it is known whether it is one of the small array
-  pub put-into-is : (small : ℕ) → putIntoM b small i c ≡ putAt b i (cond (ltb i small) [] (lists i)) c (cond (ltb i small) (lists i) [])
+  pub put-into-is : (small : Bool) → putIntoM b small i c ≡ putAt b i (cond small [] (lists i)) c (cond small (lists i) [])
   unfolding putIntoM
-  put-into-is small = go (ltb i small)
-    where
-      few : i < 32
-      few = omega (arith, w .few)
-
-      go : (t : Bool) → cond t (putM b (slot i 0 (getD (b .heads) i 0)) c) (putM b (slot i (getD (b .tails) i 0) 0) c)
-          ≡ putAt b i (cond t [] (lists i)) c (cond t (lists i) [])
-      go true = put-head-is b i (lists i) c (w .holds i l) few
-      go false = put-tail-is b i (lists i) c (w .holds i l) few
+  put-into-is true = put-head-is b i (lists i) c (w .holds i l) (omega (arith, w .few))
+  put-into-is false = put-tail-is b i (lists i) c (w .holds i l) (omega (arith, w .few))

@@ -1,9 +1,9 @@
 -- What the code does to the words and to the bins' ends, call by call: these definitions mirror the code.
 -- Nobody needs to believe them: `proofs/` shows that on a heap's lists they do what the rules say.
-use mathlib.Core.Bool.{true, false, cond}
+use mathlib.Core.Bool.{Bool, true, false, cond}
 use mathlib.Core.List.{List}
 use Prim.Native.Nat.{ℕ, zero, suc, _*_, _-_, _/_, _%_}
-use lib.Dec.{eqb, leb, ltb}
+use lib.Dec.{eqb, leb}
 use lib.ListN.{getD, set}
 use Rattle.bins.specs.declared.Slot.{Slot}
 use Rattle.books.specs.Books.{Books, books}
@@ -44,8 +44,8 @@ putM b s c =
     books (store (back .words) c bin (i % 32 * 8)) (front .ends) (back .ends)
 
 -- at the head of a bin of the small array, at the tail of any other
-unfoldable pub putIntoM : Books → ℕ → ℕ → ℕ → Books
-putIntoM b small i c = cond (ltb i small) (putM b (slot i 0 (getD (b .heads) i 0)) c) (putM b (slot i (getD (b .tails) i 0) 0) c)
+unfoldable pub putIntoM : Books → Bool → ℕ → ℕ → Books
+putIntoM b small i c = cond small (putM b (slot i 0 (getD (b .heads) i 0)) c) (putM b (slot i (getD (b .tails) i 0) 0) c)
 
 -- the steps that a search takes along a list at most
 abbrev pub steps : ℕ

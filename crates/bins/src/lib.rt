@@ -112,18 +112,18 @@ pub fn put_tail(region: &mut [u32], heads: &mut [u32], tails: &mut [u32], bin: u
     put_between(region, heads, tails, slot, chunk);
 }
 
-// Where a chunk is put: at the head of a bin of the small array, at the tail of any other. `small` is the number of the small array's bins.
+// Where a chunk is put: at the head of a bin of the small array, at the tail of any other. `small` says which the bin is.
 pub fn put_into(
     region: &mut [u32],
     heads: &mut [u32],
     tails: &mut [u32],
-    small: usize,
+    small: bool,
     bin: usize,
     chunk: Chunk,
 )
     ensures { λ _. ⌜ books (now (region .exit)) (now (heads .exit)) (now (tails .exit)) ≡ putIntoM (books (now (region .entry)) (now (heads .entry)) (now (tails .entry))) small bin (chunk .0) ⌝ }
 {
-    if bin < small {
+    if small {
         put_head(region, heads, tails, bin, chunk);
         return;
     }

@@ -2,6 +2,7 @@
 // Where the chunk is was found on the chain before. Nothing is written.
 ghost use mathlib.Core.Path.{_≡_};
 ghost use Rattle.details.specs.Details.{asksOfBinM, binToldM, linkToldM, ofChunkM, ofMemberM, ofPlaceM};
+ghost use Rattle.record.specs.Table.{ValidTable};
 ghost use Rattle.seek.specs.Seek.{sizeIn};
 use chain::is_ordinary;
 use chain::kind_of;
@@ -36,6 +37,7 @@ fn size_of(place: Place) -> u32
 
 // A table has at most 32 sizes, so that the remainder changes no bin's number. With it the number fits, whatever the table.
 fn bin_told(table: &[u32], size: u32) -> Answer
+    requires { ⌜ ValidTable (now table) ⌝ }
     ensures { λ r. ⌜ r ≡ binToldM (now (table .entry)) size ⌝ }
 {
     let binned = bin_of(table, size);
@@ -98,6 +100,7 @@ fn asks_of_bin(question: u32) -> bool
 
 // What an ordinary chunk tells as a member of its bin.
 fn of_member(region: &[u32], table: &[u32], question: u32, place: Place) -> Answer
+    requires { ⌜ ValidTable (now table) ⌝ }
     ensures { λ r. ⌜ r ≡ ofMemberM (now (region .entry)) (now (table .entry)) question place ⌝ }
 {
     if question == ASK_BIN {
@@ -117,6 +120,7 @@ pub fn of_chunk(
     question: u32,
     place: Place,
 ) -> Answer
+    requires { ⌜ ValidTable (now table) ⌝ }
     ensures { λ r. ⌜ r ≡ ofChunkM (now (region .entry)) (now (table .entry)) summary question place ⌝ }
 {
     if !asks_of_bin(question) {

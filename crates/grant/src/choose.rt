@@ -1,6 +1,7 @@
 // The four tries, in turn: the bin of the need, the donor, a larger bin, the top. Nothing is written here.
 ghost use mathlib.Core.Path.{_≡_};
 ghost use Rattle.grant.specs.Choose.{chooseM, donorM, largerM, ownM, topM};
+ghost use Rattle.record.specs.Table.{ValidTable};
 use bins::first_fit;
 use bins::list_end;
 use bins::next_occupied;
@@ -36,6 +37,7 @@ pub fn larger_bin(heads: &[u32], bins: usize, binned: Binned) -> Chunk
 
 // A chunk of the least size stays behind, so that the donor is never used up.
 pub fn donor_serves(region: &[u32], table: &[u32], donor: Chunk, need: u32) -> bool
+    requires { ⌜ ValidTable (now table) ⌝ }
     ensures { λ r. ⌜ r ≡ donorM (now (region .entry)) (now (table .entry)) (donor .0) need ⌝ }
 {
     if !is_small(table, need) {
@@ -55,6 +57,7 @@ pub fn top_serves(region: &[u32], top: Chunk, need: u32) -> bool
 }
 
 pub fn choose(region: &[u32], table: &[u32], heads: &[u32], summary: Summary, need: u32) -> Source
+    requires { ⌜ ValidTable (now table) ⌝ }
     ensures { λ r. ⌜ r ≡ chooseM (now (region .entry)) (now (table .entry)) (now (heads .entry)) summary need ⌝ }
 {
     let binned = bin_of(table, need);

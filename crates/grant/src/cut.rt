@@ -3,6 +3,7 @@
 ghost use mathlib.Core.Path.{_≡_};
 ghost use Rattle.books.specs.Books.{books};
 ghost use Rattle.grant.specs.Cut.{cutM, grantedM, takeM};
+ghost use Rattle.record.specs.Table.{ValidTable};
 use chain::is_ordinary;
 use headers::distance;
 use headers::write_above;
@@ -66,6 +67,7 @@ pub fn take(
     kind: Kind,
     cut: Cut,
 )
+    requires { ⌜ ValidTable (now table) ⌝ }
     ensures { λ _. ⌜ books (now (region .exit)) (now (heads .exit)) (now (tails .exit)) ≡ takeM (books (now (region .entry)) (now (heads .entry)) (now (tails .entry))) (now (table .entry)) kind cut ⌝ }
 {
     leave_bin(region, heads, tails, is_ordinary(kind), cut.chunk);

@@ -4,6 +4,7 @@ ghost use mathlib.Core.Path.{_≡_};
 ghost use Rattle.books.specs.Books.{books};
 ghost use Rattle.drafts.specs.Sources.{kindIn, placeIn};
 ghost use Rattle.grant.specs.Serve.{served, serveM};
+ghost use Rattle.record.specs.Table.{ValidTable};
 ghost use Rattle.rules.specs.Serve.{nowhere};
 use crate::cut::cut_of;
 use crate::cut::take;
@@ -69,6 +70,7 @@ pub fn serve(
     summary: Summary,
     order: Order,
 ) -> Portion
+    requires { ⌜ ValidTable (now table) ⌝ }
     ensures { λ r. ⌜ served (books (now (region .exit)) (now (heads .exit)) (now (tails .exit))) r ≡ serveM (books (now (region .entry)) (now (heads .entry)) (now (tails .entry))) (now (table .entry)) summary order ⌝ }
 {
     let source = order.source;

@@ -14,6 +14,7 @@ use Rattle.record.specs.declared.answers.Reply.{Reply}
 use Rattle.record.specs.declared.heap.Heap.{Heap}
 use Rattle.record.specs.declared.heap.Summary.{Summary}
 use Rattle.record.specs.Heap.{tableOf, summaryOf, withMerge}
+use Rattle.record.specs.Table.{ValidTable}
 use Rattle.rules.specs.Check.{Passes, passes}
 use Rattle.rules.specs.Draft.{asRead}
 use Rattle.rules.specs.Outcome.{Outcome, judged, unchanged}
@@ -48,6 +49,9 @@ module _ (ws : List ℕ) (h : Heap) (q : passes ws h ≡ true) where
 
   pub bins-there : h .bins ≤ length (h .sizes)
   bins-there = omega (arith, well .table .bins, well .table .sizePlaces)
+
+  pub table-valid : ValidTable (tableOf h)
+  table-valid = well .table .valid
 
   lent-even : take (h .bytes / 4) ws ≡ evenPart ws
   lent-even =

@@ -3,6 +3,7 @@
 ghost use mathlib.Core.Path.{_≡_};
 ghost use Rattle.books.specs.Books.{books};
 ghost use Rattle.reclaim.specs.Reclaim.{reclaimM};
+ghost use Rattle.record.specs.Table.{ValidTable};
 ghost use Rattle.replies.specs.Replies.{concluded};
 use headers::distance;
 use record::answers::Answer;
@@ -20,6 +21,7 @@ pub fn reclaim(
     summary: Summary,
     place: Place,
 ) -> Answered
+    requires { ⌜ ValidTable (now table) ⌝ }
     ensures { λ r. ⌜ concluded (books (now (region .exit)) (now (heads .exit)) (now (tails .exit))) r ≡ reclaimM (books (now (region .entry)) (now (heads .entry)) (now (tails .entry))) (now (table .entry)) summary place ⌝ }
 {
     let size = distance(place.chunk.0, place.end);

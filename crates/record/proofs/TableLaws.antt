@@ -6,10 +6,10 @@ use native.Mathlib.Omega.{arith}
 use native.Mathlib.Decide.{decLe}
 use mathlib.Core.Logic.{_⊎_, inl, inr}
 use mathlib.Core.Path.{_≡_, refl, sym, ap, subst}
-use mathlib.Core.Bool.{Bool, true, false, cond}
+use mathlib.Core.Bool.{Bool, true, false, cond, _&&_}
 use mathlib.Core.List.{List, [], _∷_}
 use borrow.Author.Tests.{eqb-true, eqb-false, leb-true, leb-false}
-use lib.Dec.{eqb, leb}
+use lib.Dec.{eqb, leb, ltb}
 use lib.ListN.{length, drop}
 use Rattle.lists.proofs.ListsLaws.{Decides, number-is, at-most, less, both, or-else, meaning}
 use Rattle.record.specs.declared.table.Binned.{Binned}
@@ -180,10 +180,52 @@ module _ (t : List ℕ) (v : ValidTable t) where
       let b = v .ascends (suc (i + k)) (omega arith) in
       rw (add-suc i k) (omega arith)
 
-  table-up : (i j : ℕ) → i < j → j < length t → sizeAt t i < sizeAt t j
+  pub table-up : (i j : ℕ) → i < j → j < length t → sizeAt t i < sizeAt t j
   table-up i j l h =
       let e : suc (i + (j - suc i)) ≡ j = omega arith in
       rw e at (table-grows i (j - suc i) (omega arith))
+
+  -- each size is 8 above the one before, or more
+  table-by-eights : (i k : ℕ) → i + k < length t → sizeAt t i + 8 * k ≤ sizeAt t (i + k)
+  table-by-eights i zero h = rw (add-zero i) (omega arith)
+  table-by-eights i (suc k) h =
+      let a = table-by-eights i k (omega arith) in
+      let b = v .ascends (i + k) (omega arith) in
+      let c = v .eights (i + k) (omega arith) in
+      let d = v .eights (suc (i + k)) (omega arith) in
+      rw (add-suc i k) (omega arith)
+
+  -- Bin i lies in the small array exactly if there is a bin i + 1 and its size is 24 + 8(i + 1): a gap below it would make it larger.
+  -- So nobody need count m.
+  pub in-small-iff : (i : ℕ) → Decides (ltb (suc i) (length t) && eqb (sizeAt t (suc i)) (24 + 8 * suc i)) (i < smallBins t)
+  in-small-iff i =
+      meaning (both (less (suc i) (length t)) (number-is (sizeAt t (suc i)) (24 + 8 * suc i)))
+      (λ (there, next). m .greatest (suc i) there (λ j l. filled there next j l))
+      (λ l. (omega (arith, m .below), m .gapless (suc i) (omega arith)))
+    where
+      m : SmallBins t (smallBins t)
+      m = small-bins-is t v
+
+      -- no size up to that one is left out
+      filled : suc i < length t → sizeAt t (suc i) ≡ 24 + 8 * suc i → (j : ℕ) → j ≤ suc i → sizeAt t j ≡ 24 + 8 * j
+      filled there next j l =
+          let b : 0 + j ≡ j = omega arith in
+          let e : j + (suc i - j) ≡ suc i = omega arith in
+          let low = rw b at (table-by-eights 0 j (omega arith)) in
+          let high = rw e at (table-by-eights j (suc i - j) (omega arith)) in
+          omega (arith, v .first)
+
+  -- a size that is not small has a bin above the small array
+  pub bin-upper : {s i : ℕ} → Takes t s i → 24 + 8 * smallBins t ≤ s → smallBins t ≤ i
+  bin-upper {s} {i} k h = go (decLe (smallBins t) i)
+    where
+      go : Dec (smallBins t ≤ i) → smallBins t ≤ i
+      go (yes l) = l
+      go (no n) =
+          let m = small-bins-is t v in
+          let a = k .last (smallBins t) (omega arith) (m .below) in
+          let b = m .gapless (smallBins t) (omega arith) in
+          absurd (omega arith)
 
   -- there is a bin for every size from 24 on
   pub bin-from : (s : ℕ) → 24 ≤ s → (i : ℕ) × (binOf t s ≡ Bin i) × Takes t s i
@@ -194,34 +236,34 @@ module _ (t : List ℕ) (v : ValidTable t) where
       go NoBin e k = let a = k 0 (omega (arith, v .some)) in absurd (omega (arith, v .first))
 
   -- a smaller size has none
+  pub none-takes : (s : ℕ) → s < 24 → TakenBy t s NoBin
+  none-takes s h zero l = omega (arith, v .first)
+  none-takes s h (suc i) l = let a = table-up 0 (suc i) (omega arith) l in omega (arith, v .first)
+
   pub bin-none : (s : ℕ) → s < 24 → binOf t s ≡ NoBin
-  bin-none s h = sym (bin-is t s NoBin above)
-    where
-      above : (i : ℕ) → i < length t → s < sizeAt t i
-      above zero l = omega (arith, v .first)
-      above (suc i) l = let a = table-up 0 (suc i) (omega arith) l in omega (arith, v .first)
+  bin-none s h = sym (bin-is t s NoBin (none-takes s h))
 
   -- the small array: the bin of a size is found by division
-  pub bin-small : (s : ℕ) → 24 ≤ s → s < 24 + 8 * smallBins t → binOf t s ≡ Bin (s / 8 - 3)
-  bin-small s lo hi = sym (bin-is t s (Bin (s / 8 - 3)) taken)
+  pub division-takes : (s : ℕ) → 24 ≤ s → s < 24 + 8 * smallBins t → Takes t s (s / 8 - 3)
+  division-takes s lo hi =
+      let m = small-bins-is t v in
+      let here = m .gapless (s / 8 - 3) (omega arith) in
+      record { inside = omega (arith, m .below); notAbove = omega arith; last = above }
     where
-      taken : Takes t s (s / 8 - 3)
-      taken =
-          let m = small-bins-is t v in
-          let here = m .gapless (s / 8 - 3) (omega arith) in
-          record { inside = omega (arith, m .below); notAbove = omega arith; last = above }
+      above : (j : ℕ) → s / 8 - 3 < j → j < length t → s < sizeAt t j
+      above j l h = go (decLe j (suc (s / 8 - 3)))
         where
-          above : (j : ℕ) → s / 8 - 3 < j → j < length t → s < sizeAt t j
-          above j l h = go (decLe j (suc (s / 8 - 3)))
-            where
-              go : Dec (j ≤ suc (s / 8 - 3)) → s < sizeAt t j
-              go (yes q) =
-                  let next = small-bins-is t v .gapless j (omega arith) in
-                  omega arith
-              go (no n) =
-                  let next = small-bins-is t v .gapless (suc (s / 8 - 3)) (omega arith) in
-                  let up = table-up (suc (s / 8 - 3)) j (omega arith) h in
-                  omega arith
+          go : Dec (j ≤ suc (s / 8 - 3)) → s < sizeAt t j
+          go (yes q) =
+              let next = small-bins-is t v .gapless j (omega arith) in
+              omega arith
+          go (no n) =
+              let next = small-bins-is t v .gapless (suc (s / 8 - 3)) (omega arith) in
+              let up = table-up (suc (s / 8 - 3)) j (omega arith) h in
+              omega arith
+
+  pub bin-small : (s : ℕ) → 24 ≤ s → s < 24 + 8 * smallBins t → binOf t s ≡ Bin (s / 8 - 3)
+  bin-small s lo hi = sym (bin-is t s (Bin (s / 8 - 3)) (division-takes s lo hi))
 
   -- the comparison with two sizes decides which bin a size has
   pub takes-iff : (i s : ℕ) → Decides (takesBin t i s) (binOf t s ≡ Bin i)

@@ -1,30 +1,16 @@
--- How the tests and counts of a table go on by one size, as the walks of the code need it. Assumes nothing.
+-- What the code's tests of a table and of a size come to. Assumes nothing.
 use Prim.Native.Nat.{ℕ, suc, _+_, _*_, _≤_, _<_, _-_, _/_, _%_}
-use native.Mathlib.Decide.{ℕ-discrete}
 use native.Mathlib.Omega.{arith}
-use mathlib.Core.Path.{_≡_, refl, sym}
+use mathlib.Core.Path.{_≡_, refl, sym, _∙_}
 use mathlib.Core.Bool.{Bool, true, false, _&&_}
-use mathlib.Core.List.{List, [], _∷_}
+use mathlib.Core.List.{List}
 use borrow.Author.Tests.{eq-eqb, ne-eqb, lt-ltb, le-ltb, le-leb, lt-leb, ltb-true, ltb-false}
 use lib.Dec.{eqb, ltb}
 use lib.ListN.{length, getD, drop, drop-of-length-le}
 use lib.Seq.{drop-cons}
-use Rattle.record.specs.Table.{eightsFrom, smallBins, goesUp, validTable}
-
-pub small-start : (t : List ℕ) → eightsFrom 32 (drop 1 t) ≡ smallBins t
-small-start [] = refl
-small-start (b ∷ bs) = refl
-
--- a run ends at another size, and at the end of the table
-module _ (t : List ℕ) (i next : ℕ) where
-  pub run-stops : i < length t → (getD t i 0 ≡ next → ⊥) → eightsFrom next (drop i t) ≡ 0
-  run-stops h ne = rw (drop-cons t i 0 h, ne-eqb (getD t i 0) next ne)
-
-  pub run-goes : i < length t → getD t i 0 ≡ next → eightsFrom next (drop i t) ≡ suc (eightsFrom (next + 8) (drop (suc i) t))
-  run-goes h e = rw (drop-cons t i 0 h, eq-eqb (getD t i 0) next e)
-
-  pub run-ends : length t ≤ i → eightsFrom next (drop i t) ≡ 0
-  run-ends h = rw (drop-of-length-le t h)
+use Rattle.lists.proofs.ListsLaws.{less, same-test}
+use Rattle.record.specs.Table.{sizeAt, ValidTable, Takes, smallBins, goesUp, validTable}
+use Rattle.record.proofs.TableLaws.{small-bins-is, in-small-iff, division-takes}
 
 -- the sizes from number i on go up: one more is tested, and none is left
 module _ (t : List ℕ) (i before : ℕ) where
@@ -56,6 +42,25 @@ module _ (t : List ℕ) where
       unfolding validTable
       valid-rest e = rw (le-leb 1 (length t) some, le-leb (length t) 32 few, eq-eqb (getD t 0 0) 24 e)
 
+-- whether bin i is one of the small array's, by the size of the next bin
+module _ (t : List ℕ) (v : ValidTable t) (i : ℕ) where
+  pub last-not-small : length t - 1 ≤ i → false ≡ ltb i (smallBins t)
+  last-not-small h = let m = small-bins-is t v in sym (le-ltb i (smallBins t) (omega (arith, m .below)))
+
+  pub small-by-next : i < length t - 1 → eqb (sizeAt t (i + 1)) (32 + 8 * i) ≡ ltb i (smallBins t)
+  small-by-next h =
+      let next : i + 1 ≡ suc i = omega arith in
+      let size : 32 + 8 * i ≡ 24 + 8 * suc i = omega arith in
+      let there = rw (lt-ltb (suc i) (length t) (omega arith)) at (in-small-iff t v i) in
+      rw (next, size) (same-test there (less i (smallBins t)) (λ l. l) (λ l. l))
+
+-- a size from 24 on whose bin by the division is one of the small array's: that bin takes it
+pub by-division : (t : List ℕ) → ValidTable t → (s : ℕ) → 24 ≤ s → {inside : Bool} → inside ≡ ltb (s / 8 - 3) (smallBins t) → inside ≡ true
+    → Takes t s (s / 8 - 3)
+by-division t v s h is so =
+    let l = ltb-true (s / 8 - 3) (smallBins t) (sym is ∙ so) in
+    division-takes t v s h (omega arith)
+
 -- a size is below 24 + 8m just where its eights, less three, are below m
 pub small-eights : (s m : ℕ) → 3 ≤ s / 8 → ltb (s / 8 - 3) m ≡ ltb s (24 + 8 * m)
 small-eights s m h = go (ltb (s / 8 - 3) m) refl
@@ -67,11 +72,3 @@ small-eights s m h = go (ltb (s / 8 - 3) m) refl
 pub small-low : (s m : ℕ) → s / 8 < 3 → ltb s (24 + 8 * m) ≡ true
 small-low s m h = lt-ltb s (24 + 8 * m) (omega arith)
 
--- all sizes from bin i on are above s, and so is the one below it
-pub above-one-more : (t : List ℕ) (i s : ℕ) → ((j : ℕ) → i ≤ j → j < length t → s < getD t j 0) → s < getD t (i - 1) 0
-    → (j : ℕ) → i - 1 ≤ j → j < length t → s < getD t j 0
-above-one-more t i s above here j lo hi = go (ℕ-discrete j (i - 1))
-  where
-    go : Dec (j ≡ i - 1) → s < getD t j 0
-    go (yes e) = rw e here
-    go (no n) = above j (omega arith) hi

@@ -41,6 +41,15 @@ pub record Takes (t : List ℕ) (s i : ℕ) : Type 0 where
   pub notAbove : sizeAt t i ≤ s
   pub last : (j : ℕ) → i < j → j < length t → s < sizeAt t j
 
+-- one of the `width` bins from `low` on takes the size s
+pub record TakenWithin (t : List ℕ) (s low width : ℕ) : Type 0 where
+  pub valid : ValidTable t
+  pub inside : low + width ≤ length t
+  pub bin : ℕ
+  pub takes : Takes t s bin
+  pub from : low ≤ bin
+  pub below : bin < low + width
+
 -- what `binOf`'s answer means: bin i takes the size s; or every bin's size is above s
 abbrev pub TakenBy : List ℕ → ℕ → Binned → Type 0
 TakenBy t s (Bin i) = Takes t s i

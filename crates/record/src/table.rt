@@ -1,7 +1,8 @@
 // The bin table, lent as a slice: whether it is valid, how many bins the small array has, and the bin of a size.
 // Which chunks are in a bin is not known here.
 ghost use mathlib.Core.Path.{_≡_};
-ghost use Rattle.record.specs.Table.{validTable, smallBins, small, TakenBy};
+ghost use lib.Dec.{ltb};
+ghost use Rattle.record.specs.Table.{ValidTable, validTable, smallBins, small, Takes, TakenBy, TakenWithin};
 use crate::heap::PLACES;
 use region::ALIGNMENT;
 use region::LEAST;
@@ -44,44 +45,61 @@ pub fn valid(table: &[u32]) -> bool
     right
 }
 
-// m: the bins 24, 32, 40 and so on without a gap, the last of them left out.
-pub fn small_bins(table: &[u32]) -> usize
-    ensures { λ r. ⌜ r ≡ smallBins (now (table .entry)) ⌝ }
+// Whether the bin is one of the small array's, without counting m: sizes go up by 8 at least, so bin i + 1 has the size 24 + 8(i + 1)
+// only where no size is left out below it.
+pub fn in_small_array(table: &[u32], bin: usize) -> bool
+    requires { ⌜ ValidTable (now table) ⌝ }
+    ensures { λ r. ⌜ r ≡ ltb bin (smallBins (now (table .entry))) ⌝ }
 {
-    let mut next = SECOND;
-    let mut i = 1;
-    while i < table.len() {
-        if table[i] as u64 != next {
-            return i - 1;
-        }
-        next += STEP;
-        i += 1;
+    if table.len() - 1 <= bin {
+        return false;
     }
-    i - 1
+    table[bin + 1] as u64 == SECOND + STEP * bin as u64
 }
 
-// Whether the size is one of the small array's.
+// Whether the size is one of the small array's: its bin would be, by the division.
 pub fn is_small(table: &[u32], size: u32) -> bool
+    requires { ⌜ ValidTable (now table) ⌝ }
     ensures { λ r. ⌜ r ≡ small (now (table .entry)) size ⌝ }
 {
-    let m = small_bins(table);
     let eights = (size / ALIGNMENT) as usize;
     if eights < FIRST_EIGHTS {
         return true;
     }
-    eights - FIRST_EIGHTS < m
+    in_small_array(table, eights - FIRST_EIGHTS)
 }
 
-// The last bin whose size is not above this one, found from the top of the table down.
+// The bin of a size that one of the `width` bins from `low` on takes: binary search, the range halved until one bin is left.
+// The slice is lent once more, so that each call passes one pointer on and the compiler makes a loop of the recursion.
+fn upper_bin(table: &&[u32], size: u32, low: usize, width: usize) -> usize
+    requires { ⌜ TakenWithin (now (now table)) size low width ⌝ }
+    ensures { λ r. ⌜ Takes (now (now (table .entry))) size r ⌝ }
+{
+    if width <= 1 {
+        return low;
+    }
+    let half = width / 2;
+    let middle = low + half;
+    let sizes = *table;
+    if sizes[middle] <= size {
+        return upper_bin(table, size, middle, width - half);
+    }
+    upper_bin(table, size, low, half)
+}
+
+// The guide's two rules: a small size by division, any other by halving. The first range is the whole table, since m is not known;
+// a bin of the small array is never above a size that is not small, so the search leaves the small array upwards.
 pub fn bin_of(table: &[u32], size: u32) -> Binned
+    requires { ⌜ ValidTable (now table) ⌝ }
     ensures { λ r. ⌜ TakenBy (now (table .entry)) size r ⌝ }
 {
-    let mut i = table.len();
-    while 0 < i {
-        i -= 1;
-        if table[i] <= size {
-            return Binned::Bin(i);
-        }
+    if size < LEAST {
+        return Binned::NoBin;
     }
-    Binned::NoBin
+    let bin = (size / ALIGNMENT) as usize - FIRST_EIGHTS;
+    if in_small_array(table, bin) {
+        return Binned::Bin(bin);
+    }
+    let bins = table.len();
+    Binned::Bin(upper_bin(&table, size, 0, bins))
 }

@@ -2,6 +2,7 @@
 // handed back: the caller sets the record.
 ghost use mathlib.Core.Path.{_≡_};
 ghost use Rattle.books.specs.Books.{books};
+ghost use Rattle.record.specs.Table.{ValidTable};
 ghost use Rattle.release.specs.Give.{givenUp, giveUpM};
 use crate::give_back;
 use crate::join;
@@ -19,6 +20,7 @@ pub fn give_up(
     summary: Summary,
     place: Place,
 ) -> Summary
+    requires { ⌜ ValidTable (now table) ⌝ }
     ensures { λ r. ⌜ givenUp (books (now (region .exit)) (now (heads .exit)) (now (tails .exit))) r ≡ giveUpM (books (now (region .entry)) (now (heads .entry)) (now (tails .entry))) (now (table .entry)) summary place ⌝ }
 {
     let joined = join(region, summary, place);

@@ -3,6 +3,7 @@
 ghost use mathlib.Core.Path.{_≡_};
 ghost use mathlib.Core.Bool.{cond};
 ghost use Rattle.books.specs.Books.{books};
+ghost use Rattle.record.specs.Table.{ValidTable};
 ghost use Rattle.region.specs.Words.{word, backward, forward};
 ghost use Rattle.release.specs.Release.{giveBackM, joinM, movedM, neighbourM};
 ghost use Rattle.rules.specs.Join.{joinedAs};
@@ -133,6 +134,7 @@ pub fn give_back(
     place: Place,
     joined: Union,
 )
+    requires { ⌜ ValidTable (now table) ⌝ }
     ensures { λ _. ⌜ books (now (region .exit)) (now (heads .exit)) (now (tails .exit)) ≡ giveBackM (books (now (region .entry)) (now (heads .entry)) (now (tails .entry))) (now (table .entry)) place joined ⌝ }
 {
     leave_bin(region, heads, tails, joined.lower, place.before);

@@ -1,6 +1,7 @@
 // A live block gets another size: its chunk keeps the need and gives the tail back, or the block moves, or nothing changes.
 // The block was found on the chain before.
 ghost use mathlib.Core.Path.{_≡_};
+ghost use Rattle.record.specs.Table.{ValidTable};
 ghost use Rattle.resize.specs.Resize.{moveM, rereadM, resizeM, shrinkM};
 ghost use Rattle.rules.specs.Statements.{replied};
 use blocks::copy_block;
@@ -28,6 +29,7 @@ use seek::Place;
 
 // The chunk keeps its lowest bytes and gives the tail back. Of what is kept the forward link alone is written.
 fn shrink(region: &mut [u32], table: &[u32], heap: Heap, place: Place, need: u32) -> Reply
+    requires { ⌜ ValidTable (now table) ⌝ }
     ensures { λ r. ⌜ replied r (now (region .exit)) ≡ shrinkM (now (region .entry)) (now (table .entry)) heap place need ⌝ }
 {
     let chunk = place.chunk;
@@ -65,6 +67,7 @@ fn with_link_reread(region: &[u32], place: Place) -> Place
 
 // A block is allocated, the whole old block is copied to it, and the old one is freed.
 fn move_block(region: &mut [u32], table: &[u32], heap: Heap, place: Place, need: u32) -> Reply
+    requires { ⌜ ValidTable (now table) ⌝ }
     ensures { λ r. ⌜ replied r (now (region .exit)) ≡ moveM (now (region .entry)) (now (table .entry)) heap place need ⌝ }
 {
     let summary = heap.summary();
@@ -90,6 +93,7 @@ fn move_block(region: &mut [u32], table: &[u32], heap: Heap, place: Place, need:
 }
 
 pub fn resize(region: &mut [u32], table: &[u32], heap: Heap, place: Place, need: u32) -> Reply
+    requires { ⌜ ValidTable (now table) ⌝ }
     ensures { λ r. ⌜ replied r (now (region .exit)) ≡ resizeM (now (region .entry)) (now (table .entry)) heap place need ⌝ }
 {
     let size = distance(place.chunk.0, place.end);

@@ -7,7 +7,7 @@ use Prim.Native.Nat.{ℕ, _+_, _-_, _/_, _%_, _^_, _≤_, _<_}
 use native.Mathlib.Decide.{decLt}
 use native.Mathlib.Nat.{add-zero}
 use native.Mathlib.Omega.{arith}
-use lib.Dec.{eqb}
+use lib.Dec.{eqb, ltb}
 use lib.ListN.{length, length-take}
 use Rattle.lists.specs.Lists.{Mem, headOr, lastOr, upTo, past}
 use Rattle.record.specs.declared.heap.Heap.{Heap}
@@ -174,7 +174,7 @@ module _ (ws : List ℕ) (h : Heap) (d : Draft) (f : Follows ws h d) where
     put-step =
         let (i, is, taken) = bin-from (tableOf h) (p .table .valid) s large in
         let l : i < h .bins = omega (arith, taken .inside, length-take (h .bins) (h .sizes)) in
-        rw (f .table, is, put-between i c d, f .table, put-into-is (f .way) i c l (smallBins (tableOf h)))
+        rw (f .table, is, put-between i c d, f .table, put-into-is (f .way) i c l (ltb i (smallBins (tableOf h))))
         (between-is i _ _)
 
     -- of the record only the bins' ends change

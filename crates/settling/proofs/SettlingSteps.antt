@@ -1,7 +1,9 @@
 -- A chunk is put into the bin that takes its size, over plain variables. Assumes nothing.
 use mathlib.Core.Path.{_≡_}
+use mathlib.Core.Bool.{Bool}
 use mathlib.Core.List.{List}
 use Prim.Native.Nat.{ℕ}
+use lib.Dec.{ltb}
 use Rattle.books.specs.Books.{Books}
 use Rattle.bins.specs.Bins.{putIntoM}
 use Rattle.record.specs.declared.table.Binned.{Binned}
@@ -22,6 +24,7 @@ module _ {b : Books} {table : List ℕ} {c size : ℕ} (r : Binned) (taken : Tak
   unfolding putInBinM putBinnedM
   put-nowhere e = record { is = rw (← bin-is table size r taken, e) }
 
-  pub put-binned : {i small : ℕ} {after : Books} → r ≡ Bin i → small ≡ smallBins table → after ≡ putIntoM b small i c → IsPut b table c size after
+  pub put-binned : {i : ℕ} {small : Bool} {after : Books} → r ≡ Bin i → small ≡ ltb i (smallBins table) → after ≡ putIntoM b small i c
+      → IsPut b table c size after
   unfolding putInBinM putBinnedM
   put-binned e s f = record { is = rw (← bin-is table size r taken, e, ← s) f }

@@ -3,6 +3,7 @@
 use mathlib.Core.Bool.{Bool, cond}
 use mathlib.Core.List.{List}
 use Prim.Native.Nat.{ℕ}
+use lib.Dec.{ltb}
 use Rattle.books.specs.Books.{Books, books}
 use Rattle.bins.specs.Bins.{leaveM, putIntoM}
 use Rattle.record.specs.declared.heap.Summary.{Summary}
@@ -33,12 +34,12 @@ settledM s End c = s
 unfoldable pub leaveBinM : Books → Bool → ℕ → Books
 leaveBinM b binned c = cond binned (leaveM b c) b
 
-unfoldable pub putBinnedM : Books → ℕ → ℕ → Binned → Books
-putBinnedM b small c (Bin i) = putIntoM b small i c
-putBinnedM b small c NoBin = b
+unfoldable pub putBinnedM : Books → List ℕ → ℕ → Binned → Books
+putBinnedM b table c (Bin i) = putIntoM b (ltb i (smallBins table)) i c
+putBinnedM b table c NoBin = b
 
 unfoldable pub putInBinM : Books → List ℕ → ℕ → ℕ → Books
-putInBinM b table c size = putBinnedM b (smallBins table) c (binOf table size)
+putInBinM b table c size = putBinnedM b table c (binOf table size)
 
 -- the books with some words written
 abbrev pub alsoWritten : Books → List Store → Books

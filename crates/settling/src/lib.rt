@@ -2,6 +2,7 @@
 // Whether it was cut or joined is not known here.
 ghost use mathlib.Core.Path.{_≡_};
 ghost use Rattle.books.specs.Books.{books};
+ghost use Rattle.record.specs.Table.{ValidTable};
 ghost use Rattle.settling.specs.Settling.{leaveBinM, putInBinM, settleM, settledM};
 use bins::leave;
 use bins::put_into;
@@ -11,7 +12,7 @@ use record::heap::Summary;
 use record::kinds::Kind;
 use record::table::Binned;
 use record::table::bin_of;
-use record::table::small_bins;
+use record::table::in_small_array;
 use region::Chunk;
 
 // A free chunk that takes its place: what it becomes, where it starts, and its size.
@@ -46,13 +47,14 @@ pub fn put_in_bin(
     chunk: Chunk,
     size: u32,
 )
+    requires { ⌜ ValidTable (now table) ⌝ }
     ensures { λ _. ⌜ books (now (region .exit)) (now (heads .exit)) (now (tails .exit)) ≡ putInBinM (books (now (region .entry)) (now (heads .entry)) (now (tails .entry))) (now (table .entry)) (chunk .0) size ⌝ }
 {
-    let small = small_bins(table);
     let binned = bin_of(table, size);
     let Binned::Bin(bin) = binned else {
         return;
     };
+    let small = in_small_array(table, bin);
     put_into(region, heads, tails, small, bin, chunk);
 }
 
@@ -64,6 +66,7 @@ pub fn settle(
     table: &[u32],
     arrival: Arrival,
 )
+    requires { ⌜ ValidTable (now table) ⌝ }
     ensures { λ _. ⌜ books (now (region .exit)) (now (heads .exit)) (now (tails .exit)) ≡ settleM (books (now (region .entry)) (now (heads .entry)) (now (tails .entry))) (now (table .entry)) arrival ⌝ }
 {
     let becomes = arrival.becomes;

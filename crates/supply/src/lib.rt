@@ -2,6 +2,7 @@
 // left as found. The bins' ends are lent, and the summary is handed back beside the answer: the caller sets the record.
 ghost use mathlib.Core.Path.{_≡_};
 ghost use Rattle.books.specs.Books.{books};
+ghost use Rattle.record.specs.Table.{ValidTable};
 ghost use Rattle.replies.specs.Replies.{concluded};
 ghost use Rattle.supply.specs.Supply.{filledM, supplyM};
 use blocks::clear_block;
@@ -42,6 +43,7 @@ pub fn supply(
     summary: Summary,
     want: Want,
 ) -> Answered
+    requires { ⌜ ValidTable (now table) ⌝ }
     ensures { λ r. ⌜ concluded (books (now (region .exit)) (now (heads .exit)) (now (tails .exit))) r ≡ supplyM (books (now (region .entry)) (now (heads .entry)) (now (tails .entry))) (now (table .entry)) summary want ⌝ }
 {
     let source = choose(region, table, heads, summary, want.need);

@@ -1,6 +1,5 @@
--- `bins::put_into` puts at the head or at the tail, by the bin's number. Assumes nothing.
+-- `bins::put_into` puts at the head or at the tail. Assumes nothing.
 use borrow.Author.Needs.{needs}
-use borrow.Author.Tests.{lt-ltb, le-ltb}
 use Rattle.bins.specs.Bins.{putIntoM}
 use Rattle.bins.proofs.put_into.Statement.{statement}
 use Rattle.bins.proofs.put_into.Tie as tie
@@ -10,14 +9,14 @@ unfolding putIntoM
 returns c =
     let put = c .before .before .before .before .before .before in
     let small = put .before .before .before .before in
-    rw (lt-ltb _ _ (small .if1 .taken)) (put .put-head .ensures)
+    rw (small .if1 .taken) (put .put-head .ensures)
 
 returns-2 : tie.Need-returns-2
 unfolding putIntoM
 returns-2 c =
     let put = c .before .before .before .before .before .before in
     let large = put .before .before .before .before in
-    rw (le-ltb _ _ (large .if1 .left)) (put .put-tail .ensures)
+    rw (large .if1 .left) (put .put-tail .ensures)
 
 pub put-into-spec : {M : Type 1} → statement M
 put-into-spec =

@@ -6,7 +6,7 @@ use borrow.Author.Needs.{needs}
 use borrow.Author.Tests.{not-true, not-false}
 use Rattle.rules.specs.Check.{passes}
 use Rattle.rules.specs.Serve.{permitted}
-use Rattle.heap.proofs.CallLaws.{bins-there}
+use Rattle.heap.proofs.CallLaws.{bins-there, table-valid}
 use Rattle.heap.proofs.AllocateLaws.{permitted-fits, allocate-meets, allocate-fails, allocate-refuses, allocate-supplies}
 use Rattle.heap.proofs.allocate_with.Statement.{statement}
 use Rattle.heap.proofs.allocate_with.Tie as tie
@@ -49,6 +49,9 @@ small c = permitted-fits _ (size-permitted c)
 bins-lent : tie.Need-array-share-prefix-sizes
 bins-lent c = bins-there _ _ (heap-passes (checked (needed c .before)))
 
+supply-requires : tie.Need-supply-requires
+supply-requires c κs = table-valid _ _ (heap-passes (checked (needed (c .before .before) .before)))
+
 returns-3 : tie.Need-returns-3
 returns-3 c =
     let supplied = c .before .before .before .before .before in
@@ -80,7 +83,7 @@ allocate-with-spec =
     bins-lent
     (λ c. sym (length-take-le _ _ (bins-lent (c .before))))
     (λ c κs. search needs)
-    (λ c κs. search needs)
+    supply-requires
     (λ c κs. search needs)
     (λ c. search needs)
     returns-3)

@@ -5,7 +5,7 @@ use borrow.Author.Needs.{needs}
 use borrow.Author.Tests.{not-true, not-false}
 use lib.Seq.{length-take-le}
 use Rattle.rules.specs.Check.{passes}
-use Rattle.heap.proofs.CallLaws.{asked-chunk, asks-chunk, bins-there, fails-chunk, lent}
+use Rattle.heap.proofs.CallLaws.{asked-chunk, asks-chunk, bins-there, fails-chunk, lent, table-valid}
 use Rattle.heap.proofs.ask_chunk.Statement.{statement}
 use Rattle.heap.proofs.ask_chunk.Tie as tie
 
@@ -43,6 +43,6 @@ ask-chunk-spec =
     (λ c. sym (length-take-le _ _ (lent _ _ (heap-passes (c .before .before .before .before .before)))))
     (λ c. bins-there _ _ (heap-passes (c .before .before .before .before .before)))
     (λ c. sym (length-take-le _ _ (bins-there _ _ (heap-passes (c .before .before .before .before .before .before)))))
-    (λ c κs. search needs)
+    (λ c κs. table-valid _ _ (heap-passes (c .before .before .before .before .before .before)))
     (λ c. search needs)
     returns-2)

@@ -6,7 +6,7 @@ use borrow.Author.Tests.{not-true, not-false}
 use Prim.Native.Nat.{ℕ}
 use lib.Seq.{length-take-le}
 use Rattle.rules.specs.Check.{passes}
-use Rattle.heap.proofs.CallLaws.{bins-there}
+use Rattle.heap.proofs.CallLaws.{bins-there, table-valid}
 use Rattle.heap.proofs.FreeLaws.{free-meets, free-fails, free-none, free-refuses, free-reclaims}
 use Rattle.heap.proofs.free.Statement.{statement}
 use Rattle.heap.proofs.free.Tie as tie
@@ -63,6 +63,9 @@ tails-long c =
 bins-lent : tie.Need-array-share-prefix-sizes
 bins-lent c = bins-there _ _ (heap-passes (checked (sought c)))
 
+reclaim-requires : tie.Need-reclaim-requires
+reclaim-requires c κs = table-valid _ _ (heap-passes (checked (sought (c .before .before))))
+
 returns-4 : tie.Need-returns-4
 returns-4 c =
     let reclaimed = c .before .before .before .before .before in
@@ -95,7 +98,7 @@ free-spec =
     bins-lent
     (λ c. sym (length-take-le _ _ (bins-lent (c .before))))
     (λ c κs. search needs)
-    (λ c κs. search needs)
+    reclaim-requires
     (λ c κs. search needs)
     (λ c. search needs)
     returns-4)

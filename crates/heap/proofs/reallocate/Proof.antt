@@ -6,7 +6,7 @@ use borrow.Author.Needs.{needs}
 use borrow.Author.Tests.{not-true, not-false}
 use Rattle.rules.specs.Check.{passes}
 use Rattle.rules.specs.Serve.{permitted}
-use Rattle.heap.proofs.CallLaws.{bins-there}
+use Rattle.heap.proofs.CallLaws.{bins-there, table-valid}
 use Rattle.heap.proofs.ReallocateLaws.{reallocate-meets, reallocate-none, reallocate-fails, reallocate-refuses, reallocate-misses, reallocate-resizes}
 use Rattle.heap.proofs.reallocate.Statement.{statement}
 use Rattle.heap.proofs.reallocate.Tie as tie
@@ -64,6 +64,9 @@ returns-4 c =
 bins-lent : tie.Need-array-share-prefix-sizes
 bins-lent c = bins-there _ _ (heap-passes (checked (sought (c .before) .before .before)))
 
+resize-requires : tie.Need-resize-requires
+resize-requires c κs = table-valid _ _ (heap-passes (checked (sought (c .before .before) .before .before)))
+
 returns-5 : tie.Need-returns-5
 returns-5 c =
     let resized = c .before .before in
@@ -100,6 +103,6 @@ reallocate-spec =
     (λ c κs. search needs)
     bins-lent
     (λ c. sym (length-take-le _ _ (bins-lent (c .before))))
-    (λ c κs. search needs)
+    resize-requires
     (λ c. search needs)
     returns-5)

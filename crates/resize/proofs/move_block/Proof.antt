@@ -14,16 +14,13 @@ use Rattle.resize.proofs.move_block.Tie as tie
 abbrev summed : tie.After-choose → tie.After-summary
 summed c = c .before .before .before .before .before
 
--- behind the whole record, step by step: the old chunk is given up, its link is read again, the block is copied, its room is granted
-module _ (c : tie.After-with-books) where
-  abbrev given-up : tie.After-give-up
-  given-up = c .before .before .before .before .before .before .before
+abbrev started : tie.After-choose → tie.Start
+started c = summed c .before .before .before
 
-  abbrev read : tie.After-with-link-reread
-  read = given-up .before .before .before .before
-
+-- behind the link of the old chunk, which is read again, step by step: the block is copied, its room is granted
+module _ (c : tie.After-with-link-reread) where
   abbrev copied : tie.After-copy-block
-  copied = read .before .before .before .before
+  copied = c .before .before .before .before
 
   abbrev sized : tie.After-distance
   sized = copied .before .before
@@ -33,6 +30,17 @@ module _ (c : tie.After-with-books) where
 
   abbrev somewhere : tie.Else1
   somewhere = served .before .before .before .before
+
+  abbrev chosen : tie.After-choose
+  chosen = somewhere .before .before
+
+-- behind the whole record: the old chunk is given up
+module _ (c : tie.After-with-books) where
+  abbrev given-up : tie.After-give-up
+  given-up = c .before .before .before .before .before .before .before
+
+  abbrev read : tie.After-with-link-reread
+  read = given-up .before .before .before .before
 
 returns : tie.Need-returns
 returns c =
@@ -51,26 +59,29 @@ module _ (start : tie.Start) where
   tails-of = sym (length-unmapped ℕ (start .args .heap .tails) 32 (search needs))
 
 heads-long : tie.Need-slice-aggregate-serve
-heads-long c = heads-of (summed (c .before .before .before .before) .before .before .before)
+heads-long c = heads-of (started (c .before .before .before .before))
 
 tails-long : tie.Need-slice-aggregate-serve-2
-tails-long c = tails-of (summed (c .before .before .before .before .before) .before .before .before)
+tails-long c = tails-of (started (c .before .before .before .before .before))
 
 same-length : tie.Need-same-length-2
 same-length c =
     let g = given-up c .give-up in
-    let k = copied c .copy-block in
-    let s = served c .serve in
+    let k = copied (read c) .copy-block in
+    let s = served (read c) .serve in
     search needs
+
+give-up-requires : tie.Need-give-up-requires
+give-up-requires c κs = started (chosen (c .before .before .before)) .pre
 
 returns-2 : tie.Need-returns-2
 returns-2 c =
-    let somewhere = somewhere c in
-    let chosen = somewhere .before .before in
-    let summary-is = summed chosen .summary .ensures in
+    let somewhere = somewhere (read c) in
+    let summary-is = summed (chosen (read c)) .summary .ensures in
     moves
-    (moved-by summary-is (chosen .choose .ensures) (somewhere .before .is-nowhere .ensures) (somewhere .if1 .left)
-    (served-recorded _ _ _ _ summary-is (served c .serve .ensures) refl) (sized c .distance .ensures) (copied c .copy-block .ensures) (read c .with-link-reread .ensures)
+    (moved-by summary-is (chosen (read c) .choose .ensures) (somewhere .before .is-nowhere .ensures) (somewhere .if1 .left)
+    (served-recorded _ _ _ _ summary-is (served (read c) .serve .ensures) refl) (sized (read c) .distance .ensures)
+    (copied (read c) .copy-block .ensures) (read c .with-link-reread .ensures)
     (given-recorded _ _ _ _ refl (given-up c .give-up .ensures) (c .with-books .ensures))
     (c .before .before .block-of .ensures) (c .before .change .ensures))
 
@@ -93,7 +104,7 @@ move-block-spec =
     (λ c κs. search needs)
     (λ c. search needs)
     (λ c. search needs)
-    (λ c κs. search needs)
+    give-up-requires
     (λ c κs. search needs)
     (λ c κs. search needs)
     (λ c κs. search needs)

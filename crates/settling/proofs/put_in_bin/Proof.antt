@@ -12,8 +12,11 @@ module _ (c : tie.After-slice-known6) where
   abbrev put : tie.After-put-into
   put = c .before .before .before .before .before .before
 
+  abbrev asked : tie.After-in-small-array
+  asked = put .before .before .before .before
+
   abbrev binned : tie.After-binned
-  binned = put .before .before .before .before .before
+  binned = asked .before .before
 
   abbrev told : tie.After-bin-of
   told = binned .before .before
@@ -21,17 +24,17 @@ module _ (c : tie.After-slice-known6) where
 returns-2 : tie.Need-returns-2
 returns-2 c =
     is-put
-    (put-binned _ (told c .bin-of .ensures) (binned c .binned .given .1) (told c .before .small-bins .ensures) (put c .put-into .ensures))
+    (put-binned _ (told c .bin-of .ensures) (binned c .binned .given .1) (asked c .in-small-array .ensures) (put c .put-into .ensures))
 
 pub put-in-bin-spec : {M : Type 1} → statement M
 put-in-bin-spec =
     tie.close
     (tie.spec
     (λ c κs. search needs)
-    (λ c κs. search needs)
     (λ c. search needs)
     (λ c. search needs)
     returns
+    (λ c κs. search needs)
     (λ c κs. search needs)
     (λ c. search needs)
     (λ c. search needs)

@@ -16,14 +16,8 @@ module _ (c : tie.After-slice-known8) where
   abbrev all-used : tie.After-write-used
   all-used = nothing-left .before .before .before .before
 
--- where a part is taken: the rest is settled, measured, linked and written free, and the used chunk is written
-module _ (c : tie.After-slice-known13) where
-  abbrev settled : tie.After-settle
-  settled = c .before .before .before .before .before .before
-
-  abbrev measured : tie.After-distance
-  measured = settled .before .before .before .before
-
+-- where a part is taken: the rest is measured, linked and written free, and the used chunk is written
+module _ (measured : tie.After-distance) where
   abbrev linked : tie.After-write-above2
   linked = measured .before .before .before .before
 
@@ -36,6 +30,14 @@ module _ (c : tie.After-slice-known13) where
   abbrev part-used : tie.After-write-used
   part-used = rest-left .before .before .before .before
 
+-- then it is settled
+module _ (c : tie.After-slice-known13) where
+  abbrev settled : tie.After-settle
+  settled = c .before .before .before .before .before .before
+
+  abbrev rest : tie.After-distance
+  rest = settled .before .before .before .before
+
 returns : tie.Need-returns
 returns c =
     taking
@@ -45,9 +47,15 @@ returns c =
 returns-2 : tie.Need-returns-2
 returns-2 c =
     taking
-    (took-part (out-of-bin (part-used c) .before .is-ordinary .ensures) (out-of-bin (part-used c) .leave-bin .ensures)
-    (part-used c .write-used .ensures) (rest-left c .if1 .left) (freed c .write-free .ensures) (linked c .write-above2 .ensures)
-    (measured c .distance .ensures) (settled c .settle .ensures))
+    (took-part (out-of-bin (part-used (rest c)) .before .is-ordinary .ensures)
+    (out-of-bin (part-used (rest c)) .leave-bin .ensures) (part-used (rest c) .write-used .ensures)
+    (rest-left (rest c) .if1 .left) (freed (rest c) .write-free .ensures)
+    (linked (rest c) .write-above2 .ensures) (rest c .distance .ensures) (settled c .settle .ensures))
+
+settle-requires : tie.Need-settle-requires
+settle-requires c κs =
+    let out = out-of-bin (part-used (c .before .before .before)) in
+    out .before .before .before .before .before .before .before .before .before .pre
 
 pub take-spec : {M : Type 1} → statement M
 take-spec =
@@ -64,7 +72,7 @@ take-spec =
     (λ c κs. search needs)
     (λ c κs. search needs)
     (λ c κs. search needs)
-    (λ c κs. search needs)
+    settle-requires
     (λ c. search needs)
     (λ c. search needs)
     (λ c. search needs)

@@ -1,53 +1,24 @@
--- `table::bin_of` gives the last bin whose size is not above: all bins passed on the way down are above.
--- Assumes nothing.
-use Prim.Native.Nat.{ℕ, _≤_, _<_}
-use native.Mathlib.Omega.{arith}
+-- `table::bin_of` divides a small size, and searches the table for any other. Assumes nothing.
 use borrow.Author.Needs.{needs}
-use lib.ListN.{length, getD}
-use Rattle.record.proofs.TableSteps.{above-one-more}
+use Rattle.record.proofs.HalvingLaws.{whole-table}
+use Rattle.record.proofs.TableLaws.{none-takes}
+use Rattle.record.proofs.TableSteps.{by-division}
 use Rattle.record.proofs.table.bin_of.Statement.{statement}
 use Rattle.record.proofs.table.bin_of.Tie as tie
 
-abbrev Inv-loop : tie.InvT-loop
-Inv-loop table size i₀ i =
-    (i ≤ length table) × ((j : ℕ) → i ≤ j → j < length table → size < getD table j 0)
+returns : tie.Need-returns
+returns c = none-takes _ (c .before .before .pre) _ (c .if1 .taken)
 
-abbrev μ-loop : tie.MeasureT-loop
-μ-loop table size i₀ i = i
+returns-2 : tie.Need-returns-2
+returns-2 c =
+    let asked = c .before in
+    by-division _ (asked .before .before .before .pre) _ (asked .before .if1 .left) (asked .in-small-array .ensures) (c .if2 .taken)
 
-loop-holds : tie.Need-loop-holds Inv-loop μ-loop
-loop-holds c = (omega arith, λ j lo hi. absurd (omega arith))
-
-returns : tie.Need-returns Inv-loop μ-loop
-returns c =
-    let l = c .before .before .before .loop in
-    record {
-      inside = omega arith;
-      notAbove = omega arith;
-      last = λ j lo hi. l .inv .1 j (omega arith) hi;
-    }
-
-loop-again : tie.Need-loop-again Inv-loop μ-loop
-loop-again c =
-    let turn = c .before .before .before in
-    let l = turn .loop in
-    let a = turn .before .args in
-    (omega arith, above-one-more (a .table .now) (l .i) (a .size) (l .inv .1) (c .if1 .left))
-
-returns-2 : tie.Need-returns-2 Inv-loop μ-loop
-returns-2 c = λ j hi. c .before .loop .inv .1 j (omega arith) hi
+upper-bin-requires : tie.Need-upper-bin-requires
+upper-bin-requires c κs =
+    whole-table _ (c .before .before .before .before .before .pre) _ (c .before .before .before .if1 .left)
 
 pub bin-of-spec : {M : Type 1} → statement M
 bin-of-spec =
     tie.close
-    (tie.spec
-    Inv-loop
-    μ-loop
-    loop-holds
-    (λ c. omega arith)
-    (λ c. search needs)
-    (λ c. omega arith)
-    returns
-    (λ c. omega arith)
-    loop-again
-    returns-2)
+    (tie.spec returns (λ c. search needs) (λ c. search needs) (λ c κs. search needs) returns-2 upper-bin-requires (λ c. search needs))

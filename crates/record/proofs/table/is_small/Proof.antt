@@ -1,5 +1,5 @@
--- `table::is_small` compares by eights what the rule compares by bytes. Assumes nothing.
-use mathlib.Core.Path.{sym}
+-- `table::is_small` asks whether the bin that the division gives is one of the small array's. Assumes nothing.
+use mathlib.Core.Path.{sym, _∙_}
 use borrow.Author.Needs.{needs}
 use Rattle.record.proofs.TableSteps.{small-eights, small-low}
 use Rattle.record.proofs.table.is_small.Statement.{statement}
@@ -9,8 +9,8 @@ returns : tie.Need-returns
 returns c = sym (small-low _ _ (c .if1 .taken))
 
 returns-2 : tie.Need-returns-2
-returns-2 c = rw (c .before .small-bins .ensures) (small-eights _ _ (c .if1 .left))
+returns-2 c = c .in-small-array .ensures ∙ small-eights _ _ (c .before .if1 .left)
 
 pub is-small-spec : {M : Type 1} → statement M
 is-small-spec =
-    tie.close (tie.spec (λ c κs. search needs) (λ c. search needs) returns returns-2)
+    tie.close (tie.spec (λ c. search needs) returns (λ c κs. search needs) returns-2)
