@@ -116,7 +116,7 @@ module _ (ws : List ℕ) (h : Heap) (k : Passes ws h) where
     number-is false o = refl
     number-is true o =
         let (i, takes, (below, listed)) = k .binned e m o in
-        rw takes (ap Told (omega (arith, k .table .bins)))
+        rw takes refl
 
     -- what a word of the chunk tells of the list of its bin
     neighbour-is : (number : ℕ) (beside : List ℕ → Answer) → beside [] ≡ ToldNone

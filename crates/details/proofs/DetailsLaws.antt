@@ -1,8 +1,9 @@
 -- What a chunk tells, part by part, as the code finds it. Assumes nothing.
-use mathlib.Core.Path.{_≡_}
+use mathlib.Core.Path.{_≡_, subst}
 use mathlib.Core.Bool.{Bool, true, false, not}
 use mathlib.Core.List.{List}
-use Prim.Native.Nat.{ℕ, _%_}
+use Prim.Native.Nat.{ℕ, _<_}
+use native.Mathlib.Omega.{arith}
 use lib.Dec.{eqb}
 use borrow.Author.Tests.{eq-eqb, ne-eqb, not-true, not-false}
 use Rattle.chain.specs.Chain.{kindM}
@@ -12,7 +13,7 @@ use Rattle.record.specs.declared.heap.Summary.{Summary}
 use Rattle.record.specs.declared.kinds.Kind.{Kind}
 use Rattle.record.specs.declared.table.Binned.{Binned}
 use Rattle.record.specs.declared.table.Binned.the-variants.{Bin, NoBin}
-use Rattle.record.specs.Table.{TakenBy}
+use Rattle.record.specs.Table.{ValidTable, TakenBy}
 use Rattle.record.proofs.TableLaws.{bin-is}
 use Rattle.region.specs.Places.{blockAt}
 use Rattle.region.specs.Words.{word, nextInBin, previousInBin}
@@ -24,7 +25,12 @@ use Rattle.details.specs.Details.{binToldM, linkToldM, ofPlaceM, asksOfB
 
 -- the number of the bin that takes a size
 module _ (table : List ℕ) (s : ℕ) {r : Binned} (k : TakenBy table s r) where
-  pub bin-told : {i : ℕ} → r ≡ Bin i → Told (i % 32) ≡ binToldM table s
+  pub bin-few : {i : ℕ} → ValidTable table → r ≡ Bin i → i < 32
+  bin-few {i} v e =
+      let takes = subst (λ (q : Binned). TakenBy table s q) e k in
+      omega (arith, takes .inside, v .few)
+
+  pub bin-told : {i : ℕ} → r ≡ Bin i → Told i ≡ binToldM table s
   unfolding binToldM
   bin-told e = rw (← bin-is table s r k, e)
 

@@ -2,7 +2,7 @@
 -- It mirrors the code; that on a heap that passes these are the answers of the rules is proved in `ask`.
 use mathlib.Core.Bool.{Bool, true, cond}
 use mathlib.Core.List.{List}
-use Prim.Native.Nat.{ℕ, _%_}
+use Prim.Native.Nat.{ℕ}
 use lib.Dec.{eqb}
 use Rattle.chain.specs.Chain.{kindM}
 use Rattle.record.specs.declared.answers.Answer.{Answer}
@@ -19,7 +19,7 @@ use Rattle.seek.specs.declared.Place.{Place}
 use Rattle.seek.specs.Seek.{liveM, sizeIn}
 
 abbrev pub numberTold : Binned → Answer
-numberTold (Bin i) = Told (i % 32)
+numberTold (Bin i) = Told i
 numberTold NoBin = ToldNone
 
 unfoldable pub binToldM : List ℕ → ℕ → Answer

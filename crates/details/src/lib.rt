@@ -7,7 +7,6 @@ ghost use Rattle.seek.specs.Seek.{sizeIn};
 use chain::is_ordinary;
 use chain::kind_of;
 use record::answers::Answer;
-use record::heap::PLACES;
 use record::heap::Summary;
 use record::questions::ASK_BIN;
 use record::questions::ASK_BLOCK;
@@ -35,7 +34,7 @@ fn size_of(place: Place) -> u32
     place.end - place.chunk.0
 }
 
-// A table has at most 32 sizes, so that the remainder changes no bin's number. With it the number fits, whatever the table.
+// The number of the bin of a size.
 fn bin_told(table: &[u32], size: u32) -> Answer
     requires { ⌜ ValidTable (now table) ⌝ }
     ensures { λ r. ⌜ r ≡ binToldM (now (table .entry)) size ⌝ }
@@ -44,7 +43,7 @@ fn bin_told(table: &[u32], size: u32) -> Answer
     let Binned::Bin(bin) = binned else {
         return Answer::ToldNone;
     };
-    Answer::Told((bin % PLACES) as u32)
+    Answer::Told(bin as u32)
 }
 
 // What a bin link, a head or a tail names. There 0 is none: the chunk at 0 is the start, which is in no bin.

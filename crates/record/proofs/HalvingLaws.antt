@@ -1,7 +1,7 @@
--- The search that halves a range of bins until one is left: either half still has the bin of the size, and a range of w bins is
--- halved no more often than 2 must be doubled to reach w. Assumes nothing.
+-- The search that halves a range of bins until one is left: which half has the bin of a size, and how often a range is halved.
+-- Assumes nothing.
 use Prim.Native.Nat.{ℕ, zero, suc, _+_, _-_, _/_, _^_, _≤_, _<_}
-use native.Mathlib.Decide.{ℕ-discrete, decLe}
+use native.Mathlib.Decide.{ℕ-discrete, decLe, decLt}
 use native.Mathlib.Omega.{arith}
 use mathlib.Core.Path.{_≡_, refl}
 use mathlib.Core.Bool.{Bool, true, false, cond}
@@ -18,7 +18,7 @@ levels zero w = 0
 levels (suc most) w = cond (leb w 1) 0 (suc (levels most (w - w / 2)))
 
 -- the depth of the recursion on a range of w bins
-abbrev pub halvings : ℕ → ℕ
+unfoldable pub halvings : ℕ → ℕ
 halvings w = levels w w
 
 levels-one : (most w : ℕ) → w ≤ 1 → levels most w ≡ 0
@@ -43,20 +43,17 @@ levels-rise (suc f) (suc g) v w h e =
         let c = halved (omega arith) in
         omega arith
 
--- each half of a range is halved less often than the range
-halving-falls : (v w : ℕ) → 2 ≤ w → v ≤ w - w / 2 → halvings v < halvings w
+-- a range of w bins is halved more often than any part of it that is not larger than its larger half
+halving-falls : (v w : ℕ) → 1 < w → v ≤ w - w / 2 → halvings v < halvings w
+unfolding halvings
 halving-falls v zero h e = absurd (omega arith)
 halving-falls v (suc w) h e =
     let a = levels-more w (suc w) h in
     let b = levels-rise v w v (suc w - suc w / 2) e (omega arith) in
     omega arith
 
-module _ (w depth : ℕ) (is : halvings w ≡ depth) (more : 1 < w) where
-  pub upper-falls : halvings (w - w / 2) < depth
-  upper-falls = let f = halving-falls (w - w / 2) w more (omega arith) in omega arith
-
-  pub lower-falls : halvings (w / 2) < depth
-  lower-falls = let f = halving-falls (w / 2) w more (omega arith) in omega arith
+pub depth-falls : {v w depth : ℕ} → halvings w ≡ depth → 1 < w → v ≤ w - w / 2 → halvings v < depth
+depth-falls {v} {w} is h e = let f = halving-falls v w h e in omega arith
 
 levels-few : (k most w : ℕ) → w ≤ 2 ^ k → levels most w ≤ k
 levels-few zero most w h = let z = levels-one most w h in omega arith
@@ -69,6 +66,7 @@ levels-few (suc k) (suc most) w h = go (decLe w 1) (levels-few k most (w - w / 2
 
 -- up to 2 to the power k bins are searched k calls deep; so any table is searched 5 deep, as it has 32 bins at most
 pub halvings-few : (k w : ℕ) → w ≤ 2 ^ k → halvings w ≤ k
+unfolding halvings
 halvings-few k w h = levels-few k w w h
 
 pub five-deep : (t : List ℕ) → ValidTable t → halvings (length t) ≤ 5
@@ -94,43 +92,29 @@ module _ {t : List ℕ} {s low width : ℕ} (k : TakenWithin t s low width) wher
       let e : k .bin ≡ low = omega (arith, k .from, k .below) in
       rw e at (k .takes)
 
-  module _ {half : ℕ} (some : half < width) where
-    -- the bin at the start of the upper half is not above the size: the upper half has the bin of the size
-    pub upper-half : sizeAt t (low + half) ≤ s → TakenWithin t s (low + half) (width - half)
-    upper-half h =
-        record {
-          valid = k .valid;
-          inside = omega (arith, k .inside);
-          bin = k .bin;
-          takes = k .takes;
-          from = not-below (decLe (low + half) (k .bin));
-          below = omega (arith, k .below);
-        }
-      where
-        not-below : Dec (low + half ≤ k .bin) → low + half ≤ k .bin
-        not-below (yes l) = l
-        not-below (no n) =
-            let a = k .takes .last (low + half) (omega arith) (omega (arith, k .inside)) in
-            absurd (omega arith)
+  -- a bin that is not above the size is not above the bin that takes it
+  pub not-after : (i : ℕ) → i < length t → sizeAt t i ≤ s → i ≤ k .bin
+  not-after i l h = go (decLe i (k .bin))
+    where
+      go : Dec (i ≤ k .bin) → i ≤ k .bin
+      go (yes q) = q
+      go (no n) = let a = k .takes .last i (omega arith) l in absurd (omega arith)
 
-    -- it is above the size: the lower half has it
-    pub lower-half : s < sizeAt t (low + half) → TakenWithin t s low half
-    lower-half h =
-        record {
-          valid = k .valid;
-          inside = omega (arith, k .inside);
-          bin = k .bin;
-          takes = k .takes;
-          from = k .from;
-          below = not-above (decLe (low + half) (k .bin));
-        }
-      where
-        up : Dec (k .bin ≡ low + half) → low + half ≤ k .bin → sizeAt t (low + half) ≤ sizeAt t (k .bin)
-        up (yes e) l = rw e (omega arith)
-        up (no n) l = let a = table-up t (k .valid) (low + half) (k .bin) (omega arith) (k .takes .inside) in omega arith
+  -- a bin that is above the size is above the bin that takes it
+  pub after : (i : ℕ) → i < length t → s < sizeAt t i → k .bin < i
+  after i l h = go (decLt (k .bin) i)
+    where
+      up : Dec (i ≡ k .bin) → i ≤ k .bin → sizeAt t i ≤ sizeAt t (k .bin)
+      up (yes e) q = rw e (omega arith)
+      up (no n) q = let a = table-up t (k .valid) i (k .bin) (omega arith) (k .takes .inside) in omega arith
 
-        not-above : Dec (low + half ≤ k .bin) → k .bin < low + half
-        not-above (yes l) =
-            let a = up (ℕ-discrete (k .bin) (low + half)) l in
-            absurd (omega (arith, k .takes .notAbove))
-        not-above (no n) = omega arith
+      go : Dec (k .bin < i) → k .bin < i
+      go (yes q) = q
+      go (no n) =
+          let a = up (ℕ-discrete i (k .bin)) (omega arith) in
+          absurd (omega (arith, k .takes .notAbove))
+
+  -- a part of the range that still has the bin
+  pub narrowed : {low′ width′ : ℕ} → low′ + width′ ≤ length t → low′ ≤ k .bin → k .bin < low′ + width′ → TakenWithin t s low′ width′
+  narrowed inside from below =
+      record { valid = k .valid; inside = inside; bin = k .bin; takes = k .takes; from = from; below = below }

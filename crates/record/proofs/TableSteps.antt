@@ -47,28 +47,22 @@ module _ (t : List ℕ) (v : ValidTable t) (i : ℕ) where
   pub last-not-small : length t - 1 ≤ i → false ≡ ltb i (smallBins t)
   last-not-small h = let m = small-bins-is t v in sym (le-ltb i (smallBins t) (omega (arith, m .below)))
 
-  pub small-by-next : i < length t - 1 → eqb (sizeAt t (i + 1)) (32 + 8 * i) ≡ ltb i (smallBins t)
-  small-by-next h =
-      let next : i + 1 ≡ suc i = omega arith in
-      let size : 32 + 8 * i ≡ 24 + 8 * suc i = omega arith in
-      let there = rw (lt-ltb (suc i) (length t) (omega arith)) at (in-small-iff t v i) in
-      rw (next, size) (same-test there (less i (smallBins t)) (λ l. l) (λ l. l))
+  pub small-by-next : suc i < length t → {next size : ℕ} → next ≡ suc i → size ≡ 24 + 8 * suc i
+      → eqb (sizeAt t next) size ≡ ltb i (smallBins t)
+  small-by-next h is size-is =
+      let there = rw (lt-ltb (suc i) (length t) h) at (in-small-iff t v i) in
+      rw (is, size-is) (same-test there (less i (smallBins t)) (λ l. l) (λ l. l))
 
 -- a size from 24 on whose bin by the division is one of the small array's: that bin takes it
-pub by-division : (t : List ℕ) → ValidTable t → (s : ℕ) → 24 ≤ s → {inside : Bool} → inside ≡ ltb (s / 8 - 3) (smallBins t) → inside ≡ true
-    → Takes t s (s / 8 - 3)
-by-division t v s h is so =
-    let l = ltb-true (s / 8 - 3) (smallBins t) (sym is ∙ so) in
-    division-takes t v s h (omega arith)
+pub by-division : (t : List ℕ) → ValidTable t → (s : ℕ) → 24 ≤ s → {i : ℕ} → i ≡ s / 8 - 3 → {inside : Bool} → inside ≡ ltb i (smallBins t)
+    → inside ≡ true → Takes t s i
+by-division t v s h e is so =
+    let l = ltb-true _ (smallBins t) (sym is ∙ so) in
+    rw e (division-takes t v s h (omega arith))
 
 -- a size is below 24 + 8m just where its eights, less three, are below m
-pub small-eights : (s m : ℕ) → 3 ≤ s / 8 → ltb (s / 8 - 3) m ≡ ltb s (24 + 8 * m)
-small-eights s m h = go (ltb (s / 8 - 3) m) refl
-  where
-    go : (t : Bool) → ltb (s / 8 - 3) m ≡ t → t ≡ ltb s (24 + 8 * m)
-    go true e = let l = ltb-true (s / 8 - 3) m e in sym (lt-ltb s (24 + 8 * m) (omega arith))
-    go false e = let l = ltb-false (s / 8 - 3) m e in sym (le-ltb s (24 + 8 * m) (omega arith))
+pub small-eights : (s m : ℕ) → 3 ≤ s / 8 → {i : ℕ} → i ≡ s / 8 - 3 → ltb i m ≡ ltb s (24 + 8 * m)
+small-eights s m h {i} e = same-test (less i m) (less s (24 + 8 * m)) (λ l. omega arith) (λ l. omega arith)
 
 pub small-low : (s m : ℕ) → s / 8 < 3 → ltb s (24 + 8 * m) ≡ true
 small-low s m h = lt-ltb s (24 + 8 * m) (omega arith)
-

@@ -1,11 +1,11 @@
 -- `table::upper_bin` halves a range that has the bin of the size until one bin is left. The measure is the depth: how often the range
 -- is halved. It falls with each call, so that a search of a whole table is at most 5 calls deep (`five-deep`). Assumes nothing.
-use Prim.Native.Nat.{ℕ, _<_}
+use Prim.Native.Nat.{ℕ, _+_, _/_, _<_}
 use native.Mathlib.Omega.{arith}
 use borrow.Author.Needs.{needs}
 use borrow.Fn.Kinds.{In}
 use borrow.Fn.PlainCycle.{Measures, is, falls, and}
-use Rattle.record.proofs.HalvingLaws.{halvings, upper-falls, lower-falls, one-left, upper-half, lower-half}
+use Rattle.record.proofs.HalvingLaws.{halvings, depth-falls, one-left, not-after, after, narrowed}
 use Rattle.record.proofs.table.upper_bin.Reads as upper-bin
 use Rattle.record.proofs.table.upper_bin.Kinds as upper-bin-kinds
 use Rattle.record.proofs.table.+upper_bin.Lts-upper_bin as upper-bin-lts
@@ -31,16 +31,22 @@ pub +upper-bin-spec : {M : Type 1} → statement M
     (upper-bin-below t, upper-bin.Post)
     (upper-bin-at t)
     upper-bin.Post
-    (λ c. one-left (c .before .pre .1) (c .if1 .taken))
-    (λ c. let r = c .before .pre .1 in omega (arith, r .inside, r .valid .few))
-    (λ c. let r = c .before .before .pre .1 in omega (arith, r .inside, r .valid .few))
-    (λ c. let r = c .before .before .before .pre .1 in omega (arith, r .inside))
+    (λ c. one-left (c .before .pre .1) (omega (arith, c .if1 .taken)))
+    (λ c. let k = c .before .pre .1 in omega (arith, k .inside, k .valid .few))
+    (λ c. let k = c .before .before .pre .1 in omega (arith, k .inside, k .valid .few))
+    (λ c. let k = c .before .before .before .pre .1 in omega (arith, k .inside))
     (λ c. omega arith)
-    (λ c κs. let r = c .before .before .before .before .pre in
-    let more = c .before .before .before .if1 .left in
-    (upper-falls _ _ (r .0) more, upper-half (r .1) (omega arith) (c .if2 .taken)))
+    (λ c κs. let a = c .before .before .before .before .args in
+    let (depth, k) = c .before .before .before .before .pre in (
+      depth-falls depth (c .before .before .before .if1 .left) (omega arith),
+      let here = not-after k (a .low + a .width / 2) (omega (arith, k .inside)) (omega (arith, c .if2 .taken)) in
+          narrowed k (omega (arith, k .inside)) (omega (arith, k .from)) (omega (arith, k .below)),
+    ))
     (λ c. c .upper-bin .ensures)
-    (λ c κs. let r = c .before .before .before .before .pre in
-    let more = c .before .before .before .if1 .left in
-    (lower-falls _ _ (r .0) more, lower-half (r .1) (omega arith) (c .if2 .left)))
+    (λ c κs. let a = c .before .before .before .before .args in
+    let (depth, k) = c .before .before .before .before .pre in (
+      depth-falls depth (c .before .before .before .if1 .left) (omega arith),
+      let there = after k (a .low + a .width / 2) (omega (arith, k .inside)) (omega (arith, c .if2 .left)) in
+          narrowed k (omega (arith, k .inside)) (omega (arith, k .from)) (omega (arith, k .below)),
+    ))
     (λ c. c .upper-bin2 .ensures)

@@ -1,4 +1,5 @@
 -- `table::bin_of` divides a small size, and searches the table for any other. Assumes nothing.
+use native.Mathlib.Omega.{arith}
 use borrow.Author.Needs.{needs}
 use Rattle.record.proofs.HalvingLaws.{whole-table}
 use Rattle.record.proofs.TableLaws.{none-takes}
@@ -12,7 +13,7 @@ returns c = none-takes _ (c .before .before .pre) _ (c .if1 .taken)
 returns-2 : tie.Need-returns-2
 returns-2 c =
     let asked = c .before in
-    by-division _ (asked .before .before .before .pre) _ (asked .before .if1 .left) (asked .in-small-array .ensures) (c .if2 .taken)
+    by-division _ (asked .before .before .before .pre) _ (asked .before .if1 .left) (omega arith) (asked .in-small-array .ensures) (c .if2 .taken)
 
 upper-bin-requires : tie.Need-upper-bin-requires
 upper-bin-requires c κs =

@@ -7,10 +7,10 @@ use Rattle.record.proofs.table.in_small_array.Statement.{statement}
 use Rattle.record.proofs.table.in_small_array.Tie as tie
 
 returns : tie.Need-returns
-returns c = last-not-small _ (c .before .pre) _ (c .if1 .taken)
+returns c = last-not-small _ (c .before .pre) _ (omega (arith, c .if1 .taken))
 
 returns-2 : tie.Need-returns-2
-returns-2 c = small-by-next _ (c .before .before .pre) _ (c .before .if1 .left)
+returns-2 c = small-by-next _ (c .before .before .pre) _ (omega (arith, c .before .if1 .left)) (omega arith) (omega arith)
 
 pub in-small-array-spec : {M : Type 1} → statement M
 in-small-array-spec =
