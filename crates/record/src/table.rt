@@ -1,4 +1,4 @@
-// The bin table, lent as a slice: whether it is valid, how many bins the small array has, and the bin of a size.
+// The bin table, lent as a slice: whether it is valid, which bins and sizes are the small array's, and the bin of a size.
 // Which chunks are in a bin is not known here.
 ghost use mathlib.Core.Path.{_≡_};
 ghost use lib.Dec.{ltb};
@@ -8,11 +8,11 @@ use region::ALIGNMENT;
 use region::LEAST;
 
 // The bins of the small array are 24, 32, 40 and so on: by how much they go up, the second of them, and the first in eights.
-const STEP: u64 = ALIGNMENT as u64;
+const STEP: usize = ALIGNMENT as usize;
 
-const SECOND: u64 = LEAST as u64 + STEP;
+const SECOND: usize = LEAST as usize + STEP;
 
-const FIRST_EIGHTS: usize = LEAST as usize / ALIGNMENT as usize;
+const FIRST_EIGHTS: usize = LEAST as usize / STEP;
 
 // The bin of a size, or none where every bin is for larger ones.
 pub enum Binned {
@@ -45,8 +45,8 @@ pub fn valid(table: &[u32]) -> bool
     right
 }
 
-// Whether the bin is one of the small array's, without counting m: sizes go up by 8 at least, so bin i + 1 has the size 24 + 8(i + 1)
-// only where no size is left out below it.
+// Whether the bin is one of the small array's. Nobody counts m: sizes go up by 8 at least, so that bin i + 1 has the size
+// 24 + 8(i + 1) only where no size is left out below it.
 pub fn in_small_array(table: &[u32], bin: usize) -> bool
     requires { ⌜ ValidTable (now table) ⌝ }
     ensures { λ r. ⌜ r ≡ ltb bin (smallBins (now (table .entry))) ⌝ }
@@ -54,7 +54,7 @@ pub fn in_small_array(table: &[u32], bin: usize) -> bool
     if table.len() - 1 <= bin {
         return false;
     }
-    table[bin + 1] as u64 == SECOND + STEP * bin as u64
+    table[bin + 1] as usize == SECOND + STEP * bin
 }
 
 // Whether the size is one of the small array's: its bin would be, by the division.
@@ -69,8 +69,8 @@ pub fn is_small(table: &[u32], size: u32) -> bool
     in_small_array(table, eights - FIRST_EIGHTS)
 }
 
-// The bin of a size that one of the `width` bins from `low` on takes: binary search, the range halved until one bin is left.
-// The slice is lent once more, so that each call passes one pointer on and the compiler makes a loop of the recursion.
+// Binary search: one of the `width` bins from `low` on takes the size, and the range is halved until one bin is left.
+// A table is a reference to the slice here, so that a call passes one pointer on, and the compiler makes a loop of the recursion.
 fn upper_bin(table: &&[u32], size: u32, low: usize, width: usize) -> usize
     requires { ⌜ TakenWithin (now (now table)) size low width ⌝ }
     ensures { λ r. ⌜ Takes (now (now (table .entry))) size r ⌝ }
@@ -87,8 +87,8 @@ fn upper_bin(table: &&[u32], size: u32, low: usize, width: usize) -> usize
     upper_bin(table, size, low, half)
 }
 
-// The guide's two rules: a small size by division, any other by halving. The first range is the whole table, since m is not known;
-// a bin of the small array is never above a size that is not small, so the search leaves the small array upwards.
+// The guide's two rules: the bin of a small size by division, that of any other by halving. The first range is the whole table,
+// since m is not known: no bin of the small array is above such a size, so that the search goes up past the small array.
 pub fn bin_of(table: &[u32], size: u32) -> Binned
     requires { ⌜ ValidTable (now table) ⌝ }
     ensures { λ r. ⌜ TakenBy (now (table .entry)) size r ⌝ }

@@ -54,19 +54,19 @@ impl Row {
 
 /// An allocator with the blocks that it holds.
 #[derive(Clone)]
-struct Station<A> {
+pub struct Station<A> {
     allocator: A,
     slots: Vec<usize>,
 }
 
 impl<A: Allocator> Station<A> {
-    fn new(mut allocator: A, load: &Load) -> Station<A> {
+    pub fn new(mut allocator: A, load: &Load) -> Station<A> {
         let slots: Vec<usize> = load.first.iter().map(|&bytes| allocator.allocate(bytes)).collect();
         assert!(slots.iter().all(|&slot| slot != 0), "there is room for the load");
         Station { allocator, slots }
     }
 
-    fn run(&mut self, kind: Kind, load: &Load) -> u64 {
+    pub fn run(&mut self, kind: Kind, load: &Load) -> u64 {
         for step in &load.steps {
             let slot = &mut self.slots[step.slot];
             match kind {
@@ -86,7 +86,7 @@ impl<A: Allocator> Station<A> {
     }
 
     /// Frees all blocks, for the next load.
-    fn end(&mut self) {
+    pub fn end(&mut self) {
         for &slot in &self.slots {
             self.allocator.free(slot);
         }
@@ -114,7 +114,7 @@ impl<A: Allocator> Station<A> {
         };
     }
 
-    fn steady(&mut self, kind: Kind, load: &Load) -> u64 {
+    pub fn steady(&mut self, kind: Kind, load: &Load) -> u64 {
         for _ in 0..STEADY {
             self.leave(kind, load);
             self.come_back(kind, load);
@@ -143,14 +143,14 @@ fn ask(heap: &mut Kruzhvela, block: usize) -> u64 {
 }
 
 /// The parts of a steady step of ours, and the peers' steady steps.
-struct Parts {
-    walk: f64,
-    rest: f64,
-    peers: Vec<f64>,
+pub struct Parts {
+    pub walk: f64,
+    pub rest: f64,
+    pub peers: Vec<f64>,
 }
 
 /// A steady step has two calls of reallocate, one that grows the strip and one that shrinks it.
-fn parts(kind: Kind, mut station: Station<Kruzhvela>, load: &Load, peers: Vec<Work>) -> Parts {
+pub fn parts(kind: Kind, mut station: Station<Kruzhvela>, load: &Load, peers: Vec<Work>) -> Parts {
     station.steady(kind, load);
     let settled = station.allocator.clone();
     station.steady(kind, load);

@@ -25,7 +25,7 @@ pub struct Load {
 }
 
 /// Strip sizes such that so many strips fit into 65,536 bytes, with room to spare, in every allocator measured.
-fn sizes(live: usize) -> &'static [u32] {
+pub fn sizes(live: usize) -> &'static [u32] {
     match live {
         0..=20 => &[96, 240, 480, 960, 1_920],
         21..=200 => &[24, 48, 96, 160, 240],

@@ -1,10 +1,12 @@
 //! Measures the proved heap against its peers, prints the tables and writes docs/BENCHMARKS.md.
-//! `bench check`, `bench instructions`, `bench patrol` or `bench calls` measures one part and leaves the others as they stand
-//! in the page. For a profiler that counts instructions, `bench steps WHO N` only plays N steps, and
-//! `bench checks WHO FILL CHUNKS N` only makes N checks (WHO: kruzhvela or limit, FILL: free or used).
+//! `bench check`, `bench instructions`, `bench patrol`, `bench calls` or `bench bins` measures one part and leaves the others as
+//! they stand in the page. For a profiler that counts instructions, `bench steps WHO N` only plays N steps,
+//! `bench checks WHO FILL CHUNKS N` only makes N checks (WHO: kruzhvela or limit, FILL: free or used), and `bench bins SIZES N`
+//! only plays N steps with a table of so many sizes.
 
 #[cfg(test)]
 mod agree;
+mod bins;
 mod calls;
 mod checks;
 mod clock;
@@ -20,11 +22,12 @@ use std::{env, fs};
 /// A part of the page: its word, its heading, and the function that measures and writes it, if it can be measured here.
 type Part = (&'static str, &'static str, fn() -> Option<String>);
 
-const PARTS: [Part; 4] = [
+const PARTS: [Part; 5] = [
     ("check", report::CHECK, || Some(report::checks(&checks::rows()))),
     ("instructions", report::INSTRUCTIONS, || Some(report::instructions(&instructions::rows()?))),
     ("patrol", report::PATROL, || Some(report::patrols(&patrols::rows()))),
     ("calls", report::CALLS, || Some(report::calls(&calls::rows()))),
+    ("bins", report::BINS, || Some(report::bins(&bins::rows()))),
 ];
 
 /// The heading of the part that is written by hand.
@@ -41,6 +44,7 @@ fn under<'a>(page: &'a str, heading: &str) -> &'a str {
 fn played(words: &[&str]) -> bool {
     match words {
         ["steps", who, steps] => calls::play(who, steps.parse().unwrap_or(0)),
+        ["bins", sizes, steps] => bins::play(sizes.parse().unwrap_or(0), steps.parse().unwrap_or(0)),
         ["checks", who, fill, chunks, times] => {
             instructions::play(who, fill, chunks.parse().unwrap_or(0), times.parse().unwrap_or(0));
         }

@@ -1,9 +1,10 @@
 //! The tables, as Markdown.
 
+use crate::bins;
 use crate::calls::{self, KINDS, LIVE};
 use crate::checks::{self, CHUNKS, FILLS};
 use crate::clock::ROUNDS;
-use crate::instructions::{Cost, BINS};
+use crate::instructions::{self, Cost};
 use crate::patrols::{self, Way, WAYS};
 use std::fmt::Write;
 use std::process::Command;
@@ -12,9 +13,10 @@ pub const CHECK: &str = "## The check, relative to a walk by hand";
 pub const INSTRUCTIONS: &str = "## The instructions of a check, relative to a walk by hand";
 pub const PATROL: &str = "## The patrol, relative to the same loop by hand";
 pub const CALLS: &str = "## The calls, relative to other allocators";
+pub const BINS: &str = "## A step outside the check, by the number of bins";
 
 const METHOD: &str = "\
-`cd rust && cargo run --release -p bench` (after `bash tools/archive`) writes this page, and with the word `check`, `instructions`, `patrol` or `calls` that part of it. Each ratio is to a peer measured in the same run. \
+`cd rust && cargo run --release -p bench` (after `bash tools/archive`) writes this page, and with the word `check`, `instructions`, `patrol`, `calls` or `bins` that part of it. Each ratio is to a peer measured in the same run. \
 Times are medians of interleaved runs: a round runs every work once, and a first round, which warms the caches, is not counted. \
 The heap, the record and the peers' arenas stay in the processor's first two caches. The proved heap is called through `kruzhvela::flat`, the functions of C: \
 each call but the check and the patrol unpacks the record from its `KZ_RECORD_WORDS` words and, the questions apart, packs it again.
@@ -96,7 +98,7 @@ pub fn instructions([ours, limit]: &[Cost; 2]) -> String {
         line("valgrind", &["--version"]),
         line("uname", &["-sm"]),
         line("sh", &["-c", "cc --version | head -1"]),
-        BINS.len()
+        instructions::BINS.len()
     );
     for (part, ours, peer) in costs {
         let _ = writeln!(text, "| {part} | {ours:.1} | {peer:.1} | {:.2} |", ours / peer);
@@ -168,4 +170,20 @@ pub fn calls(rows: &[calls::Row]) -> String {
         measured(),
         call_ratios(rows)
     )
+}
+
+/// A step outside the check for each table, with its ratio to a step of glibc's.
+pub fn bins(rows: &[bins::Row]) -> String {
+    let mut text = format!(
+        "{} Instructions counted by {}.\n\nA step frees one of 20 strips and allocates another, four of five sizes outside the small array. Its two checks are left out. \
+         Instructions are those of a thousand steps of the load; times are of a steady step of a strip of each size, in the mean.\n\n\
+         | Bins | instructions | time | to a step of glibc's |\n|---|---|---|---|\n",
+        measured(),
+        line("valgrind", &["--version"])
+    );
+    for row in rows {
+        let instructions = row.instructions.map_or("not counted".into(), |count| format!("{count:.0}"));
+        let _ = writeln!(text, "| {} | {instructions} | {:.0} ns | {:.1} |", row.bins, row.time, row.time / row.glibc);
+    }
+    text
 }

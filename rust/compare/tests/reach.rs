@@ -1,6 +1,6 @@
 //! The cases reach what they must: every call accepted and refused with every number that it can give, every question
-//! with none, 0 and more where it can tell that, every m, long chains, damage that the check refuses, every turn of the
-//! patrol's rule, and joinings that swallow its place.
+//! with none, 0 and more where it can tell that, every m, both ways of finding a bin, long chains, damage that the check
+//! refuses, every turn of the patrol's rule, and joinings that swallow its place.
 
 use compare::case::{self, Stage};
 use compare::judge::{Link, Walk, Words};
@@ -9,7 +9,8 @@ use compare::view::{heap_bytes, index, BACKWARD, IN_USE, SIZE};
 use kruzhvela::flat::{
     Answer, Record, ANSWER_NONE, ANSWER_OFFSET, ANSWER_REFUSAL, ANSWER_VALUE, BINS, BYTES, CHECK_CHUNKS, PATROL, SIZES,
 };
-use kruzhvela::limits::{ALIGNMENT, FEWEST_WORDS, LEAST_CHUNK, MOST_BINS, MOST_WORDS};
+use kruzhvela::limits::{ALIGNMENT, FEWEST_WORDS, HEADER_BYTES, LEAST_CHUNK, MOST_BINS, MOST_WORDS};
+use kruzhvela::Refusal;
 use second::Call;
 use std::collections::BTreeMap;
 
@@ -22,9 +23,18 @@ struct Tally {
     told: BTreeMap<(&'static str, u32, Told), u64>,
     /// Counts of accepted setups by m.
     setups: BTreeMap<usize, u64>,
+    /// Counts of needs by the way to their bin.
+    ways: BTreeMap<Way, u64>,
     most_chunks: u32,
     /// Counts of the turns of patrols, and of swallowed places by the call that joined.
     turns: BTreeMap<&'static str, u64>,
+}
+
+/// The way to the bin of a need: the division, or a search that halves the table at most so often.
+#[derive(Clone, Copy, Debug, PartialEq, Eq, PartialOrd, Ord)]
+enum Way {
+    Division,
+    Halving(u32),
 }
 
 /// What a question tells.
@@ -62,6 +72,16 @@ fn name(call: &Call) -> &'static str {
 fn small_bins(record: &Record) -> usize {
     let bins = record[BINS] as usize;
     (0..bins).take_while(|&i| record[SIZES + i] == LEAST_CHUNK + ALIGNMENT * i as u32).last().unwrap_or(0)
+}
+
+/// The way to the bin of what a block of so many bytes needs.
+fn way(record: &Record, bytes: u32) -> Way {
+    let need = (bytes + HEADER_BYTES).next_multiple_of(ALIGNMENT).max(LEAST_CHUNK);
+    if need < LEAST_CHUNK + ALIGNMENT * small_bins(record) as u32 {
+        Way::Division
+    } else {
+        Way::Halving(record[BINS].next_power_of_two().ilog2())
+    }
 }
 
 fn link_turn(link: Link) -> &'static str {
@@ -168,6 +188,7 @@ impl Tally {
             answers: BTreeMap::new(),
             told: BTreeMap::new(),
             setups: BTreeMap::new(),
+            ways: BTreeMap::new(),
             most_chunks: 0,
             turns: BTreeMap::new(),
         }
@@ -177,6 +198,9 @@ impl Tally {
         *self.answers.entry((name(call), answer[ANSWER_REFUSAL])).or_default() += 1;
         if matches!(call, Call::Setup { .. }) && answer[ANSWER_REFUSAL] == 0 {
             *self.setups.entry(small_bins(&self.side.record)).or_default() += 1;
+        }
+        if let (&Call::Allocate { z }, None | Some(Refusal::NoRoom)) = (call, Refusal::of(answer[ANSWER_REFUSAL])) {
+            *self.ways.entry(way(&self.side.record, z)).or_default() += 1;
         }
         if let Call::AskChunk { question, .. } | Call::AskBin { question, .. } = *call {
             if answer[ANSWER_REFUSAL] == 0 {
@@ -304,6 +328,11 @@ fn the_cases_reach_every_answer() {
     }
     assert!(tally.told.is_empty(), "no question may tell these: {:?}", tally.told);
     assert_eq!(tally.setups.len(), MOST_BINS, "m from 0 to 31: {:?}", tally.setups);
+    for way in (0..=5).map(Way::Halving).chain([Way::Division]) {
+        let times = tally.ways.remove(&way).unwrap_or(0);
+        assert!(times > 50, "{way:?}: only {times} times");
+    }
+    assert!(tally.ways.is_empty(), "a table is halved five times at most: {:?}", tally.ways);
     assert!(tally.most_chunks > 1_500, "the longest chain has {} chunks", tally.most_chunks);
     println!("{:#?}", tally.turns);
     for turn in TURNS {
