@@ -9,7 +9,7 @@ use lib.Dec.{eqb, ltb}
 use lib.ListN.{length, getD, drop, drop-of-length-le}
 use lib.Seq.{drop-cons}
 use Rattle.lists.proofs.ListsLaws.{less, same-test}
-use Rattle.record.specs.Table.{sizeAt, ValidTable, Takes, smallBins, goesUp, validTable}
+use Rattle.record.specs.Table.{sizeAt, ValidTable, Takes, smallBins, small, goesUp, validTable}
 use Rattle.record.proofs.TableLaws.{small-bins-is, in-small-iff, division-takes}
 
 -- the sizes from number i on go up: one more is tested, and none is left
@@ -53,12 +53,10 @@ module _ (t : List ℕ) (v : ValidTable t) (i : ℕ) where
       let there = rw (lt-ltb (suc i) (length t) h) at (in-small-iff t v i) in
       rw (is, size-is) (same-test there (less i (smallBins t)) (λ l. l) (λ l. l))
 
--- a size from 24 on whose bin by the division is one of the small array's: that bin takes it
-pub by-division : (t : List ℕ) → ValidTable t → (s : ℕ) → 24 ≤ s → {i : ℕ} → i ≡ s / 8 - 3 → {inside : Bool} → inside ≡ ltb i (smallBins t)
-    → inside ≡ true → Takes t s i
-by-division t v s h e is so =
-    let l = ltb-true _ (smallBins t) (sym is ∙ so) in
-    rw e (division-takes t v s h (omega arith))
+-- a small size from 24 on has the bin that the division gives
+pub by-division : (t : List ℕ) → ValidTable t → (s : ℕ) → 24 ≤ s → {answer : Bool} → answer ≡ small t s → answer ≡ true → {i : ℕ}
+    → i ≡ s / 8 - 3 → Takes t s i
+by-division t v s h is so e = rw e (division-takes t v s h (ltb-true s _ (sym is ∙ so)))
 
 -- a size is below 24 + 8m just where its eights, less three, are below m
 pub small-eights : (s m : ℕ) → 3 ≤ s / 8 → {i : ℕ} → i ≡ s / 8 - 3 → ltb i m ≡ ltb s (24 + 8 * m)

@@ -96,9 +96,8 @@ pub fn bin_of(table: &[u32], size: u32) -> Binned
     if size < LEAST {
         return Binned::NoBin;
     }
-    let bin = (size / ALIGNMENT) as usize - FIRST_EIGHTS;
-    if in_small_array(table, bin) {
-        return Binned::Bin(bin);
+    if is_small(table, size) {
+        return Binned::Bin((size / ALIGNMENT) as usize - FIRST_EIGHTS);
     }
     let bins = table.len();
     Binned::Bin(upper_bin(&table, size, 0, bins))

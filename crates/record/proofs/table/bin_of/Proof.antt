@@ -13,7 +13,7 @@ returns c = none-takes _ (c .before .before .pre) _ (c .if1 .taken)
 returns-2 : tie.Need-returns-2
 returns-2 c =
     let asked = c .before in
-    by-division _ (asked .before .before .before .pre) _ (asked .before .if1 .left) (omega arith) (asked .in-small-array .ensures) (c .if2 .taken)
+    by-division _ (asked .before .before .before .pre) _ (asked .before .if1 .left) (asked .is-small .ensures) (c .if2 .taken) (omega arith)
 
 upper-bin-requires : tie.Need-upper-bin-requires
 upper-bin-requires c κs =
@@ -22,4 +22,4 @@ upper-bin-requires c κs =
 pub bin-of-spec : {M : Type 1} → statement M
 bin-of-spec =
     tie.close
-    (tie.spec returns (λ c. search needs) (λ c. search needs) (λ c κs. search needs) returns-2 upper-bin-requires (λ c. search needs))
+    (tie.spec returns (λ c κs. search needs) (λ c. search needs) (λ c. search needs) returns-2 upper-bin-requires (λ c. search needs))
