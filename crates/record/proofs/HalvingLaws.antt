@@ -1,4 +1,4 @@
--- The search that halves a range of bins until one is left: which half has the bin of a size, and how often a range is halved.
+-- The search that halves a range of bins until one is left: which half has the bin of a size, and how many calls a search makes.
 -- Assumes nothing.
 use Prim.Native.Nat.{ℕ, zero, suc, _+_, _-_, _/_, _^_, _≤_, _<_}
 use native.Mathlib.Decide.{ℕ-discrete, decLe, decLt}
@@ -12,65 +12,78 @@ use lib.ListN.{length}
 use Rattle.record.specs.Table.{sizeAt, ValidTable, Takes, TakenWithin}
 use Rattle.record.proofs.TableLaws.{table-up, bin-from}
 
--- how often a range of w bins is halved, the larger half taken each time, until one bin is left; counted up to `most`
-abbrev levels : ℕ → ℕ → ℕ
-levels zero w = 0
-levels (suc most) w = cond (leb w 1) 0 (suc (levels most (w - w / 2)))
+-- the calls that a search of w bins makes at most, counted up to `most` after the first: one where there are two bins or one, and
+-- else one more than the larger half takes
+abbrev calls : ℕ → ℕ → ℕ
+calls zero w = 1
+calls (suc most) w = cond (leb w 2) 1 (suc (calls most (w - w / 2)))
 
--- the depth of the recursion on a range of w bins
-unfoldable pub halvings : ℕ → ℕ
-halvings w = levels w w
+-- the depth of the recursion on a range of w bins, the first call among it
+unfoldable pub depth : ℕ → ℕ
+depth w = calls w w
 
-levels-one : (most w : ℕ) → w ≤ 1 → levels most w ≡ 0
-levels-one zero w h = refl
-levels-one (suc most) w h = rw (le-leb w 1 h)
+calls-one : (most w : ℕ) → w ≤ 2 → calls most w ≡ 1
+calls-one zero w h = refl
+calls-one (suc most) w h = rw (le-leb w 2 h)
 
-levels-more : (most w : ℕ) → 2 ≤ w → levels (suc most) w ≡ suc (levels most (w - w / 2))
-levels-more most w h = rw (lt-leb w 1 (omega arith))
+calls-more : (most w : ℕ) → 2 < w → calls (suc most) w ≡ suc (calls most (w - w / 2))
+calls-more most w h = rw (lt-leb w 2 h)
 
--- a wider range is not halved less often
-levels-rise : (f g v w : ℕ) → v ≤ w → w ≤ g → levels f v ≤ levels g w
-levels-rise zero g v w h e = omega arith
-levels-rise (suc f) zero v w h e = let z = levels-one (suc f) v (omega arith) in omega arith
-levels-rise (suc f) (suc g) v w h e =
-    go (decLe v 1) (λ l. levels-rise f g (v - v / 2) (w - w / 2) (omega arith) (omega arith))
+calls-some : (most w : ℕ) → 1 ≤ calls most w
+calls-some zero w = omega arith
+calls-some (suc most) w = go (decLe w 2)
   where
-    go : Dec (v ≤ 1) → (2 ≤ v → levels f (v - v / 2) ≤ levels g (w - w / 2)) → levels (suc f) v ≤ levels (suc g) w
-    go (yes l) halved = let z = levels-one (suc f) v l in omega arith
+    go : Dec (w ≤ 2) → 1 ≤ calls (suc most) w
+    go (yes l) = let o = calls-one (suc most) w l in omega arith
+    go (no n) = let o = calls-more most w (omega arith) in omega arith
+
+pub depth-some : (w : ℕ) → 1 ≤ depth w
+unfolding depth
+depth-some w = calls-some w w
+
+-- a wider range takes no fewer calls
+calls-rise : (f g v w : ℕ) → v ≤ w → w ≤ g → calls f v ≤ calls g w
+calls-rise zero g v w h e = calls-some g w
+calls-rise (suc f) zero v w h e = let o = calls-one (suc f) v (omega arith) in omega arith
+calls-rise (suc f) (suc g) v w h e =
+    go (decLe v 2) (λ l. calls-rise f g (v - v / 2) (w - w / 2) (omega arith) (omega arith))
+  where
+    go : Dec (v ≤ 2) → (2 < v → calls f (v - v / 2) ≤ calls g (w - w / 2)) → calls (suc f) v ≤ calls (suc g) w
+    go (yes l) halved = let o = calls-one (suc f) v l in omega (arith, calls-some (suc g) w)
     go (no n) halved =
-        let a = levels-more f v (omega arith) in
-        let b = levels-more g w (omega arith) in
+        let a = calls-more f v (omega arith) in
+        let b = calls-more g w (omega arith) in
         let c = halved (omega arith) in
         omega arith
 
--- a range of w bins is halved more often than any part of it that is not larger than its larger half
-halving-falls : (v w : ℕ) → 1 < w → v ≤ w - w / 2 → halvings v < halvings w
-unfolding halvings
-halving-falls v zero h e = absurd (omega arith)
-halving-falls v (suc w) h e =
-    let a = levels-more w (suc w) h in
-    let b = levels-rise v w v (suc w - suc w / 2) e (omega arith) in
+-- a range of more than two bins takes more calls than a part of it that is not larger than its larger half
+part-takes-fewer : (v w : ℕ) → 2 < w → v ≤ w - w / 2 → depth v < depth w
+unfolding depth
+part-takes-fewer v zero h e = absurd (omega arith)
+part-takes-fewer v (suc w) h e =
+    let a = calls-more w (suc w) h in
+    let b = calls-rise v w v (suc w - suc w / 2) e (omega arith) in
     omega arith
 
-pub depth-falls : {v w depth : ℕ} → halvings w ≡ depth → 1 < w → v ≤ w - w / 2 → halvings v < depth
-depth-falls {v} {w} is h e = let f = halving-falls v w h e in omega arith
+pub depth-falls : {v w d : ℕ} → depth w ≡ d → 2 < w → v ≤ w - w / 2 → depth v < d
+depth-falls {v} {w} is h e = let f = part-takes-fewer v w h e in omega arith
 
-levels-few : (k most w : ℕ) → w ≤ 2 ^ k → levels most w ≤ k
-levels-few zero most w h = let z = levels-one most w h in omega arith
-levels-few (suc k) zero w h = omega arith
-levels-few (suc k) (suc most) w h = go (decLe w 1) (levels-few k most (w - w / 2) (omega arith))
+calls-few : (k most w : ℕ) → w ≤ 2 ^ suc k → calls most w ≤ suc k
+calls-few zero most w h = let o = calls-one most w h in omega arith
+calls-few (suc k) zero w h = omega arith
+calls-few (suc k) (suc most) w h = go (decLe w 2) (calls-few k most (w - w / 2) (omega arith))
   where
-    go : Dec (w ≤ 1) → levels most (w - w / 2) ≤ k → levels (suc most) w ≤ suc k
-    go (yes l) halved = let z = levels-one (suc most) w l in omega arith
-    go (no n) halved = let a = levels-more most w (omega arith) in omega arith
+    go : Dec (w ≤ 2) → calls most (w - w / 2) ≤ suc k → calls (suc most) w ≤ suc (suc k)
+    go (yes l) halved = let o = calls-one (suc most) w l in omega arith
+    go (no n) halved = let a = calls-more most w (omega arith) in omega arith
 
--- up to 2 to the power k bins are searched k calls deep; so any table is searched 5 deep, as it has 32 bins at most
-pub halvings-few : (k w : ℕ) → w ≤ 2 ^ k → halvings w ≤ k
-unfolding halvings
-halvings-few k w h = levels-few k w w h
+-- up to 2 to the power k bins are searched k calls deep, if k is not 0; so any table is searched 5 deep: it has 32 bins at most
+pub depth-few : (k w : ℕ) → w ≤ 2 ^ suc k → depth w ≤ suc k
+unfolding depth
+depth-few k w h = calls-few k w w h
 
-pub five-deep : (t : List ℕ) → ValidTable t → halvings (length t) ≤ 5
-five-deep t v = halvings-few 5 (length t) (v .few)
+pub five-deep : (t : List ℕ) → ValidTable t → depth (length t) ≤ 5
+five-deep t v = depth-few 4 (length t) (v .few)
 
 -- the search begins with the whole table
 pub whole-table : (t : List ℕ) → ValidTable t → (s : ℕ) → 24 ≤ s → TakenWithin t s 0 (length t)
@@ -86,10 +99,10 @@ whole-table t v s h =
     }
 
 module _ {t : List ℕ} {s low width : ℕ} (k : TakenWithin t s low width) where
-  -- one bin is left: it takes the size
-  pub one-left : width ≤ 1 → Takes t s low
-  one-left h =
-      let e : k .bin ≡ low = omega (arith, k .from, k .below) in
+  -- a bin that is neither below nor above the bin that takes the size takes it
+  pub only-bin : {i : ℕ} → i ≤ k .bin → k .bin ≤ i → Takes t s i
+  only-bin {i} from to =
+      let e : k .bin ≡ i = omega arith in
       rw e at (k .takes)
 
   -- a bin that is not above the size is not above the bin that takes it

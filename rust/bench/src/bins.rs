@@ -2,10 +2,12 @@
 
 use crate::calls::{parts, Kind, Station, LIVE};
 use crate::clock::Work;
-use crate::instructions::outside_the_check;
-use crate::loads::{load, sizes, Load};
-use crate::peers::{Glibc, Kruzhvela};
+use crate::instructions::total;
+use crate::loads::{load, sizes};
+use crate::peers::{Allocator, Glibc, Kruzhvela};
+use kruzhvela::flat;
 use kruzhvela::limits::MOST_WORDS;
+use std::hint::black_box;
 
 const FEW: [u32; 3] = [24, 256, 2_048];
 
@@ -23,6 +25,10 @@ const TABLES: [&[u32]; 3] = [&FEW, &SOME, &MOST];
 /// How many steps are counted together.
 const STEPS: usize = 1_000;
 
+/// The steps as they are, and with a check before each call.
+pub const PLAIN: &str = "plain";
+pub const CHECKED: &str = "checked";
+
 /// A step with a table of so many sizes, without its checks: instructions, where valgrind can count them, and nanoseconds;
 /// and a step of glibc's.
 pub struct Row {
@@ -32,15 +38,30 @@ pub struct Row {
     pub glibc: f64,
 }
 
-fn station(table: &[u32], load: &Load) -> Station<Kruzhvela> {
-    Station::new(Kruzhvela::new(MOST_WORDS, table, 0, true), load)
+fn heap(table: &[u32]) -> Kruzhvela {
+    Kruzhvela::new(MOST_WORDS, table, 0, true)
 }
 
-/// Only plays so many steps of allocate + free with 20 strips and a table of so many sizes. An unknown number of sizes plays none.
-pub fn play(bins: usize, steps: usize) {
+fn check(heap: &mut Kruzhvela) {
+    black_box(flat::check(&mut heap.region, &mut heap.record));
+}
+
+/// Only plays so many steps of allocate + free with 20 strips and a table of so many sizes, with a check before each call if
+/// that is asked. An unknown number of sizes plays none.
+pub fn play(bins: usize, steps: usize, checked: bool) {
+    let Some(table) = TABLES.iter().find(|table| table.len() == bins) else { return };
     let load = load(LIVE[0], steps);
-    if let Some(table) = TABLES.iter().find(|table| table.len() == bins) {
-        station(table, &load).run(Kind::AllocateFree, &load);
+    let mut heap = heap(table);
+    let mut slots: Vec<usize> = load.first.iter().map(|&bytes| heap.allocate(bytes)).collect();
+    for step in &load.steps {
+        if checked {
+            check(&mut heap);
+        }
+        heap.free(slots[step.slot]);
+        if checked {
+            check(&mut heap);
+        }
+        slots[step.slot] = heap.allocate(step.bytes);
     }
 }
 
@@ -53,7 +74,7 @@ fn times(table: &[u32]) -> (f64, f64) {
         load.first[LIVE[0] - 1] = bytes;
         let mut peer = Station::new(Glibc, &load);
         let works: Vec<Work> = vec![Box::new(|| peer.steady(Kind::AllocateFree, &load))];
-        let parts = parts(Kind::AllocateFree, station(table, &load), &load, works);
+        let parts = parts(Kind::AllocateFree, Station::new(heap(table), &load), &load, works);
         ours += parts.walk + parts.rest;
         glibc += parts.peers[0];
         peer.end();
@@ -61,10 +82,13 @@ fn times(table: &[u32]) -> (f64, f64) {
     (ours / sizes.len() as f64, glibc / sizes.len() as f64)
 }
 
-/// The steps of the load on the same heap, counted; those before the first step are taken off.
+/// Instructions of a step of the load without its two checks. The same steps with a check before each call have twice as many
+/// checks, on the same heaps.
 fn count(bins: usize) -> Option<f64> {
-    let played = |steps: usize| outside_the_check(&["bins", &bins.to_string(), &steps.to_string()]);
-    Some((played(STEPS)? - played(0)?) / STEPS as f64)
+    let played = |steps: usize, how: &str| total(&["bins", &bins.to_string(), &steps.to_string(), how]);
+    let steps = |how: &str| Some((played(STEPS, how)? - played(0, how)?) / STEPS as f64);
+    let (plain, checked) = (steps(PLAIN)?, steps(CHECKED)?);
+    Some(plain - (checked - plain))
 }
 
 pub fn rows() -> Vec<Row> {

@@ -66,7 +66,7 @@ impl<A: Allocator> Station<A> {
         Station { allocator, slots }
     }
 
-    pub fn run(&mut self, kind: Kind, load: &Load) -> u64 {
+    fn run(&mut self, kind: Kind, load: &Load) -> u64 {
         for step in &load.steps {
             let slot = &mut self.slots[step.slot];
             match kind {

@@ -3,9 +3,8 @@
 use crate::checks::{by_hand, filled, proved, repeat, Check, Fill};
 use crate::peers::Kruzhvela;
 use kruzhvela::limits::MOST_WORDS;
-use std::collections::HashMap;
+use std::env;
 use std::process::Command;
-use std::{env, fs};
 
 /// Bin sizes from 24 to 128 by 8, and powers of two above them.
 pub const BINS: [u32; 21] =
@@ -40,56 +39,26 @@ pub fn play(who: &str, fill: &str, chunks: u32, times: u64) {
     repeat(times, check, &mut heap);
 }
 
-/// Instructions of one check, all that it calls among them. None where valgrind is not installed.
-fn count(who: &str, function: &str, fill: &str, chunks: u32) -> Option<f64> {
-    let valgrind = ["--tool=callgrind", "--callgrind-out-file=/dev/null", &format!("--toggle-collect={function}")];
+/// Instructions that valgrind, given some words of its own, counts while the benchmark is played. None where it is not installed.
+fn collected(asked: &[&str], played: &[&str]) -> Option<f64> {
+    let valgrind = ["--tool=callgrind", "--callgrind-out-file=/dev/null"];
     let bench = env::current_exe().ok()?;
-    let played = ["checks", who, fill, &chunks.to_string(), &TIMES.to_string()];
-    let output = Command::new("valgrind").args(valgrind).arg(bench).args(played).output().ok()?;
+    let output = Command::new("valgrind").args(valgrind).args(asked).arg(bench).args(played).output().ok()?;
     let told = String::from_utf8_lossy(&output.stderr);
     let collected = told.lines().find_map(|line| line.split_once("Collected :")?.1.trim().parse::<f64>().ok());
     let counted = collected.filter(|&instructions| instructions > 0.0);
-    Some(counted.unwrap_or_else(|| panic!("valgrind counted nothing: {told}")) / f64::from(TIMES))
+    Some(counted.unwrap_or_else(|| panic!("valgrind counted nothing: {told}")))
 }
 
-/// The check, as the archive names it.
-const CHECK: &str = "audit::look";
-
-/// Adds up what a profile of callgrind says that the archive's functions cost by themselves, the check left out. The archive's
-/// names are those of the calls or have `::`; with mangled names no other function has that. Callgrind may put a number behind a
-/// name. Behind a line `calls=` stands what the callee costs.
-fn of_the_archive(profile: &str) -> f64 {
-    let mut names = HashMap::new();
-    let (mut counted, mut called, mut cost) = (false, false, 0.0);
-    for line in profile.lines() {
-        if let Some((number, name)) = line.strip_prefix("fn=").and_then(|named| named.split_once(')')) {
-            let name = if name.is_empty() { names[number] } else { name.trim() };
-            names.insert(number, name);
-            counted = !name.starts_with(CHECK) && (name.starts_with("kz_") || name.contains("::"));
-        } else if let Some((number, name)) = line.strip_prefix("cfn=").and_then(|named| named.split_once(')')) {
-            names.entry(number).or_insert(name.trim());
-        } else if line.starts_with("calls=") {
-            called = true;
-        } else if line.starts_with(|first: char| first.is_ascii_digit() || "+-*".contains(first)) {
-            let own = line.split_whitespace().nth(1).and_then(|word| word.parse::<f64>().ok());
-            cost += own.filter(|_| counted && !called).unwrap_or(0.0);
-            called = false;
-        }
-    }
-    cost
+/// Instructions of all that the benchmark does where it is played with these words.
+pub fn total(played: &[&str]) -> Option<f64> {
+    collected(&[], played)
 }
 
-/// Instructions of the archive's functions outside the check, where the benchmark is played with these words. None where
-/// valgrind is not installed.
-pub fn outside_the_check(played: &[&str]) -> Option<f64> {
-    let profile = env::temp_dir().join(format!("kruzhvela-{}.callgrind", std::process::id()));
-    let to = format!("--callgrind-out-file={}", profile.display());
-    let bench = env::current_exe().ok()?;
-    let valgrind = ["--tool=callgrind", "--demangle=no", &to];
-    Command::new("valgrind").args(valgrind).arg(bench).args(played).output().ok()?;
-    let counted = fs::read_to_string(&profile).map(|text| of_the_archive(&text));
-    fs::remove_file(profile).ok();
-    counted.ok()
+/// Instructions of one check, all that it calls among them.
+fn count(who: &str, function: &str, fill: &str, chunks: u32) -> Option<f64> {
+    let played = ["checks", who, fill, &chunks.to_string(), &TIMES.to_string()];
+    Some(collected(&[&format!("--toggle-collect={function}")], &played)? / f64::from(TIMES))
 }
 
 /// What a chunk of one kind costs, and the rest of a check.

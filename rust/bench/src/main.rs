@@ -1,8 +1,8 @@
 //! Measures the proved heap against its peers, prints the tables and writes docs/BENCHMARKS.md.
 //! `bench check`, `bench instructions`, `bench patrol`, `bench calls` or `bench bins` measures one part and leaves the others as
 //! they stand in the page. For a profiler that counts instructions, `bench steps WHO N` only plays N steps,
-//! `bench checks WHO FILL CHUNKS N` only makes N checks (WHO: kruzhvela or limit, FILL: free or used), and `bench bins SIZES N`
-//! only plays N steps with a table of so many sizes.
+//! `bench checks WHO FILL CHUNKS N` only makes N checks (WHO: kruzhvela or limit, FILL: free or used), and `bench bins SIZES N HOW`
+//! only plays N steps with a table of so many sizes (HOW: plain, or checked for a check before each call).
 
 #[cfg(test)]
 mod agree;
@@ -44,7 +44,9 @@ fn under<'a>(page: &'a str, heading: &str) -> &'a str {
 fn played(words: &[&str]) -> bool {
     match words {
         ["steps", who, steps] => calls::play(who, steps.parse().unwrap_or(0)),
-        ["bins", sizes, steps] => bins::play(sizes.parse().unwrap_or(0), steps.parse().unwrap_or(0)),
+        ["bins", sizes, steps, how] => {
+            bins::play(sizes.parse().unwrap_or(0), steps.parse().unwrap_or(0), *how == bins::CHECKED);
+        }
         ["checks", who, fill, chunks, times] => {
             instructions::play(who, fill, chunks.parse().unwrap_or(0), times.parse().unwrap_or(0));
         }

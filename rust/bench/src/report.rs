@@ -175,8 +175,9 @@ pub fn calls(rows: &[calls::Row]) -> String {
 /// A step outside the check for each table, with its ratio to a step of glibc's.
 pub fn bins(rows: &[bins::Row]) -> String {
     let mut text = format!(
-        "{} Instructions counted by {}.\n\nA step frees one of 20 strips and allocates another, four of five sizes outside the small array. Its two checks are left out. \
-         Instructions are those of a thousand steps of the load; times are of a steady step of a strip of each size, in the mean.\n\n\
+        "{} Instructions counted by {}.\n\nA step frees one of 20 strips and allocates another; a call of the check is taken off for each of its two calls. \
+         With 3 bins all sizes of the load are outside the small array, with 19 and 32 four of five. \
+         Instructions are the mean of a thousand steps, with some 80 of the benchmark's own; times are the mean of a steady step of a strip of each size.\n\n\
          | Bins | instructions | time | to a step of glibc's |\n|---|---|---|---|\n",
         measured(),
         line("valgrind", &["--version"])
