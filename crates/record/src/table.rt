@@ -45,7 +45,7 @@ pub fn valid(table: &[u32]) -> bool
     right
 }
 
-// Whether the bin is one of the small array's. Nobody counts m: sizes go up by 8 at least, so that bin i + 1 has the size
+// Whether the bin is one of the small array's. m is not counted: sizes go up by 8 at least, so that bin i + 1 has the size
 // 24 + 8(i + 1) only where no size is left out below it.
 pub fn in_small_array(table: &[u32], bin: usize) -> bool
     requires { ⌜ ValidTable (now table) ⌝ }

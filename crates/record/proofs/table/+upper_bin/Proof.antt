@@ -2,7 +2,6 @@
 -- (`depth-some`) and falls with each call: so a search of a whole table makes 5 calls at most (`five-deep`). Assumes nothing.
 use Prim.Native.Nat.{ℕ, _+_, _/_, _<_}
 use native.Mathlib.Omega.{arith}
-use borrow.Author.Needs.{needs}
 use borrow.Fn.Kinds.{In}
 use borrow.Fn.PlainCycle.{Measures, is, falls, and}
 use Rattle.record.proofs.HalvingLaws.{depth, depth-falls, only-bin, not-after, after, narrowed}
