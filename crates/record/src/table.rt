@@ -71,7 +71,7 @@ pub fn is_small(table: &[u32], size: u32) -> bool
 
 // Binary search: one of the `width` bins from `low` on takes the size, and the range is halved until one bin is left.
 // A table is a reference to the slice here, so that a call passes one pointer on, and the compiler makes a loop of the recursion.
-// Each half has its own test whether it is one bin, so that the loop branches on the comparison and the processor can predict it.
+// Each half has its own test whether it is one bin, so that the loop branches on the comparison, which measured faster.
 fn upper_bin(table: &&[u32], size: u32, low: usize, width: usize) -> usize
     requires { ⌜ TakenWithin (now (now table)) size low width ⌝ }
     ensures { λ r. ⌜ Takes (now (now (table .entry))) size r ⌝ }
