@@ -1,11 +1,11 @@
 -- The four tries, part by part as the code makes them. Assumes nothing.
-use mathlib.Core.Path.{_≡_, sym, _∙_, ap}
-use mathlib.Core.Bool.{Bool, true, false, not}
+use mathlib.Core.Path.{_≡_, refl, sym, _∙_, ap}
+use mathlib.Core.Logic.{_⊎_, inl, inr}
+use mathlib.Core.Bool.{Bool, true, false, cond, true≢false}
 use mathlib.Core.List.{List}
-use Prim.Native.Nat.{ℕ, _+_}
-use lib.Dec.{leb}
+use Prim.Native.Nat.{ℕ}
 use lib.ListN.{length}
-use borrow.Author.Tests.{eq-eqb, ne-eqb, not-true, not-false}
+use borrow.Author.Tests.{eq-eqb, ne-eqb}
 use Rattle.record.specs.declared.heap.Summary.{Summary}
 use Rattle.record.specs.declared.sources.Source.{Source}
 use Rattle.record.specs.declared.sources.Source.the-variants.{FromBin, FromDonor, FromTop, Nowhere}
@@ -13,32 +13,34 @@ use Rattle.record.specs.declared.table.Binned.{Binned}
 use Rattle.record.specs.Table.{small, TakenBy, binOf}
 use Rattle.record.proofs.TableLaws.{bin-is}
 use Rattle.region.specs.declared.Chunk.{Chunk}
-use Rattle.region.specs.Words.{word, size}
-use Rattle.grant.specs.Choose.{ownM, largerM, donorM, topM, chooseM}
+use Rattle.rules.specs.Serve.{inOrder, firstOf}
+use Rattle.grant.specs.Choose.{ownM, largerM, donorM, topM, topOrDonorM, chooseM}
 
--- whether the donor serves, t. It is a record, so that the checker finds by itself what was asked
-pub record DonorServes (ws table : List ℕ) (donor n : ℕ) (t : Bool) : Type 0 where
-  pub is : t ≡ donorM ws table donor n
+-- the donor's turn does not come before the larger bins: it does not serve, or the need is not small
+abbrev pub Later : Bool → Bool → Type 0
+Later serves little = (serves ≡ false) ⊎ (little ≡ false)
 
-pub donor-serves : {ws table : List ℕ} {donor n : ℕ} {t : Bool} → DonorServes ws table donor n t → t ≡ donorM ws table donor n
-donor-serves d = d .is
+-- what the tries come to where the own bin has nothing, and where no bin has
+larger-next : (little serves : Bool) (c : Chunk) (top : Source) → Later serves little
+    → FromBin c ≡ firstOf (inOrder little Nowhere (FromBin c) (cond serves FromDonor Nowhere) top)
+larger-next true true c top (inl q) = absurd (true≢false q)
+larger-next true true c top (inr q) = absurd (true≢false q)
+larger-next true false c top l = refl
+larger-next false serves c top l = refl
 
--- the need is not small, there is no donor, or its size decides
-module _ {ws table : List ℕ} {donor n : ℕ} {t : Bool} (et : t ≡ small table n) where
-  pub not-small : not t ≡ true → DonorServes ws table donor n false
-  unfolding donorM
-  not-small h = record { is = rw (sym et ∙ not-true t h) }
+rest-next : (little serves top : Bool) → Later serves little
+    → topOrDonorM top serves ≡ firstOf (inOrder little Nowhere Nowhere (cond serves FromDonor Nowhere) (cond top FromTop Nowhere))
+unfolding topOrDonorM
+rest-next true true top (inl q) = absurd (true≢false q)
+rest-next true true top (inr q) = absurd (true≢false q)
+rest-next true false true l = refl
+rest-next true false false l = refl
+rest-next false true true l = refl
+rest-next false true false l = refl
+rest-next false false true l = refl
+rest-next false false false l = refl
 
-  module _ (ht : not t ≡ false) where
-    pub no-donor : donor ≡ 0 → DonorServes ws table donor n false
-    unfolding donorM
-    no-donor e = record { is = rw (sym et ∙ not-false t ht, eq-eqb donor 0 e) }
-
-    pub by-size : (donor ≡ 0 → ⊥) → {z : ℕ} → z ≡ word ws donor size → DonorServes ws table donor n (leb (n + 24) z)
-    unfolding donorM
-    by-size m ez = record { is = rw (sym et ∙ not-false t ht, ne-eqb donor 0 m, ez) }
-
--- the source that is chosen, r; a record for the same reason
+-- the source that is chosen, r. It is a record, so that the checker finds by itself what was asked
 pub record Chooses (ws table heads : List ℕ) (s : Summary) (n : ℕ) (r : Source) : Type 0 where
   pub is : r ≡ chooseM ws table heads s n
 
@@ -66,23 +68,18 @@ module _ {ws table heads : List ℕ} {n : ℕ} {b : Binned} {own : Chunk} (o : O
     unfolding chooseM
     from-own k = record { is = rw (own-is, ne-eqb (own .0) 0 k) }
 
-    module _ (ho : own .0 ≡ 0) {d : Bool} (ed : d ≡ donorM ws table (s .donor .0) n) where
-      pub from-donor : d ≡ true → Chooses ws table heads s n FromDonor
+    module _ (ho : own .0 ≡ 0) {d : Bool} (ed : d ≡ donorM ws (s .donor .0) n) where
+      pub from-donor-first : d ≡ true → small table n ≡ true → Chooses ws table heads s n FromDonor
       unfolding chooseM
-      from-donor h = record { is = rw (own-is, eq-eqb (own .0) 0 ho, sym ed ∙ h) }
+      from-donor-first h little = record { is = rw (own-is, eq-eqb (own .0) 0 ho, sym ed ∙ h, little) }
 
-      module _ (hd : d ≡ false) {larger : Chunk} (el : larger .0 ≡ largerM heads (length table) b) where
+      module _ {larger : Chunk} (el : larger .0 ≡ largerM heads (length table) b) (later : Later d (small table n)) where
         pub from-larger : (larger .0 ≡ 0 → ⊥) → Chooses ws table heads s n (FromBin larger)
         unfolding chooseM
-        from-larger k = record { is = rw (own-is, eq-eqb (own .0) 0 ho, sym ed ∙ hd, larger-is el, ne-eqb (larger .0) 0 k) }
+        from-larger k =
+            record { is = rw (own-is, eq-eqb (own .0) 0 ho, ← ed, larger-is el, ne-eqb (larger .0) 0 k) (larger-next (small table n) d larger _ later) }
 
-        module _ (hl : larger .0 ≡ 0) {t : Bool} (et : t ≡ topM ws (s .top .0) n) where
-          pub from-top : t ≡ true → Chooses ws table heads s n FromTop
-          unfolding chooseM
-          from-top h =
-              record { is = rw (own-is, eq-eqb (own .0) 0 ho, sym ed ∙ hd, larger-is el, eq-eqb (larger .0) 0 hl, sym et ∙ h) }
-
-          pub from-nowhere : t ≡ false → Chooses ws table heads s n Nowhere
-          unfolding chooseM
-          from-nowhere h =
-              record { is = rw (own-is, eq-eqb (own .0) 0 ho, sym ed ∙ hd, larger-is el, eq-eqb (larger .0) 0 hl, sym et ∙ h) }
+        pub from-rest : larger .0 ≡ 0 → {t : Bool} → t ≡ topM ws (s .top .0) n → {r : Source} → r ≡ topOrDonorM t d → Chooses ws table heads s n r
+        unfolding chooseM
+        from-rest hl {t} et er =
+            record { is = rw (er, own-is, eq-eqb (own .0) 0 ho, ← ed, larger-is el, eq-eqb (larger .0) 0 hl, ← et) (rest-next (small table n) d t later) }

@@ -1,6 +1,6 @@
 -- On a heap that passes, the source that the code chooses is the one that the rule names (`choose-is`). Assumes nothing.
 use mathlib.Core.Path.{_≡_, refl, sym, _∙_, ap}
-use mathlib.Core.Bool.{Bool, true, false, cond, _&&_}
+use mathlib.Core.Bool.{cond}
 use mathlib.Core.List.{List}
 use Prim.Native.Nat.{ℕ, _<_}
 use native.Mathlib.Decide.{ℕ-discrete}
@@ -18,7 +18,7 @@ use Rattle.record.specs.declared.sources.Source.the-variants.{FromDonor, FromTo
 use Rattle.record.specs.declared.table.Binned.{Binned}
 use Rattle.record.specs.declared.table.Binned.the-variants.{Bin, NoBin}
 use Rattle.record.specs.Heap.{tableOf, summaryOf}
-use Rattle.record.specs.Table.{TakenBy, small, binOf}
+use Rattle.record.specs.Table.{TakenBy, binOf}
 use Rattle.record.proofs.TableLaws.{bin-taken}
 use Rattle.region.specs.Words.{word, size}
 use Rattle.rules.specs.Allocate.{sourceOf}
@@ -66,17 +66,12 @@ module _ (ws : List ℕ) (h : Heap) (p : Passes ws h) (n : ℕ) where
       ∙ next-occupied-is (h .heads) (binList ws h) (h .bins) (λ j l. list-head ws h p j) (λ j l c m. list-nodes ws h p j l c m .some) i)
   larger-is NoBin k = refl
 
-  donor-is : cond (donorM ws (tableOf h) (h .donor .0) n) FromDonor Nowhere ≡ tryDonor h es n
+  donor-is : cond (donorM ws (h .donor .0) n) FromDonor Nowhere ≡ tryDonor h es n
   unfolding donorM
   donor-is = go (ℕ-discrete (h .donor .0) 0)
     where
-      -- without a donor nothing is compared
-      none : (a x y : Bool) → cond (a && false && x) FromDonor Nowhere ≡ cond (a && false && y) FromDonor Nowhere
-      none true x y = refl
-      none false x y = refl
-
-      go : Dec (h .donor .0 ≡ 0) → cond (donorM ws (tableOf h) (h .donor .0) n) FromDonor Nowhere ≡ tryDonor h es n
-      go (yes e) = rw (eq-eqb (h .donor .0) 0 e) (none (small (tableOf h) n) _ _)
+      go : Dec (h .donor .0 ≡ 0) → cond (donorM ws (h .donor .0) n) FromDonor Nowhere ≡ tryDonor h es n
+      go (yes e) = rw (eq-eqb (h .donor .0) 0 e)
       go (no k) = rw (donor-size (omega arith))
 
   top-is : cond (topM ws (h .top .0) n) FromTop Nowhere ≡ tryTop h es n
@@ -87,4 +82,4 @@ module _ (ws : List ℕ) (h : Heap) (p : Passes ws h) (n : ℕ) where
   unfolding chooseM chosen asRead
   choose-is =
       let t = bin-taken (tableOf h) n in
-      rw (own-is (binOf (tableOf h) n) t, donor-is, larger-is (binOf (tableOf h) n) t, top-is)
+      rw (own-is (binOf (tableOf h) n) t, larger-is (binOf (tableOf h) n) t, donor-is, top-is)

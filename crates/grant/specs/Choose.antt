@@ -1,7 +1,7 @@
 -- The four tries as the code makes them, over words and heads. They mirror the code; that the first to succeed is the source
 -- that the rule names is proved.
 use mathlib.Core.Bool.{Bool, not, cond, _&&_}
-use mathlib.Core.List.{List, [], _∷_}
+use mathlib.Core.List.{List}
 use Prim.Native.Nat.{ℕ, _+_}
 use lib.Dec.{eqb, leb}
 use lib.ListN.{length, getD}
@@ -13,7 +13,7 @@ use Rattle.record.specs.declared.table.Binned.{Binned}
 use Rattle.record.specs.declared.table.Binned.the-variants.{Bin, NoBin}
 use Rattle.record.specs.Table.{small, binOf}
 use Rattle.region.specs.Words.{word, size}
-use Rattle.rules.specs.Serve.{fromBin, firstOf}
+use Rattle.rules.specs.Serve.{fromBin, inOrder, firstOf}
 
 unfoldable pub ownM : List ℕ → List ℕ → ℕ → Binned → ℕ
 ownM ws heads n (Bin i) = firstFitM steps ws n (getD heads i 0)
@@ -23,17 +23,17 @@ unfoldable pub largerM : List ℕ → ℕ → Binned → ℕ
 largerM heads bins (Bin i) = nextOccupiedM heads i bins
 largerM heads bins NoBin = 0
 
-unfoldable pub donorM : List ℕ → List ℕ → ℕ → ℕ → Bool
-donorM ws table donor n = small table n && not (eqb donor 0) && leb (n + 24) (word ws donor size)
+unfoldable pub donorM : List ℕ → ℕ → ℕ → Bool
+donorM ws donor n = not (eqb donor 0) && leb (n + 24) (word ws donor size)
 
 unfoldable pub topM : List ℕ → ℕ → ℕ → Bool
 topM ws top n = leb (n + 24) (word ws top size)
 
+unfoldable pub topOrDonorM : Bool → Bool → Source
+topOrDonorM top donor = cond top FromTop (cond donor FromDonor Nowhere)
+
 unfoldable pub chooseM : List ℕ → List ℕ → List ℕ → Summary → ℕ → Source
 chooseM ws table heads s n =
     firstOf
-    (fromBin (ownM ws heads n (binOf table n))
-    ∷ cond (donorM ws table (s .donor .0) n) FromDonor Nowhere
-    ∷ fromBin (largerM heads (length table) (binOf table n))
-    ∷ cond (topM ws (s .top .0) n) FromTop Nowhere
-    ∷ [])
+    (inOrder (small table n) (fromBin (ownM ws heads n (binOf table n))) (fromBin (largerM heads (length table) (binOf table n)))
+    (cond (donorM ws (s .donor .0) n) FromDonor Nowhere) (cond (topM ws (s .top .0) n) FromTop Nowhere))

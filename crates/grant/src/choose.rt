@@ -1,6 +1,7 @@
-// The four tries, in turn: the bin of the need, the donor, a larger bin, the top. Nothing is written here.
+// The four tries: the bin of the need, the larger bins, the top, the donor. A small need asks the donor before the larger bins, any other
+// need asks it last. Nothing is written here.
 ghost use mathlib.Core.Path.{_≡_};
-ghost use Rattle.grant.specs.Choose.{chooseM, donorM, largerM, ownM, topM};
+ghost use Rattle.grant.specs.Choose.{chooseM, donorM, largerM, ownM, topM, topOrDonorM};
 ghost use Rattle.record.specs.Table.{ValidTable};
 use bins::first_fit;
 use bins::list_end;
@@ -36,24 +37,33 @@ pub fn larger_bin(heads: &[u32], bins: usize, binned: Binned) -> Chunk
 }
 
 // A chunk of the least size stays behind, so that the donor is never used up.
-pub fn donor_serves(region: &[u32], table: &[u32], donor: Chunk, need: u32) -> bool
-    requires { ⌜ ValidTable (now table) ⌝ }
-    ensures { λ r. ⌜ r ≡ donorM (now (region .entry)) (now (table .entry)) (donor .0) need ⌝ }
+pub fn donor_serves(region: &[u32], donor: Chunk, need: u32) -> bool
+    ensures { λ r. ⌜ r ≡ donorM (now (region .entry)) (donor .0) need ⌝ }
 {
-    if !is_small(table, need) {
-        return false;
-    }
     if donor.0 == 0 {
         return false;
     }
     need as u64 + LEAST as u64 <= word(region, donor, SIZE) as u64
 }
 
-// The same of the top, whatever the need.
+// The same of the top, which is always there.
 pub fn top_serves(region: &[u32], top: Chunk, need: u32) -> bool
     ensures { λ r. ⌜ r ≡ topM (now (region .entry)) (top .0) need ⌝ }
 {
     need as u64 + LEAST as u64 <= word(region, top, SIZE) as u64
+}
+
+// Where no bin has a chunk: the top, and the donor if the top does not serve.
+pub fn top_or_donor(top: bool, donor: bool) -> Source
+    ensures { λ r. ⌜ r ≡ topOrDonorM top donor ⌝ }
+{
+    if top {
+        Source::FromTop
+    } else if donor {
+        Source::FromDonor
+    } else {
+        Source::Nowhere
+    }
 }
 
 pub fn choose(region: &[u32], table: &[u32], heads: &[u32], summary: Summary, need: u32) -> Source
@@ -65,15 +75,13 @@ pub fn choose(region: &[u32], table: &[u32], heads: &[u32], summary: Summary, ne
     if own.0 != 0 {
         return Source::FromBin(own);
     }
-    if donor_serves(region, table, summary.donor, need) {
+    let donor = donor_serves(region, summary.donor, need);
+    if donor && is_small(table, need) {
         return Source::FromDonor;
     }
     let larger = larger_bin(heads, table.len(), binned);
     if larger.0 != 0 {
         return Source::FromBin(larger);
     }
-    if top_serves(region, summary.top, need) {
-        return Source::FromTop;
-    }
-    Source::Nowhere
+    top_or_donor(top_serves(region, summary.top, need), donor)
 }

@@ -1,20 +1,17 @@
 -- What the promise `Apart` says of a granted block whose words were written (`new-apart`), of a freed block (`others-kept`, `none-others`)
 -- and of a moved one (`moved-apart`). Assumes nothing.
-use mathlib.Core.Path.{_≡_, refl, sym, ap, _∙_}
+use mathlib.Core.Path.{_≡_, refl, ap, _∙_}
 use mathlib.Core.Logic.{_≢_, _⊎_, inl, inr}
-use mathlib.Core.Bool.{true, true≢false}
+use mathlib.Core.Bool.{true}
 use mathlib.Core.List.{List, _++_}
 use Prim.Native.Nat.{ℕ, _+_, _/_, _≤_, _<_}
 use native.Mathlib.Omega.{arith}
-use Rattle.drafts.proofs.SourceLaws.{CanGrant, Grantable}
+use Rattle.drafts.proofs.SourceLaws.{Grantable}
 use Rattle.drafts.proofs.GrantKept.{theGrant, sourceChunk, can, source, cutting, grant-is, granted-large, granted-new, live-stays, granted-only}
 use Rattle.drafts.proofs.GrantedChunk as granting
 use Rattle.drafts.proofs.GrantSpared.{grant-spares}
 use Rattle.record.specs.declared.answers.Answer.{Answer}
 use Rattle.record.specs.declared.heap.Heap.{Heap}
-use Rattle.record.specs.declared.sources.Source.{Source}
-use Rattle.record.specs.declared.sources.Source.the-variants.{FromBin, FromDonor, FromTop, Nowhere}
-use Rattle.record.specs.Heap.{tableOf}
 use Rattle.region.specs.Words.{Store, word, written}
 use Rattle.region.proofs.WordsLaws.{Off, off}
 use Rattle.drafts.proofs.ReleaseKept.{free-kept, others-stay, none-new}
@@ -22,21 +19,20 @@ use Rattle.drafts.proofs.ReleaseSpared.{free-spares}
 use Rattle.drafts.proofs.MovedLaws as moving
 use Rattle.drafts.proofs.MovedLaws.{Moving}
 use Rattle.rules.specs.Shape.{Entry, shape, chunkEnd}
-use Rattle.rules.specs.Kinds.{ordinaryKind, live, blockOf, blockWords}
+use Rattle.rules.specs.Kinds.{live, blockOf, blockWords}
 use Rattle.rules.specs.Check.{Passes}
 use Rattle.rules.specs.Draft.{Draft, asRead, alsoWrites}
-use Rattle.rules.specs.Serve.{serves, nowhere}
+use Rattle.rules.specs.Serve.{serves}
 use Rattle.rules.specs.Cut.{Grant}
 use Rattle.rules.specs.Outcome.{made}
 use Rattle.rules.specs.Allocate.{grant, cleared}
 use Rattle.rules.specs.Free.{isLive, freeBlock}
 use Rattle.rules.specs.Statements.{Left, leftBy}
 use Rattle.rules.proofs.SpotLaws.{inside}
-use Rattle.rules.proofs.NamedLaws.{is-ordinary, is-donor}
 use Rattle.drafts.proofs.FillLaws.{Within, filled-within, fill-reads, below-block, above-block}
 use Rattle.promises.specs.Room.{OnChain, HoldsBlock}
 use Rattle.promises.specs.Apart.{SameWords, Keeps, KeepsAll, KeepsOthers, Gone, NoneNewBut, CutFrom, New}
-use Rattle.promises.proofs.ServeLaws.{top-can, donor-can, ordinary-can}
+use Rattle.promises.proofs.ServeLaws.{source-serves}
 use Rattle.promises.proofs.ReasonLaws.{one-block}
 
 -- the block at b is new, and the live blocks are those of before and this one
@@ -62,26 +58,14 @@ module _ {ws : List ℕ} {h : Heap} {n : ℕ} (room : Grantable ws h n) where
   abbrev from : Entry
   from = sourceChunk room
 
-  -- the source chunk can serve
-  source-serves : serves (tableOf h) (h .donor .0) (h .top .0) n from ≡ true
-  source-serves = go (source room) refl (can room)
-    where
-      go : (s : Source) → source room ≡ s → CanGrant ws h n s from → serves (tableOf h) (h .donor .0) (h .top .0) n from ≡ true
-      go (FromBin c) q k = ordinary-can ws h (room .well) n from (is-ordinary ws h (room .well) from (k .member) (ap ordinaryKind (k .kind))) (k .enough)
-      go FromDonor q k =
-          let d = is-donor ws h (room .well) from (k .member) (omega arith) (k .place) in
-          donor-can ws h (room .well) n from (k .free) (λ t. omega arith) (k .place) (k .spare refl) (k .little refl)
-      go FromTop q k = top-can ws h (room .well) n from (k .free) (k .place) (k .spare refl)
-      go Nowhere q k = absurd (true≢false (sym (ap nowhere q) ∙ room .some))
-
   -- the new chunk is cut from it
-  cut-from : CutFrom ws h n new from
+  pub cut-from : CutFrom ws h n new from
   cut-from =
       let c = cutting room in
       let i = ap (λ (x : Grant). x .granted) (grant-is room) in
       record {
         member = can room .member;
-        serves = source-serves;
+        serves = source-serves ws h (room .well) n (source room) from (room .some) (can room);
         starts = rw i (omega arith);
         ends = rw i (omega arith);
         enough = granted-large room;

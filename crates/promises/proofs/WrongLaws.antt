@@ -17,7 +17,7 @@ use Rattle.record.specs.declared.answers.Answer.{Answer}
 use Rattle.record.specs.declared.answers.Answer.the-variants.{Granted}
 use Rattle.record.specs.declared.heap.Heap.{Heap}
 use Rattle.record.specs.Answers.{figuresOf}
-use Rattle.record.specs.Heap.{empty, tableOf}
+use Rattle.record.specs.Heap.{empty}
 use Rattle.region.specs.declared.Block.{Block}
 use Rattle.rules.specs.Shape.{Entry, shape, binList, chunkEnd}
 use Rattle.rules.specs.Kinds.{live, overhead, blockOf}
@@ -59,7 +59,7 @@ unfolding computes
 seventh-passes = passing (afterCalls 7) refl
 
 -- some chunk of the fresh heap can serve 16 bytes
-fresh-serves : any (serves (tableOf (afterCalls 0 .heap)) (afterCalls 0 .heap .donor .0) (afterCalls 0 .heap .top .0) (need overhead 16)) (shape (afterCalls 0 .words) (afterCalls 0 .heap .bytes)) ≡ true
+fresh-serves : any (serves (afterCalls 0 .heap .donor .0) (afterCalls 0 .heap .top .0) (need overhead 16)) (shape (afterCalls 0 .words) (afterCalls 0 .heap .bytes)) ≡ true
 unfolding computes serves
 fresh-serves = refl
 
@@ -68,7 +68,7 @@ pub room-refutes-refusing : Room refusesAlways → ⊥
 room-refutes-refusing promised =
     let s : State = afterCalls 0 in
     let none = promised (s .words) (s .heap) fresh-passes .allocate 16 refl .0 refl in
-    let (e, m, t) = for-some (λ x. itself (serves (tableOf (s .heap)) (s .heap .donor .0) (s .heap .top .0) (need overhead 16) x)) (shape (s .words) (s .heap .bytes)) .0 fresh-serves in
+    let (e, m, t) = for-some (λ x. itself (serves (s .heap .donor .0) (s .heap .top .0) (need overhead 16) x)) (shape (s .words) (s .heap .bytes)) .0 fresh-serves in
     false≢true (sym (none e m) ∙ t)
 
 -- no way that keeps blocks apart grants a block that is live

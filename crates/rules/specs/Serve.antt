@@ -1,5 +1,6 @@
--- The need of a request, the chunks that can serve it, and the one that is chosen (document 01, "The calls": Allocate).
-use mathlib.Core.Bool.{Bool, true, false, not, cond, _&&_}
+-- The need of a request, the chunks that can serve it, and the one that is chosen (document 01, "The calls": Allocate; the donor
+-- serves every need since request Four of document 02).
+use mathlib.Core.Bool.{Bool, true, false, not, cond, _&&_, _||_}
 use mathlib.Core.List.{List, [], _∷_}
 use Prim.Native.Nat.{ℕ, suc, _+_, _*_, _-_, _/_, max}
 use lib.Dec.{eqb, leb}
@@ -29,14 +30,12 @@ mostBytes = 65488
 abbrev pub permitted : ℕ → Bool
 permitted z = leb 1 z && leb z mostBytes
 
--- The chunk e can serve n: ordinary with at least n bytes, the top with at least n + 24, the donor with as many if n is small.
--- Only the entry, the table and the places of donor and top decide it.
-unfoldable pub serves : List ℕ → ℕ → ℕ → ℕ → Entry → Bool
-serves table donor top n e =
+-- The chunk e can serve n: ordinary with at least n bytes, the top or the donor with at least n + 24.
+-- Only the entry and the places of donor and top decide it.
+unfoldable pub serves : ℕ → ℕ → ℕ → Entry → Bool
+serves donor top n e =
     not (inUse e)
-    && cond (eqb (e .place) top) (leb (n + least) (e .size))
-    (cond (eqb (e .place) donor) (leb (n + least) (e .size) && small table n)
-    (leb n (e .size)))
+    && cond (eqb (e .place) top || eqb (e .place) donor) (leb (n + least) (e .size)) (leb n (e .size))
 
 -- the chunk at c as a source; 0 means that the list had none
 abbrev pub fromBin : ℕ → Source
@@ -50,24 +49,27 @@ sizeOn es c = headOr outside (keep (isAt c) es) .size
 abbrev pub firstFit : List Entry → ℕ → List ℕ → Source
 firstFit es n cs = fromBin (headOr 0 (keep (λ c. leb n (sizeOn es c)) cs))
 
--- try 1: first fit in the bin of n
+-- first fit in the bin of n
 abbrev pub ownBin : List Entry → (ℕ → List ℕ) → ℕ → Binned → Source
 ownBin es lists n (Bin i) = firstFit es n (lists i)
 ownBin es lists n NoBin = Nowhere
 
--- try 2: for small n the donor, if it has at least n + 24 bytes
-abbrev pub tryDonor : Heap → List Entry → ℕ → Source
-tryDonor h es n =
-    cond (small (tableOf h) n && not (eqb (h .donor .0) 0) && leb (n + least) (sizeOn es (h .donor .0))) FromDonor Nowhere
-
--- try 3: the first chunk of the next larger bin that has one
+-- the first chunk of the next larger bin that has one
 abbrev pub largerBin : Heap → (ℕ → List ℕ) → Binned → Source
 largerBin h lists (Bin i) = fromBin (headOr 0 (gathered lists (numbersFrom (suc i) (h .bins - suc i))))
 largerBin h lists NoBin = Nowhere
 
--- try 4: the top, if it has at least n + 24 bytes
+-- the donor, if there is one and it has at least n + 24 bytes
+abbrev pub tryDonor : Heap → List Entry → ℕ → Source
+tryDonor h es n = cond (not (eqb (h .donor .0) 0) && leb (n + least) (sizeOn es (h .donor .0))) FromDonor Nowhere
+
+-- the top, if it has at least n + 24 bytes
 abbrev pub tryTop : Heap → List Entry → ℕ → Source
 tryTop h es n = cond (leb (n + least) (sizeOn es (h .top .0))) FromTop Nowhere
+
+-- the order of the four tries: for small n the donor comes before the larger bins, for any other n after the top
+abbrev pub inOrder : Bool → Source → Source → Source → Source → List Source
+inOrder little own larger donor top = own ∷ cond little (donor ∷ larger ∷ top ∷ []) (larger ∷ top ∷ donor ∷ [])
 
 -- the first try that finds something
 abbrev pub firstOf : List Source → Source
@@ -77,11 +79,11 @@ firstOf (FromDonor ∷ ss) = FromDonor
 firstOf (FromTop ∷ ss) = FromTop
 firstOf (Nowhere ∷ ss) = firstOf ss
 
--- the source for n: the four tries in order
+-- the source for n
 unfoldable pub chosen : Heap → List Entry → (ℕ → List ℕ) → ℕ → Source
 chosen h es lists n =
     let own = binOf (tableOf h) n in
-    firstOf (ownBin es lists n own ∷ tryDonor h es n ∷ largerBin h lists own ∷ tryTop h es n ∷ [])
+    firstOf (inOrder (small (tableOf h) n) (ownBin es lists n own) (largerBin h lists own) (tryDonor h es n) (tryTop h es n))
 
 -- no source was found
 abbrev pub nowhere : Source → Bool

@@ -2,6 +2,7 @@
 //! `second`'s answer, record and region after each call. A line is the operation, the number of its arguments and the
 //! arguments, so that an operation may get more arguments later and old scripts stay readable. `#` begins a comment.
 
+mod donors;
 mod patrols;
 
 use crate::case::{self, Stage};
@@ -233,6 +234,7 @@ pub fn stored() -> Script {
     script.demonstration_to(11);
     script.both_sides();
     script.questions();
+    script.donors();
     script.patrols();
     for number in 0..CASES {
         script.name(&format!("case {number}"));

@@ -119,16 +119,18 @@ fn can_serve_from_rest(heap: &Heap, place: u32, need: u32) -> Option<usize> {
     (heap.chain[at].size >= need + LEAST_CHUNK).then_some(at)
 }
 
-/// The chunk that serves `need`: the four tries in their order.
+/// The chunk that serves `need`: the four tries in their order. The donor comes
+/// before the larger bins for a small need, and last for any other.
 fn serving(heap: &Heap, need: u32) -> Option<usize> {
-    let from_donor = || {
-        let open = heap.donor != 0 && table::is_small(&heap.table, need);
-        open.then(|| can_serve_from_rest(heap, heap.donor, need))?
-    };
-    first_fit(heap, need)
-        .or_else(from_donor)
-        .or_else(|| first_larger(heap, need))
-        .or_else(|| can_serve_from_rest(heap, heap.top, need))
+    let from_donor = || (heap.donor != 0).then(|| can_serve_from_rest(heap, heap.donor, need))?;
+    let from_larger = || first_larger(heap, need);
+    let from_top = || can_serve_from_rest(heap, heap.top, need);
+    let own = first_fit(heap, need);
+    if table::is_small(&heap.table, need) {
+        own.or_else(from_donor).or_else(from_larger).or_else(from_top)
+    } else {
+        own.or_else(from_larger).or_else(from_top).or_else(from_donor)
+    }
 }
 
 /// Grants a chunk for `need` and returns its position. The block's words, which
