@@ -1,4 +1,4 @@
--- The fourteen proved cases of the document hold: the checker computes them. Assumes nothing.
+-- The fourteen proved cases of the document hold, and those of the donor: the checker computes them. Assumes nothing.
 use mathlib.Core.Path.{_≡_, refl}
 use mathlib.Core.Bool.{true}
 use Prim.Native.Nat.{ℕ}
@@ -20,7 +20,7 @@ use Rattle.rules.specs.Merge.{setMerge, checked, check}
 use Rattle.rules.specs.Ask.{askChunk, askBin}
 use Rattle.rules.specs.Patrol.{skips, broken, nextOf, mends, patrolRun, patrol}
 use Rattle.rules.specs.Calls.{step, next}
-use Rattle.rules.specs.Cases.{cases, caseHolds}
+use Rattle.rules.specs.Cases.{cases, donorCases, caseHolds}
 
 -- `unfolding computes` opens every definition by which a call's outcome is computed
 unfoldable pub computes : ℕ
@@ -30,3 +30,7 @@ computes = 0
 pub marked-cases : every caseHolds cases ≡ true
 unfolding computes caseHolds
 marked-cases = refl
+
+pub donor-cases : every caseHolds donorCases ≡ true
+unfolding computes caseHolds
+donor-cases = refl

@@ -1,5 +1,5 @@
 -- The fourteen proved cases (document 01, "The demonstration" and "Both sides") as one table:
--- the region, the calls before, the call, and every fact that the document states of it.
+-- the region, the calls before, the call, and every fact that the document states of it. Then cases of our own for the donor.
 use mathlib.Core.Bool.{Bool, true, false, cond, _&&_}
 use mathlib.Core.List.{List, [], _∷_}
 use Prim.Native.Nat.{ℕ, _-_}
@@ -96,6 +96,16 @@ cases =
     ∷ given 10 [] (Setup (24 ∷ 32 ∷ 40 ∷ 128 ∷ []) 0 true)
     (Gives 0 (pos 0) ∷ Record 40 4 0 ∷ Chunk 0 8 Start ∷ Chunk 8 24 Top ∷ Chunk 32 8 End ∷ Chunks 3 ∷ Sound ∷ [])
     ∷ given 64 (opening ∷ []) (Allocate 65489) (Refuses 5 ∷ [])
+    ∷ []
+
+-- The donor for a need that is not small (document 02, request Four), on the demonstration's fresh heap, whose donor has 64 bytes:
+-- it stays whole as long as the top serves; where the top has too little it serves 40 bytes, which leave it 24, and not 48
+abbrev pub donorCases : List Case
+donorCases =
+    given 64 (opening ∷ []) (Allocate 32) (Gives 80 (pos 40) ∷ Chunk 8 64 Donor ∷ Chunk 112 136 Top ∷ Sound ∷ [])
+    ∷ given 64 (opening ∷ Allocate 112 ∷ []) (Allocate 32)
+    (Gives 16 (pos 40) ∷ Chunk 8 40 InUse ∷ Chunk 48 24 Donor ∷ Chunk 192 56 Top ∷ Sound ∷ [])
+    ∷ given 64 (opening ∷ Allocate 112 ∷ []) (Allocate 33) (Refuses 7 ∷ [])
     ∷ []
 
 -- Tests of facts.
