@@ -9,7 +9,7 @@ use native.Mathlib.Decide.{ℕ-discrete}
 use native.Mathlib.Omega.{arith}
 use lib.IntN.{ℤ}
 use borrow.Author.Tests.{ne-eqb, lt-ltb}
-use Rattle.drafts.proofs.SourceLaws.{need-grantable}
+use Rattle.drafts.proofs.SourceLaws.{Grantable, need-grantable}
 use Rattle.record.specs.declared.answers.Answer.{Answer}
 use Rattle.record.specs.declared.answers.Answer.the-variants.{Done, Granted, Returned}
 use Rattle.record.specs.declared.heap.Heap.{Heap}
@@ -74,21 +74,20 @@ module _ {ws : List ℕ} {h : Heap} (p : Passes ws h) {block : Block} {change : 
     taken : Failed (allocateRefusals (heapFails ws h) (asRead ws h) z) × (allocateWith fill ws h z ≡ made-of)
     taken = accepted h made-of (allocateRefusals (heapFails ws h) (asRead ws h) z) q
 
-    block-is : blockOf (grant n (asRead ws h) .granted) ≡ block .0
+    pub grantable : Grantable ws h n
+    grantable = let (_, (_, (some, _))) = taken .0 in need-grantable z p some
+
+    pub block-is : blockOf (grant n (asRead ws h) .granted) ≡ block .0
     block-is = granted-block 0 (grant n (asRead ws h) .granted) (sym (ap (λ (o : Outcome). o .answer) (taken .1)) ∙ q)
 
     with-apart : NewApart ws h n (block .0) (leftBy ws (allocateWith fill ws h z))
     with-apart =
-        let ((_, (_, (some, _))), made-is) = taken in
-        rw (made-is, ← block-is)
-        (new-apart (need-grantable z p some) (fill (grant n (asRead ws h) .granted)) (within _) (made-of .answer))
+        rw (taken .1, ← block-is) (new-apart grantable (fill (grant n (asRead ws h) .granted)) (within _) (made-of .answer))
 
   -- a cleared block
   cleared-clear : (z : ℕ) → allocateWith cleared ws h z .answer ≡ Granted block change → Clear (block .0) (leftBy ws (allocateWith cleared ws h z))
   cleared-clear z q =
-      let ((_, (_, (some, _))), made-is) = taken cleared cleared-within z q in
-      rw (made-is, ← block-is cleared cleared-within z q)
-      (new-clear (need-grantable z p some))
+      rw (taken cleared cleared-within z q .1, ← block-is cleared cleared-within z q) (new-clear (grantable cleared cleared-within z q))
 
 -- the live block at b, whose chunk is e
 module _ {ws : List ℕ} {h : Heap} (p : Passes ws h) {b : ℕ} {e : Entry} (k : HoldsBlock ws h b e) where
@@ -149,7 +148,7 @@ module _ {ws : List ℕ} {h : Heap} (p : Passes ws h) {b : ℕ} {e : Entry} (k :
       outgrown : old .size < wanted
       outgrown = rw old-is less
 
-      moving : Moving ws h wanted old
+      pub moving : Moving ws h wanted old
       moving =
           let (_, (_, (_, (room, _)))) = resize-taken .0 in
           block-moves p b is-live z (rw (lt-ltb (old .size) wanted outgrown) at room) outgrown
@@ -160,6 +159,9 @@ module _ {ws : List ℕ} {h : Heap} (p : Passes ws h) {b : ℕ} {e : Entry} (k :
       moved-is : result ≡ moves
       unfolding resized
       moved-is = rw (lt-ltb (old .size) wanted outgrown) refl
+
+      pub moved-block : blockOf (moves .granted) ≡ block .0
+      moved-block = ap (λ (x : Grant). blockOf (x .granted)) (sym moved-is) ∙ resized-block
 
       moved-left : leftBy ws (made (grants (old .size) (moves .granted)) (moves .draft)) ≡ left
       moved-left = sym (resized-left ∙ ap (λ (x : Grant). leftBy ws (made (grants (old .size) (x .granted)) (x .draft))) moved-is)
@@ -173,7 +175,7 @@ module _ {ws : List ℕ} {h : Heap} (p : Passes ws h) {b : ℕ} {e : Entry} (k :
           let to : ℕ = blockOf (moves .granted) in
           let r : Moved to (blockOf old) old (leftBy ws (made (grants (old .size) (moves .granted)) (moves .draft))) =
           moved-apart moving (grants (old .size) (moves .granted)) in
-          subst (λ (d : ℕ). Moved d b e left) (ap (λ (x : Grant). blockOf (x .granted)) (sym moved-is) ∙ resized-block)
+          subst (λ (d : ℕ). Moved d b e left) moved-block
           (subst (λ (x : Entry). Moved to b x left) old-is
           (subst (λ (c : ℕ). Moved to c old left) (old-holds .block)
           (subst (λ (y : Left). Moved to (blockOf old) old y) moved-left r)))

@@ -19,6 +19,7 @@ pub mod KeptLaws
 pub mod ApartLaws
 pub mod NeverNineLaws
 pub mod RunsLaws
+pub mod ChoiceLaws
 pub mod PatrolLaws
 pub mod FullPatrolLaws
 pub mod RoundsLaws
@@ -30,4 +31,5 @@ pub mod MendedLaws
 pub mod WrongLaws
 pub mod WrongPatrolLaws
 pub mod WrongToldLaws
+pub mod WrongChoiceLaws
 pub mod SignLaws

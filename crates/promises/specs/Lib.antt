@@ -1,5 +1,6 @@
 pub mod Ways
 pub mod Room
+pub mod Choice
 pub mod Counting
 pub mod Telling
 pub mod Zero

@@ -1,22 +1,27 @@
--- Wrong programs (document 01, "How far each statement reaches"; document 02, requests One and Two): twelve ways of answering that the
+-- Wrong programs (document 01, "How far each statement reaches"; document 02, requests One, Two and Four): fifteen ways of answering that the
 -- promises must rule out. Each answers one call, or the questions, wrongly and the other calls by the rules.
-use mathlib.Core.Bool.{Bool, true, false, cond}
-use mathlib.Core.List.{List}
+use mathlib.Core.Bool.{Bool, true, false, not, cond}
+use mathlib.Core.List.{List, [], _∷_}
 use mathlib.Core.Option.{Option, some, none}
 use Prim.Native.Nat.{ℕ, _-_}
 use lib.Dec.{eqb}
 use lib.IntN.{pos}
 use Rattle.record.specs.declared.answers.Answer.{Answer}
 use Rattle.record.specs.declared.answers.Answer.the-variants.{Done, Granted, Returned, Told, ToldNone, Counted, Refused}
-use Rattle.record.specs.declared.answers.Refusal.the-variants.{NoRoom}
+use Rattle.record.specs.declared.answers.Refusal.the-variants.{BlockSize, NoRoom}
 use Rattle.record.specs.declared.heap.Heap.{Heap}
+use Rattle.record.specs.declared.sources.Source.{Source}
+use Rattle.record.specs.Heap.{tableOf}
+use Rattle.record.specs.Table.{small, binOf}
 use Rattle.region.specs.declared.Block.{Block}
 use Rattle.region.specs.Words.{word, store, forward, size}
 use Rattle.rules.specs.Shape.{shape}
 use Rattle.rules.specs.Kinds.{overhead}
 use Rattle.rules.specs.Check.{countsOf}
-use Rattle.rules.specs.Serve.{need}
-use Rattle.rules.specs.Outcome.{unchanged}
+use Rattle.rules.specs.Draft.{Draft, asRead}
+use Rattle.rules.specs.Serve.{need, permitted, ownBin, largerBin, tryDonor, tryTop, inOrder, firstOf, nowhere}
+use Rattle.rules.specs.Cut.{grantFrom}
+use Rattle.rules.specs.Outcome.{judged, heapFails, unchanged, made, grants}
 use Rattle.rules.specs.Statements.{Left, leftBy}
 use Rattle.rules.specs.Calls.{Setup, Allocate, AllocateCleared, Free, Reallocate, SetMerge, Check, AskChunk, AskBin, Patrol}
 use Rattle.promises.specs.Ways.{Way, ours}
@@ -179,3 +184,42 @@ noneForZero = butTold noneIfZero
 -- 12: 0 is told, whatever the question
 abbrev pub alwaysZero : Way
 alwaysZero = butTold (λ v. Told 0)
+
+-- allocate with the tries in another order, or with fewer of them: `order` is told whether the need is small, and what the own bin, the larger
+-- bins, the donor and the top have. It is refused for lack of room where these tries find nothing
+abbrev pub Ordering : Type 0
+Ordering = Bool → Source → Source → Source → Source → List Source
+
+abbrev tried : Ordering → ℕ → Draft → Source
+tried order n d =
+    let h = d .heap in
+    let own = binOf (tableOf h) n in
+    firstOf
+    (order (small (tableOf h) n) (ownBin (d .chain) (d .lists) n own) (largerBin h (d .lists) own) (tryDonor h (d .chain) n)
+    (tryTop h (d .chain) n))
+
+abbrev pub butOrder : Ordering → Way
+butOrder order =
+    butAllocate
+    (λ z ws h.
+    let before = asRead ws h in
+    let n = need overhead z in
+    let source = tried order n before in
+    let g = grantFrom source n before in
+    leftBy ws
+    (judged h (heapFails ws h ∷ (not (permitted z), BlockSize) ∷ (nowhere source, NoRoom) ∷ []) (made (grants 0 (g .granted)) (g .draft))))
+
+-- 13: for a need that is not small the donor is tried before the top
+abbrev pub donorBeforeTop : Way
+donorBeforeTop =
+    butOrder (λ little own larger donor top. cond little (inOrder little own larger donor top) (own ∷ larger ∷ donor ∷ top ∷ []))
+
+-- 14: for a small need the larger bins are tried before the donor
+abbrev pub largerBeforeDonor : Way
+largerBeforeDonor =
+    butOrder (λ little own larger donor top. cond little (own ∷ larger ∷ donor ∷ top ∷ []) (inOrder little own larger donor top))
+
+-- 15: a need that is not small never comes from the donor, as document 01 had it
+abbrev pub donorForSmall : Way
+donorForSmall =
+    butOrder (λ little own larger donor top. cond little (inOrder little own larger donor top) (own ∷ larger ∷ top ∷ []))

@@ -1,0 +1,221 @@
+-- The rules keep the promise `Choice` (`choice`): a block is granted from a chunk of the lowest rank that can serve. What that says of the donor:
+-- `donor-last`, `larger-after-donor`. In each state of every run: `choice-through`. Assumes nothing.
+use mathlib.Core.Path.{_≡_, refl, sym, ap, subst, _∙_}
+use mathlib.Core.Logic.{_⊎_, inl, inr}
+use mathlib.Core.Bool.{Bool, true, false, not, cond, _&&_, false≢true}
+use mathlib.Core.List.{List}
+use Prim.Native.Nat.{ℕ, suc, _+_, _*_, _-_, _≤_}
+use native.Mathlib.Decide.{ℕ-discrete}
+use native.Mathlib.Omega.{arith}
+use lib.Dec.{eqb, leb}
+use lib.ListN.{length-take}
+use lib.IntN.{ℤ}
+use borrow.Author.Tests.{eq-eqb}
+use Rattle.books.proofs.HeapBooks.{member-entry}
+use Rattle.drafts.proofs.FillLaws.{Within}
+use Rattle.drafts.proofs.GrantKept.{sourceChunk, can, theGrant}
+use Rattle.drafts.proofs.SourceLaws.{CanGrant, Fails, Good, Grantable, in-order-good, from-bin-good, if-good}
+use Rattle.lists.specs.Lists.{Mem, keep, numbersFrom, gathered}
+use Rattle.lists.proofs.ListsLaws.{number-is, itself, not-so}
+use Rattle.lists.proofs.MembersLaws.{kept-from}
+use Rattle.record.specs.declared.answers.Answer.the-variants.{Granted}
+use Rattle.record.specs.declared.heap.Heap.{Heap}
+use Rattle.record.specs.declared.kinds.Kind.{Kind}
+use Rattle.record.specs.declared.kinds.Kind.the-variants.{Start, InUse, Ordinary, Donor, Top, End}
+use Rattle.record.specs.declared.sources.Source.{Source}
+use Rattle.record.specs.declared.sources.Source.the-variants.{FromDonor, FromTop}
+use Rattle.record.specs.declared.table.Binned.{Binned}
+use Rattle.record.specs.declared.table.Binned.the-variants.{Bin, NoBin}
+use Rattle.record.specs.Heap.{tableOf}
+use Rattle.record.specs.Table.{small, binOf}
+use Rattle.record.proofs.TableLaws.{bin-from}
+use Rattle.region.specs.declared.Block.{Block}
+use Rattle.region.specs.Words.{Store}
+use Rattle.rules.specs.Shape.{Entry, shape, binList, chunkEnd}
+use Rattle.rules.specs.Kinds.{kindOf, overhead, blockOf}
+use Rattle.rules.specs.Check.{Passes}
+use Rattle.rules.specs.Draft.{asRead}
+use Rattle.rules.specs.Serve.{need, sizeOn, ownBin, largerBin, chosen}
+use Rattle.rules.specs.Allocate.{sourceOf, asFound, cleared, allocateWith, allocate, allocateCleared}
+use Rattle.rules.specs.Reallocate.{reallocate}
+use Rattle.rules.specs.Calls.{step}
+use Rattle.rules.proofs.SpotLaws.{chunks-apart, one-chunk}
+use Rattle.promises.specs.Ways.{ours}
+use Rattle.promises.specs.Room.{OnChain}
+use Rattle.promises.specs.Runs.{ThroughRuns}
+use Rattle.promises.specs.Choice.{LiesIn, sameBin, inOwnBin, rankAs, rank, LowestRank, ChoiceAt, Choice, DonorLast, LargerAfterDonor}
+use Rattle.promises.proofs.ServeLaws as serve
+use Rattle.promises.proofs.GrantedLaws.{cut-from, cleared-within}
+use Rattle.promises.proofs.ApartLaws.{grantable, block-is, moving, moved-block}
+use Rattle.promises.proofs.KeptLaws.{kept}
+use Rattle.promises.proofs.RunsLaws.{through}
+
+-- one bin for both sizes
+same-bin : (a b : Binned) → sameBin a b ≡ true → a ≡ b
+same-bin (Bin i) (Bin j) q = ap Bin (number-is i j .0 q)
+same-bin (Bin i) NoBin q = absurd (false≢true q)
+same-bin NoBin b q = absurd (false≢true q)
+
+-- of two alternatives the second, if the first does not hold
+unless : {P : Type 0} {r k : ℕ} → P ⊎ (r ≤ k) → (P → ⊥) → r ≤ k
+unless (inl f) never = absurd (never f)
+unless (inr l) never = l
+
+module _ (ws : List ℕ) (h : Heap) (p : Passes ws h) (n : ℕ) (large : 24 ≤ n) where
+  abbrev es : List Entry
+  es = shape ws (h .bytes)
+
+  abbrev little : Bool
+  little = small (tableOf h) n
+
+  -- the four tries
+  abbrev own : Source
+  own = serve.own ws h p n
+
+  abbrev larger : Source
+  larger = serve.larger ws h p n
+
+  abbrev donor : Source
+  donor = serve.donor ws h p n
+
+  abbrev top : Source
+  top = serve.top ws h p n
+
+  -- the bin of n
+  own-bin : (e : Entry) → binOf (tableOf h) (e .size) ≡ binOf (tableOf h) n → inOwnBin h n e ≡ true
+  own-bin e q = let (i, is, takes) = bin-from (tableOf h) (p .table .valid) n large in rw (q, is) (eq-eqb i i refl)
+
+  -- every chunk that can serve has at least rank r
+  abbrev AtLeast : ℕ → Type 0
+  AtLeast r = (e : Entry) → Mem e es → serve.can ws h p n e ≡ true → r ≤ rank h n e
+
+  -- so it is if every try of a lower rank fails
+  at-least : (r : ℕ) → Fails own ⊎ (r ≤ 0) → Fails larger ⊎ (r ≤ 2) → Fails donor ⊎ (r ≤ cond little 1 4) → Fails top ⊎ (r ≤ 3) → AtLeast r
+  at-least r o l d t e m c = go (kindOf h e) refl (serve.serves-iff ws h p n e m .0 c)
+    where
+      ordinary : kindOf h e ≡ Ordinary → (b : Bool) → inOwnBin h n e ≡ b → r ≤ cond b 0 2
+      ordinary q true s = unless o (λ f. serve.own-fails ws h p n e m c f q (same-bin _ _ s))
+      ordinary q false s = unless l (λ f. serve.larger-fails ws h p n e m c large f q (λ b. false≢true (sym s ∙ own-bin e b)))
+
+      go : (k : Kind) → kindOf h e ≡ k → serve.Enough n (e .size) k → r ≤ rankAs (inOwnBin h n e) little k
+      go Ordinary q s = ordinary q (inOwnBin h n e) refl
+      go Donor q s = unless d (λ f. serve.donor-fails ws h p n e m c f q)
+      go Top q s = unless t (λ f. serve.top-fails ws h p n e m c f q)
+      go Start q s = absurd s
+      go InUse q s = absurd s
+      go End q s = absurd s
+
+  -- the chunk of the source s has the lowest rank
+  abbrev Lowest : Source → Type 0
+  Lowest s = (from : Entry) → CanGrant ws h n s from → AtLeast (rank h n from)
+
+  own-lowest : Good Lowest own
+  own-lowest =
+      let (i, is, takes) = bin-from (tableOf h) (p .table .valid) n large in
+      subst (λ (b : Binned). Good Lowest (ownBin es (binList ws h) n b)) (sym is)
+      (from-bin-good Lowest (keep (λ c. leb n (sizeOn es c)) (binList ws h i))
+      (λ c m from k.
+      let member = kept-from (λ c. leb n (sizeOn es c)) (binList ws h i) m .0 in
+      let (x, r) = member-entry ws h p i c (omega (arith, takes .inside, length-take (h .bins) (h .sizes))) member in
+      let q = one-chunk ws h p from x (k .member) (r .member) (k .place ∙ sym (r .place)) in
+      rw (k .kind, own-bin from (ap (λ (y : Entry). binOf (tableOf h) (y .size)) q ∙ r .takes ∙ sym is))
+      (at-least 0 (inr (omega arith)) (inr (omega arith)) (inr (omega arith)) (inr (omega arith)))))
+
+  larger-lowest : Fails own → (little ≡ true → Fails donor) → Good Lowest larger
+  larger-lowest o d =
+      let (i, is, takes) = bin-from (tableOf h) (p .table .valid) n large in
+      subst (λ (b : Binned). Good Lowest (largerBin h (binList ws h) b)) (sym is)
+      (from-bin-good Lowest (gathered (binList ws h) (numbersFrom (suc i) (h .bins - suc i)))
+      (λ c m from k. rw (k .kind) (go (inOwnBin h n from))))
+    where
+      without : (b : Bool) → little ≡ b → Fails donor ⊎ (2 ≤ cond b 1 4)
+      without true q = inl (d q)
+      without false q = inr (omega arith)
+
+      go : (b : Bool) → AtLeast (cond b 0 2)
+      go true = at-least 0 (inr (omega arith)) (inr (omega arith)) (inr (omega arith)) (inr (omega arith))
+      go false = at-least 2 (inl o) (inr (omega arith)) (without little refl) (inr (omega arith))
+
+  donor-lowest : Fails own → (little ≡ false → Fails larger × Fails top) → Good Lowest donor
+  donor-lowest o others =
+      if-good Lowest FromDonor (not (eqb (h .donor .0) 0) && leb (n + 24) (sizeOn es (h .donor .0))) (λ t from k. rw (k .kind) (go little refl))
+    where
+      go : (b : Bool) → little ≡ b → AtLeast (cond b 1 4)
+      go true q = at-least 1 (inl o) (inr (omega arith)) (inr (rw q (omega arith))) (inr (omega arith))
+      go false q = let (l, t) = others q in at-least 4 (inl o) (inl l) (inr (rw q (omega arith))) (inl t)
+
+  top-lowest : Fails own → Fails larger → (little ≡ true → Fails donor) → Good Lowest top
+  top-lowest o l d =
+      if-good Lowest FromTop (leb (n + 24) (sizeOn es (h .top .0)))
+      (λ t from k. rw (k .kind) (at-least 3 (inl o) (inl l) (without little refl) (inr (omega arith))))
+    where
+      without : (b : Bool) → little ≡ b → Fails donor ⊎ (3 ≤ cond b 1 4)
+      without true q = inl (d q)
+      without false q = inr (omega arith)
+
+  -- the chosen one has it
+  chosen-lowest : Good Lowest (sourceOf n (asRead ws h))
+  unfolding asRead chosen
+  chosen-lowest = in-order-good Lowest little own larger donor top own-lowest larger-lowest donor-lowest top-lowest
+
+-- n bytes are granted
+module _ {ws : List ℕ} {h : Heap} {n : ℕ} (room : Grantable ws h n) where
+  abbrev block : ℕ
+  block = blockOf (theGrant room .granted)
+
+  -- no chunk but the source has the block
+  lies-in-source : (from : Entry) → OnChain ws h from → LiesIn block from → from ≡ sourceChunk room
+  lies-in-source from m lies = go (ℕ-discrete (from .place) (sourceChunk room .place))
+    where
+      apart : (chunkEnd from ≤ sourceChunk room .place) ⊎ (chunkEnd (sourceChunk room) ≤ from .place) → ⊥
+      apart (inl l) = let c = cut-from room in omega (arith, c .starts)
+      apart (inr l) = let c = cut-from room in omega (arith, c .ends, c .enough, room .large)
+
+      go : Dec (from .place ≡ sourceChunk room .place) → from ≡ sourceChunk room
+      go (yes q) = one-chunk ws h (room .well) from (sourceChunk room) m (can room .member) q
+      go (no d) = absurd (apart (chunks-apart ws h (room .well) from (sourceChunk room) m (can room .member) d))
+
+  granted-lowest : LowestRank ws h n block
+  granted-lowest from e m lies me c =
+      rw (lies-in-source from m lies) (chosen-lowest ws h (room .well) n (room .large) (room .some) (sourceChunk room) (can room) e me c)
+
+-- a new block; `fill` is written into it
+module _ {ws : List ℕ} {h : Heap} (p : Passes ws h) {block : Block} {change : ℤ} (fill : Entry → List Store) (within : (e : Entry) → Within e (fill e)) where
+  new-lowest : (z : ℕ) → allocateWith fill ws h z .answer ≡ Granted block change → LowestRank ws h (need overhead z) (block .0)
+  new-lowest z q = subst (LowestRank ws h (need overhead z)) (block-is p fill within z q) (granted-lowest (grantable p fill within z q))
+
+pub choice : Choice ours
+unfolding ours step allocate allocateCleared reallocate
+choice ws h p =
+    record {
+      allocate = λ z block change q. new-lowest p asFound (λ e. tt) z q;
+      cleared = λ count size block change q. new-lowest p cleared cleared-within (count * size) q;
+      noBlock = λ z block change q. new-lowest p asFound (λ e. tt) z q;
+      moved = λ b z block change e k less q.
+          subst (LowestRank ws h (need overhead z)) (moved-block p k z q less) (granted-lowest (moving p k z q less .room));
+    }
+
+-- it holds in each state of every run
+pub choice-through : ThroughRuns ours (λ s. ChoiceAt ours (s .words) (s .heap))
+choice-through = through ours kept _ (λ s p. choice (s .words) (s .heap) p)
+
+-- what follows for the donor
+module _ (ws : List ℕ) (h : Heap) (n b : ℕ) (lowest : LowestRank ws h n b) where
+  pub donor-last : DonorLast ws h n b
+  donor-last large from m is lies e me others = not-so (itself _) (λ c. go others (rw (is, large) at (lowest from e m lies me c)))
+    where
+      ordinary : (o : Bool) → 4 ≤ cond o 0 2 → ⊥
+      ordinary true l = omega arith
+      ordinary false l = omega arith
+
+      go : (kindOf h e ≡ Ordinary) ⊎ (kindOf h e ≡ Top) → 4 ≤ rankAs (inOwnBin h n e) false (kindOf h e) → ⊥
+      go (inl q) l = ordinary (inOwnBin h n e) (rw q at l)
+      go (inr q) l = let k : 4 ≤ 3 = rw q at l in omega arith
+
+  pub larger-after-donor : LargerAfterDonor ws h n b
+  larger-after-donor little from m is other lies e me others =
+      not-so (itself _) (λ c. go others (rw (is, other) at (lowest from e m lies me c)))
+    where
+      go : ((kindOf h e ≡ Ordinary) × (inOwnBin h n e ≡ true)) ⊎ (kindOf h e ≡ Donor) → 2 ≤ rank h n e → ⊥
+      go (inl (q, o)) l = let k : 2 ≤ 0 = rw (q, o) at l in omega arith
+      go (inr q) l = let k : 2 ≤ 1 = rw (q, little) at l in omega arith
