@@ -1,11 +1,11 @@
 //! The cases reach what they must: every call accepted and refused with every number that it can give, every question
-//! with none, 0 and more where it can tell that, every m, both ways of finding a bin, long chains, damage that the check
-//! refuses, every turn of the patrol's rule, and joinings that swallow its place.
+//! with none, 0 and more where it can tell that, every m, both ways of finding a bin, every source of a small and of a large
+//! need, long chains, damage that the check refuses, every turn of the patrol's rule, and joinings that swallow its place.
 
 use compare::case::{self, Stage};
 use compare::judge::{Link, Walk, Words};
 use compare::side::{Action, Side};
-use compare::view::{heap_bytes, index, BACKWARD, IN_USE, SIZE};
+use compare::view::{heap_bytes, index, View, BACKWARD, IN_USE, SIZE};
 use kruzhvela::flat::{
     Answer, Record, ANSWER_NONE, ANSWER_OFFSET, ANSWER_REFUSAL, ANSWER_VALUE, BINS, BYTES, CHECK_CHUNKS, PATROL, SIZES,
 };
@@ -25,6 +25,8 @@ struct Tally {
     setups: BTreeMap<usize, u64>,
     /// Counts of needs by the way to their bin.
     ways: BTreeMap<Way, u64>,
+    /// Counts of new blocks by the call's name, the need's sort and the source.
+    sources: BTreeMap<(&'static str, Need, Source), u64>,
     most_chunks: u32,
     /// Counts of the turns of patrols, and of swallowed places by the call that joined.
     turns: BTreeMap<&'static str, u64>,
@@ -35,6 +37,23 @@ struct Tally {
 enum Way {
     Division,
     Halving(u32),
+}
+
+/// A need by the table: small; or large, where no need is small (m is 0) and where some are.
+#[derive(Clone, Copy, Debug, PartialEq, Eq, PartialOrd, Ord)]
+enum Need {
+    Small,
+    Large,
+    LargeOfNoSmall,
+}
+
+/// Where a new block comes from.
+#[derive(Clone, Copy, Debug, PartialEq, Eq, PartialOrd, Ord)]
+enum Source {
+    OwnBin,
+    LargerBin,
+    Donor,
+    Top,
 }
 
 /// What a question tells.
@@ -74,13 +93,54 @@ fn small_bins(record: &Record) -> usize {
     (0..bins).take_while(|&i| record[SIZES + i] == LEAST_CHUNK + ALIGNMENT * i as u32).last().unwrap_or(0)
 }
 
+/// What a block of so many bytes needs.
+fn need(bytes: u32) -> u32 {
+    (bytes + HEADER_BYTES).next_multiple_of(ALIGNMENT).max(LEAST_CHUNK)
+}
+
+fn is_small(record: &Record, need: u32) -> bool {
+    need < LEAST_CHUNK + ALIGNMENT * small_bins(record) as u32
+}
+
 /// The way to the bin of what a block of so many bytes needs.
 fn way(record: &Record, bytes: u32) -> Way {
-    let need = (bytes + HEADER_BYTES).next_multiple_of(ALIGNMENT).max(LEAST_CHUNK);
-    if need < LEAST_CHUNK + ALIGNMENT * small_bins(record) as u32 {
+    if is_small(record, need(bytes)) {
         Way::Division
     } else {
         Way::Halving(record[BINS].next_power_of_two().ilog2())
+    }
+}
+
+fn sort(record: &Record, need: u32) -> Need {
+    match small_bins(record) {
+        _ if is_small(record, need) => Need::Small,
+        0 => Need::LargeOfNoSmall,
+        _ => Need::Large,
+    }
+}
+
+/// The last bin whose size is not above this one.
+fn bin(record: &Record, size: u32) -> usize {
+    record[SIZES..][..record[BINS] as usize].partition_point(|&least| least <= size)
+}
+
+/// The source of a new block: the lowest bytes of a chunk are granted, so it starts where the chunk did.
+fn source(before: &View, record: &Record, need: u32, block: u32) -> Source {
+    match block - HEADER_BYTES {
+        place if place == before.donor => Source::Donor,
+        place if place == before.top => Source::Top,
+        place if bin(record, before.size_at(place)) == bin(record, need) => Source::OwnBin,
+        _ => Source::LargerBin,
+    }
+}
+
+/// The bytes that an accepted call asked for, if it granted a new block.
+fn bytes_of_new(call: &Call, answer: Answer) -> Option<u32> {
+    match *call {
+        Call::Allocate { z } => Some(z),
+        Call::AllocateCleared { count, size } => Some(count * size),
+        Call::Reallocate { block, z } => (block != answer[ANSWER_OFFSET]).then_some(z),
+        _ => None,
     }
 }
 
@@ -189,6 +249,7 @@ impl Tally {
             told: BTreeMap::new(),
             setups: BTreeMap::new(),
             ways: BTreeMap::new(),
+            sources: BTreeMap::new(),
             most_chunks: 0,
             turns: BTreeMap::new(),
         }
@@ -212,6 +273,15 @@ impl Tally {
         }
     }
 
+    /// `before`: the heap before the call.
+    fn count_source(&mut self, before: &View, call: &Call, answer: Answer) {
+        if let (0, Some(bytes)) = (answer[ANSWER_REFUSAL], bytes_of_new(call, answer)) {
+            let (record, need) = (&self.side.record, need(bytes));
+            let source = source(before, record, need, answer[ANSWER_OFFSET]);
+            *self.sources.entry((name(call), sort(record, need), source)).or_default() += 1;
+        }
+    }
+
     fn count_turns(&mut self, turns: impl IntoIterator<Item = &'static str>) {
         for turn in turns {
             *self.turns.entry(turn).or_default() += 1;
@@ -225,9 +295,11 @@ impl Stage for Tally {
             self.count_turns(patrol_turns(&self.side, chunks));
         }
         let place = self.side.record[PATROL];
+        let before = case::view(self);
         let answer = self.side.play(&action);
         if let (Action::Call(call), Some(answer)) = (action, answer) {
             self.count_answer(&call, answer);
+            self.count_source(&before, &call, answer);
             if place != self.side.record[PATROL] {
                 self.count_turns(swallow_turn(&call, answer));
             }
@@ -253,6 +325,9 @@ const NUMBERS: [(&str, &[u32]); 10] = [
     ("ask_bin", &[0, 4, 8]),
     ("patrol", &[0, 4, 10, 12]),
 ];
+
+/// The sources of each sort of need.
+const SOURCES: [Source; 4] = [Source::OwnBin, Source::LargerBin, Source::Donor, Source::Top];
 
 /// All that each question can tell, by the call and the question's number. For instance, the chunk of a live block is
 /// never at 0, and a size is never none.
@@ -333,6 +408,15 @@ fn the_cases_reach_every_answer() {
         assert!(times > 50, "{way:?}: only {times} times");
     }
     assert!(tally.ways.is_empty(), "a table is halved five times at most: {:?}", tally.ways);
+    println!("{:#?}", tally.sources);
+    for name in ["allocate", "allocate_cleared", "reallocate"] {
+        for sort in [Need::Small, Need::Large, Need::LargeOfNoSmall] {
+            for source in SOURCES {
+                let times = tally.sources.remove(&(name, sort, source)).unwrap_or(0);
+                assert!(times > 30, "{name}, {sort:?}, {source:?}: only {times} times");
+            }
+        }
+    }
     assert!(tally.most_chunks > 1_500, "the longest chain has {} chunks", tally.most_chunks);
     println!("{:#?}", tally.turns);
     for turn in TURNS {
