@@ -25,7 +25,7 @@ pub const KINDS: [(Kind, &str); 3] = [
 
 pub const LIVE: [usize; 3] = [20, 200, 2_000];
 
-const BINS: [u32; 12] = [24, 32, 40, 48, 56, 64, 104, 168, 248, 488, 968, 1_928];
+pub const BINS: [u32; 12] = [24, 32, 40, 48, 56, 64, 104, 168, 248, 488, 968, 1_928];
 
 /// Nanoseconds of a step of the load, and of its parts.
 pub struct Row {

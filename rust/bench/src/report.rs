@@ -6,6 +6,7 @@ use crate::checks::{self, CHUNKS, FILLS};
 use crate::clock::ROUNDS;
 use crate::instructions::{self, Cost};
 use crate::patrols::{self, Way, WAYS};
+use crate::room;
 use std::fmt::Write;
 use std::process::Command;
 
@@ -14,9 +15,10 @@ pub const INSTRUCTIONS: &str = "## The instructions of a check, relative to a wa
 pub const PATROL: &str = "## The patrol, relative to the same loop by hand";
 pub const CALLS: &str = "## The calls, relative to other allocators";
 pub const BINS: &str = "## A step outside the check, by the number of bins";
+pub const ROOM: &str = "## How often there is no room";
 
 const METHOD: &str = "\
-`cd rust && cargo run --release -p bench` (after `bash tools/archive`) writes this page, and with the word `check`, `instructions`, `patrol`, `calls` or `bins` that part of it. Each ratio is to a peer measured in the same run. \
+`cd rust && cargo run --release -p bench` (after `bash tools/archive`) writes this page, and with the word `check`, `instructions`, `patrol`, `calls`, `bins` or `room` that part of it. Each ratio is to a peer measured in the same run. \
 Times are medians of interleaved runs: a round runs every work once, and a first round, which warms the caches, is not counted. \
 The heap, the record and the peers' arenas stay in the processor's first two caches. The proved heap is called through `kruzhvela::flat`, the functions of C: \
 each call but the check and the patrol unpacks the record from its `KZ_RECORD_WORDS` words and, the questions apart, packs it again.
@@ -185,6 +187,21 @@ pub fn bins(rows: &[bins::Row]) -> String {
     for row in rows {
         let instructions = row.instructions.map_or("not counted".into(), |count| format!("{count:.0}"));
         let _ = writeln!(text, "| {} | {instructions} | {:.0} ns | {:.1} |", row.bins, row.time, row.time / row.glibc);
+    }
+    text
+}
+
+/// The requests refused for lack of room, for each load and donor.
+pub fn room(rows: &[room::Row]) -> String {
+    let mut text = String::from(
+        "The loads in heaps with a tenth more bytes than so many strips of the mean size need, without a donor and with one of an eighth or a quarter of the heap. \
+         A strip that is refused stays away until its slot's next turn (reallocate: it keeps its size). The counts are the same in every run.\n\n\
+         | Load | live | heap bytes | requests | refused with 7, no donor | donor of an eighth | donor of a quarter |\n|---|---|---|---|---|---|---|\n",
+    );
+    for row in rows {
+        let name = room::KINDS.iter().find(|(kind, _)| *kind == row.kind).map_or("", |(_, name)| name);
+        let refused = row.refused.map(|count| count.to_string()).join(" | ");
+        let _ = writeln!(text, "| {name} | {} | {} | {} | {refused} |", row.live, row.bytes, row.requests);
     }
     text
 }
