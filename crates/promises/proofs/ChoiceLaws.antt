@@ -1,5 +1,5 @@
--- The rules keep the promise `Choice` (`choice`): a block is granted from a chunk of the lowest rank that can serve. What that says of the donor:
--- `donor-last`, `larger-after-donor`. In each state of every run: `choice-through`. Assumes nothing.
+-- The rules keep the promise `Choice` (`choice`): a block is granted from a chunk of the lowest rank that can serve; for any way, what that says
+-- of the donor follows (`donor-last`, `donor-before-larger`). It holds in each state of every run (`choice-through`). Assumes nothing.
 use mathlib.Core.Path.{_≡_, refl, sym, ap, subst, _∙_}
 use mathlib.Core.Logic.{_⊎_, inl, inr}
 use mathlib.Core.Bool.{Bool, true, false, not, cond, _&&_, false≢true}
@@ -43,7 +43,7 @@ use Rattle.rules.proofs.SpotLaws.{chunks-apart, one-chunk}
 use Rattle.promises.specs.Ways.{ours}
 use Rattle.promises.specs.Room.{OnChain}
 use Rattle.promises.specs.Runs.{ThroughRuns}
-use Rattle.promises.specs.Choice.{LiesIn, sameBin, inOwnBin, rankAs, rank, LowestRank, ChoiceAt, Choice, DonorLast, LargerAfterDonor}
+use Rattle.promises.specs.Choice.{LiesIn, sameBin, inOwnBin, rankAs, rank, LowestRank, DonorLast, DonorBeforeLarger, InTurn, ChoiceAt, Choice}
 use Rattle.promises.proofs.ServeLaws as serve
 use Rattle.promises.proofs.GrantedLaws.{cut-from, cleared-within}
 use Rattle.promises.proofs.ApartLaws.{grantable, block-is, moving, moved-block}
@@ -81,7 +81,7 @@ module _ (ws : List ℕ) (h : Heap) (p : Passes ws h) (n : ℕ) (large : 24 ≤ 
   abbrev top : Source
   top = serve.top ws h p n
 
-  -- the bin of n
+  -- a chunk of the same bin as n is found to be so
   own-bin : (e : Entry) → binOf (tableOf h) (e .size) ≡ binOf (tableOf h) n → inOwnBin h n e ≡ true
   own-bin e q = let (i, is, takes) = bin-from (tableOf h) (p .table .valid) n large in rw (q, is) (eq-eqb i i refl)
 
@@ -105,6 +105,14 @@ module _ (ws : List ℕ) (h : Heap) (p : Passes ws h) (n : ℕ) (large : 24 ≤ 
       go InUse q s = absurd s
       go End q s = absurd s
 
+  -- the donor fails if the need is small, and else has rank 4
+  donor-later : (r : ℕ) → r ≤ 4 → (little ≡ true → Fails donor) → Fails donor ⊎ (r ≤ cond little 1 4)
+  donor-later r l d = go little refl
+    where
+      go : (b : Bool) → little ≡ b → Fails donor ⊎ (r ≤ cond b 1 4)
+      go true q = inl (d q)
+      go false q = inr l
+
   -- the chunk of the source s has the lowest rank
   abbrev Lowest : Source → Type 0
   Lowest s = (from : Entry) → CanGrant ws h n s from → AtLeast (rank h n from)
@@ -118,8 +126,7 @@ module _ (ws : List ℕ) (h : Heap) (p : Passes ws h) (n : ℕ) (large : 24 ≤ 
       let member = kept-from (λ c. leb n (sizeOn es c)) (binList ws h i) m .0 in
       let (x, r) = member-entry ws h p i c (omega (arith, takes .inside, length-take (h .bins) (h .sizes))) member in
       let q = one-chunk ws h p from x (k .member) (r .member) (k .place ∙ sym (r .place)) in
-      rw (k .kind, own-bin from (ap (λ (y : Entry). binOf (tableOf h) (y .size)) q ∙ r .takes ∙ sym is))
-      (at-least 0 (inr (omega arith)) (inr (omega arith)) (inr (omega arith)) (inr (omega arith)))))
+      rw (k .kind, own-bin from (ap (λ (y : Entry). binOf (tableOf h) (y .size)) q ∙ r .takes ∙ sym is)) (λ e me c. omega arith)))
 
   larger-lowest : Fails own → (little ≡ true → Fails donor) → Good Lowest larger
   larger-lowest o d =
@@ -128,13 +135,9 @@ module _ (ws : List ℕ) (h : Heap) (p : Passes ws h) (n : ℕ) (large : 24 ≤ 
       (from-bin-good Lowest (gathered (binList ws h) (numbersFrom (suc i) (h .bins - suc i)))
       (λ c m from k. rw (k .kind) (go (inOwnBin h n from))))
     where
-      without : (b : Bool) → little ≡ b → Fails donor ⊎ (2 ≤ cond b 1 4)
-      without true q = inl (d q)
-      without false q = inr (omega arith)
-
       go : (b : Bool) → AtLeast (cond b 0 2)
-      go true = at-least 0 (inr (omega arith)) (inr (omega arith)) (inr (omega arith)) (inr (omega arith))
-      go false = at-least 2 (inl o) (inr (omega arith)) (without little refl) (inr (omega arith))
+      go true = λ e m c. omega arith
+      go false = at-least 2 (inl o) (inr (omega arith)) (donor-later 2 (omega arith) d) (inr (omega arith))
 
   donor-lowest : Fails own → (little ≡ false → Fails larger × Fails top) → Good Lowest donor
   donor-lowest o others =
@@ -147,16 +150,36 @@ module _ (ws : List ℕ) (h : Heap) (p : Passes ws h) (n : ℕ) (large : 24 ≤ 
   top-lowest : Fails own → Fails larger → (little ≡ true → Fails donor) → Good Lowest top
   top-lowest o l d =
       if-good Lowest FromTop (leb (n + 24) (sizeOn es (h .top .0)))
-      (λ t from k. rw (k .kind) (at-least 3 (inl o) (inl l) (without little refl) (inr (omega arith))))
-    where
-      without : (b : Bool) → little ≡ b → Fails donor ⊎ (3 ≤ cond b 1 4)
-      without true q = inl (d q)
-      without false q = inr (omega arith)
+      (λ t from k. rw (k .kind) (at-least 3 (inl o) (inl l) (donor-later 3 (omega arith) d) (inr (omega arith))))
 
   -- the chosen one has it
   chosen-lowest : Good Lowest (sourceOf n (asRead ws h))
   unfolding asRead chosen
   chosen-lowest = in-order-good Lowest little own larger donor top own-lowest larger-lowest donor-lowest top-lowest
+
+-- what follows for the donor
+module _ (ws : List ℕ) (h : Heap) (n b : ℕ) (lowest : LowestRank ws h n b) where
+  pub donor-last : DonorLast ws h n b
+  donor-last from m lies large is e me others = not-so (itself _) (λ c. go others (rw (is, large) at (lowest from m lies e me c)))
+    where
+      ordinary : (own : Bool) → 4 ≤ cond own 0 2 → ⊥
+      ordinary true l = omega arith
+      ordinary false l = omega arith
+
+      go : (kindOf h e ≡ Ordinary) ⊎ (kindOf h e ≡ Top) → 4 ≤ rankAs (inOwnBin h n e) false (kindOf h e) → ⊥
+      go (inl q) l = ordinary (inOwnBin h n e) (rw q at l)
+      go (inr q) l = let k : 4 ≤ 3 = rw q at l in omega arith
+
+  pub donor-before-larger : DonorBeforeLarger ws h n b
+  donor-before-larger from m lies little is other e me others =
+      not-so (itself _) (λ c. go others (rw (is, other) at (lowest from m lies e me c)))
+    where
+      go : ((kindOf h e ≡ Ordinary) × (inOwnBin h n e ≡ true)) ⊎ (kindOf h e ≡ Donor) → 2 ≤ rank h n e → ⊥
+      go (inl (q, o)) l = let k : 2 ≤ 0 = rw (q, o) at l in omega arith
+      go (inr q) l = let k : 2 ≤ 1 = rw (q, little) at l in omega arith
+
+  in-turn : InTurn ws h n b
+  in-turn = record { lowest = lowest; donorLast = donor-last; donorBeforeLarger = donor-before-larger }
 
 -- n bytes are granted
 module _ {ws : List ℕ} {h : Heap} {n : ℕ} (room : Grantable ws h n) where
@@ -176,46 +199,28 @@ module _ {ws : List ℕ} {h : Heap} {n : ℕ} (room : Grantable ws h n) where
       go (no d) = absurd (apart (chunks-apart ws h (room .well) from (sourceChunk room) m (can room .member) d))
 
   granted-lowest : LowestRank ws h n block
-  granted-lowest from e m lies me c =
-      rw (lies-in-source from m lies) (chosen-lowest ws h (room .well) n (room .large) (room .some) (sourceChunk room) (can room) e me c)
+  granted-lowest from m lies =
+      rw (lies-in-source from m lies) (chosen-lowest ws h (room .well) n (room .large) (room .some) (sourceChunk room) (can room))
+
+  granted-in-turn : InTurn ws h n block
+  granted-in-turn = in-turn ws h n block granted-lowest
 
 -- a new block; `fill` is written into it
 module _ {ws : List ℕ} {h : Heap} (p : Passes ws h) {block : Block} {change : ℤ} (fill : Entry → List Store) (within : (e : Entry) → Within e (fill e)) where
-  new-lowest : (z : ℕ) → allocateWith fill ws h z .answer ≡ Granted block change → LowestRank ws h (need overhead z) (block .0)
-  new-lowest z q = subst (LowestRank ws h (need overhead z)) (block-is p fill within z q) (granted-lowest (grantable p fill within z q))
+  new-in-turn : (z : ℕ) → allocateWith fill ws h z .answer ≡ Granted block change → InTurn ws h (need overhead z) (block .0)
+  new-in-turn z q = subst (InTurn ws h (need overhead z)) (block-is p fill within z q) (granted-in-turn (grantable p fill within z q))
 
 pub choice : Choice ours
 unfolding ours step allocate allocateCleared reallocate
 choice ws h p =
     record {
-      allocate = λ z block change q. new-lowest p asFound (λ e. tt) z q;
-      cleared = λ count size block change q. new-lowest p cleared cleared-within (count * size) q;
-      noBlock = λ z block change q. new-lowest p asFound (λ e. tt) z q;
+      allocate = λ z block change q. new-in-turn p asFound (λ e. tt) z q;
+      cleared = λ count size block change q. new-in-turn p cleared cleared-within (count * size) q;
+      noBlock = λ z block change q. new-in-turn p asFound (λ e. tt) z q;
       moved = λ b z block change e k less q.
-          subst (LowestRank ws h (need overhead z)) (moved-block p k z q less) (granted-lowest (moving p k z q less .room));
+          subst (InTurn ws h (need overhead z)) (moved-block p k z q less) (granted-in-turn (moving p k z q less .room));
     }
 
 -- it holds in each state of every run
 pub choice-through : ThroughRuns ours (λ s. ChoiceAt ours (s .words) (s .heap))
 choice-through = through ours kept _ (λ s p. choice (s .words) (s .heap) p)
-
--- what follows for the donor
-module _ (ws : List ℕ) (h : Heap) (n b : ℕ) (lowest : LowestRank ws h n b) where
-  pub donor-last : DonorLast ws h n b
-  donor-last large from m is lies e me others = not-so (itself _) (λ c. go others (rw (is, large) at (lowest from e m lies me c)))
-    where
-      ordinary : (o : Bool) → 4 ≤ cond o 0 2 → ⊥
-      ordinary true l = omega arith
-      ordinary false l = omega arith
-
-      go : (kindOf h e ≡ Ordinary) ⊎ (kindOf h e ≡ Top) → 4 ≤ rankAs (inOwnBin h n e) false (kindOf h e) → ⊥
-      go (inl q) l = ordinary (inOwnBin h n e) (rw q at l)
-      go (inr q) l = let k : 4 ≤ 3 = rw q at l in omega arith
-
-  pub larger-after-donor : LargerAfterDonor ws h n b
-  larger-after-donor little from m is other lies e me others =
-      not-so (itself _) (λ c. go others (rw (is, other) at (lowest from e m lies me c)))
-    where
-      go : ((kindOf h e ≡ Ordinary) × (inOwnBin h n e ≡ true)) ⊎ (kindOf h e ≡ Donor) → 2 ≤ rank h n e → ⊥
-      go (inl (q, o)) l = let k : 2 ≤ 0 = rw (q, o) at l in omega arith
-      go (inr q) l = let k : 2 ≤ 1 = rw (q, little) at l in omega arith

@@ -48,16 +48,16 @@ record OutOfTurn (way : Way) (s : State) (z b high low : ℕ) : Type 0 where
       (shape (s .words) (s .heap .bytes)) ≡ true
 
 -- no way that keeps `Choice` does that
-in-turn : (way : Way) → Choice way → (s : State) (z b high low : ℕ) → OutOfTurn way s z b high low → low < high → ⊥
-in-turn way promised s z b high low o l =
+kept-in-turn : (way : Way) → Choice way → (s : State) (z b high low : ℕ) → OutOfTurn way s z b high low → low < high → ⊥
+kept-in-turn way promised s z b high low o l =
     let p = passes-iff (s .words) (s .heap) .0 (o .passes) in
-    let lowest = promised (s .words) (s .heap) p .allocate z (record { 0 = b }) (pos (need overhead z)) (o .answer) in
+    let lowest = promised (s .words) (s .heap) p .allocate z (record { 0 = b }) (pos (need overhead z)) (o .answer) .lowest in
     let (from, there, (lies, ranked)) =
     for-some (λ e. both (both (less (e .place) b) (less b (chunkEnd e))) (number-is (rank (s .heap) (need overhead z) e) high)) (shape (s .words) (s .heap .bytes)) .0 (o .lies) in
     let (other, on-chain, (can, lower)) =
     for-some (λ e. both (itself (serves (s .heap .donor .0) (s .heap .top .0) (need overhead z) e)) (number-is (rank (s .heap) (need overhead z) e) low)) (shape (s .words) (s .heap .bytes)) .0
     (o .serves) in
-    omega (arith, lowest from other there lies on-chain can)
+    omega (arith, lowest from there lies other on-chain can)
 
 -- 13: in the fresh heap the donor and the top (176 bytes) can serve 40 bytes; the donor's block is granted
 before-top : OutOfTurn donorBeforeTop (heapAfter []) 32 16 4 3
@@ -65,7 +65,7 @@ unfolding computes serves
 before-top = record { passes = refl; answer = refl; lies = refl; serves = refl }
 
 pub choice-refutes-donor-before-top : Choice donorBeforeTop → ⊥
-choice-refutes-donor-before-top promised = in-turn donorBeforeTop promised (heapAfter []) 32 16 4 3 before-top (omega arith)
+choice-refutes-donor-before-top promised = kept-in-turn donorBeforeTop promised (heapAfter []) 32 16 4 3 before-top (omega arith)
 
 -- 14: two blocks are granted from the top, and the first is freed: a chunk of 48 bytes at 72. It and the donor can serve 24 bytes;
 -- its block is granted
@@ -77,7 +77,7 @@ unfolding computes serves
 before-donor = record { passes = refl; answer = refl; lies = refl; serves = refl }
 
 pub choice-refutes-larger-before-donor : Choice largerBeforeDonor → ⊥
-choice-refutes-larger-before-donor promised = in-turn largerBeforeDonor promised freed 16 80 2 1 before-donor (omega arith)
+choice-refutes-larger-before-donor promised = kept-in-turn largerBeforeDonor promised freed 16 80 2 1 before-donor (omega arith)
 
 -- 15: behind a grant of 120 bytes the top has 56, and the donor alone can serve 40 bytes; they are refused
 abbrev full : State

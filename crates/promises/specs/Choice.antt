@@ -28,7 +28,7 @@ use Rattle.promises.specs.Room.{OnChain, HoldsBlock}
 abbrev pub LiesIn : ℕ → Entry → Type 0
 LiesIn b e = (e .place < b) × (b < chunkEnd e)
 
--- the chunk's size has the same bin as n
+-- the chunk's size and n have the same bin
 abbrev pub sameBin : Binned → Binned → Bool
 sameBin (Bin i) (Bin j) = eqb i j
 sameBin (Bin i) NoBin = false
@@ -37,8 +37,9 @@ sameBin NoBin b = false
 abbrev pub inOwnBin : Heap → ℕ → Entry → Bool
 inOwnBin h n e = sameBin (binOf (tableOf h) (e .size)) (binOf (tableOf h) n)
 
--- The rank of a chunk by its kind: chunks of lower rank are tried earlier. The donor comes before the larger bins if n is small
--- (`little`), and last if it is not. Start, end and chunks in use are never tried
+-- The rank of a chunk by its kind: chunks of lower rank are tried earlier. An ordinary chunk is in n's own bin or, if it can serve, in a
+-- larger one. The donor comes before the larger bins if n is small (`little`), and last if it is not. Start, end and chunks in use
+-- are never tried
 abbrev pub rankAs : Bool → Bool → Kind → ℕ
 rankAs own little Ordinary = cond own 0 2
 rankAs own little Donor = cond little 1 4
@@ -50,39 +51,49 @@ rankAs own little End = 5
 abbrev pub rank : Heap → ℕ → Entry → ℕ
 rank h n e = rankAs (inOwnBin h n e) (small (tableOf h) n) (kindOf h e)
 
--- no chunk that can serve n has a lower rank than the one in which the block at b lies
+-- the chunk e can serve n
+abbrev can : Heap → ℕ → Entry → Bool
+can h n e = serves (h .donor .0) (h .top .0) n e
+
+-- of a block at b that was granted for n: no chunk that can serve has a lower rank than the chunk `from` in which it lies
 abbrev pub LowestRank : List ℕ → Heap → ℕ → ℕ → Type 0
 LowestRank ws h n b =
-    (from e : Entry) → OnChain ws h from → LiesIn b from
-    → OnChain ws h e → serves (h .donor .0) (h .top .0) n e ≡ true → rank h n from ≤ rank h n e
+    (from : Entry) → OnChain ws h from → LiesIn b from
+    → (e : Entry) → OnChain ws h e → can h n e ≡ true → rank h n from ≤ rank h n e
+
+-- a need that is not small comes from the donor only if no ordinary chunk can serve it, and not the top
+abbrev pub DonorLast : List ℕ → Heap → ℕ → ℕ → Type 0
+DonorLast ws h n b =
+    (from : Entry) → OnChain ws h from → LiesIn b from
+    → small (tableOf h) n ≡ false → kindOf h from ≡ Donor
+    → (e : Entry) → OnChain ws h e → (kindOf h e ≡ Ordinary) ⊎ (kindOf h e ≡ Top) → can h n e ≡ false
+
+-- a small need comes from a larger bin only if no chunk of its own bin can serve it, and not the donor
+abbrev pub DonorBeforeLarger : List ℕ → Heap → ℕ → ℕ → Type 0
+DonorBeforeLarger ws h n b =
+    (from : Entry) → OnChain ws h from → LiesIn b from
+    → small (tableOf h) n ≡ true → kindOf h from ≡ Ordinary → inOwnBin h n from ≡ false
+    → (e : Entry) → OnChain ws h e → ((kindOf h e ≡ Ordinary) × (inOwnBin h n e ≡ true)) ⊎ (kindOf h e ≡ Donor) → can h n e ≡ false
+
+-- all three: the last two follow from the first, and say what it means for the donor
+pub record InTurn (ws : List ℕ) (h : Heap) (n b : ℕ) : Type 0 where
+  pub lowest : LowestRank ws h n b
+  pub donorLast : DonorLast ws h n b
+  pub donorBeforeLarger : DonorBeforeLarger ws h n b
 
 -- the promise on one heap, for each call that grants a new block
 pub record ChoiceAt (way : Way) (ws : List ℕ) (h : Heap) : Type 0 where
   pub allocate : (z : ℕ) (block : Block) (change : ℤ)
-      → way (Allocate z) ws h .answer ≡ Granted block change → LowestRank ws h (need overhead z) (block .0)
+      → way (Allocate z) ws h .answer ≡ Granted block change → InTurn ws h (need overhead z) (block .0)
   pub cleared : (count size : ℕ) (block : Block) (change : ℤ)
-      → way (AllocateCleared count size) ws h .answer ≡ Granted block change → LowestRank ws h (need overhead (count * size)) (block .0)
+      → way (AllocateCleared count size) ws h .answer ≡ Granted block change → InTurn ws h (need overhead (count * size)) (block .0)
   pub noBlock : (z : ℕ) (block : Block) (change : ℤ)
-      → way (Reallocate 0 z) ws h .answer ≡ Granted block change → LowestRank ws h (need overhead z) (block .0)
-  -- a block that outgrows its chunk moves to another chunk
+      → way (Reallocate 0 z) ws h .answer ≡ Granted block change → InTurn ws h (need overhead z) (block .0)
+  -- a block that outgrows its chunk moves to another chunk, chosen while the old one is in use
   pub moved : (b z : ℕ) (block : Block) (change : ℤ)
       → (e : Entry) → HoldsBlock ws h b e → e .size < need overhead z
-      → way (Reallocate b z) ws h .answer ≡ Granted block change → LowestRank ws h (need overhead z) (block .0)
+      → way (Reallocate b z) ws h .answer ≡ Granted block change → InTurn ws h (need overhead z) (block .0)
 
 -- the promise, on every heap that passes
 abbrev pub Choice : Way → Type 0
 Choice way = (ws : List ℕ) (h : Heap) → Passes ws h → ChoiceAt way ws h
-
--- What it says of the donor, of a block at b that was granted for n.
--- A need that is not small comes from the donor only if no ordinary chunk can serve it, and not the top
-abbrev pub DonorLast : List ℕ → Heap → ℕ → ℕ → Type 0
-DonorLast ws h n b =
-    small (tableOf h) n ≡ false → (donor : Entry) → OnChain ws h donor → kindOf h donor ≡ Donor → LiesIn b donor
-    → (e : Entry) → OnChain ws h e → (kindOf h e ≡ Ordinary) ⊎ (kindOf h e ≡ Top) → serves (h .donor .0) (h .top .0) n e ≡ false
-
--- A small need comes from a larger bin only if no chunk of its own bin can serve it, and not the donor
-abbrev pub LargerAfterDonor : List ℕ → Heap → ℕ → ℕ → Type 0
-LargerAfterDonor ws h n b =
-    small (tableOf h) n ≡ true → (from : Entry) → OnChain ws h from → kindOf h from ≡ Ordinary → inOwnBin h n from ≡ false → LiesIn b from
-    → (e : Entry) → OnChain ws h e → ((kindOf h e ≡ Ordinary) × (inOwnBin h n e ≡ true)) ⊎ (kindOf h e ≡ Donor)
-    → serves (h .donor .0) (h .top .0) n e ≡ false
