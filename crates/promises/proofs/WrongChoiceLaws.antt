@@ -1,13 +1,12 @@
 -- Each of the three wrong orders of the tries breaks a promise, shown on heaps of the demonstration's setup: bins of 24, 32, 40 and 128, so
 -- that needs below 40 are small, and a donor of 64 bytes at 8. Assumes nothing.
-use mathlib.Core.Path.{_≡_, refl, sym, _∙_}
+use mathlib.Core.Path.{_≡_, refl}
 use mathlib.Core.Bool.{Bool, true, false, cond, _&&_, false≢true}
 use mathlib.Core.List.{List, [], _∷_}
 use Prim.Native.Nat.{ℕ, _<_}
 use native.Mathlib.Omega.{arith}
 use lib.Dec.{eqb, ltb}
 use lib.IntN.{pos}
-use lib.ListN.{replicate}
 use Rattle.drafts.proofs.NeedLaws.{need-large}
 use Rattle.drafts.proofs.SourceLaws.{Fails, in-order-fails}
 use Rattle.lists.specs.Lists.{any}
@@ -17,15 +16,14 @@ use Rattle.record.specs.declared.answers.Refusal.the-variants.{NoRoom}
 use Rattle.record.specs.declared.heap.Heap.{Heap}
 use Rattle.record.specs.declared.sources.Source.{Source}
 use Rattle.record.specs.declared.sources.Source.the-variants.{FromBin, FromDonor, FromTop, Nowhere}
-use Rattle.record.specs.Heap.{empty, tableOf}
+use Rattle.record.specs.Heap.{tableOf}
 use Rattle.record.specs.Table.{small}
 use Rattle.rules.specs.Shape.{shape, chunkEnd}
 use Rattle.rules.specs.Check.{Passes, passes}
 use Rattle.rules.specs.Draft.{asRead}
 use Rattle.rules.specs.Serve.{need, permitted, serves, inOrder, firstOf, chosen}
 use Rattle.rules.specs.Kinds.{overhead}
-use Rattle.rules.specs.Calls.{Call, Allocate, Free, State, run}
-use Rattle.rules.specs.Cases.{opening}
+use Rattle.rules.specs.Calls.{Allocate, Free, State}
 use Rattle.rules.proofs.CasesLaws.{computes}
 use Rattle.rules.proofs.CheckLaws.{passes-iff}
 use Rattle.promises.specs.Ways.{Way, ours}
@@ -34,10 +32,7 @@ use Rattle.promises.specs.Choice.{rank, Choice}
 use Rattle.promises.specs.Wrong.{donorBeforeTop, largerBeforeDonor, donorForSmall}
 use Rattle.promises.proofs.ServeLaws.{own, larger, donor, top, room-iff}
 use Rattle.promises.proofs.RoomLaws.{room}
-
--- the demonstration's heap after other calls
-abbrev heapAfter : List Call → State
-heapAfter calls = run (opening ∷ calls) (record { words = replicate 64 0; heap = empty })
+use Rattle.promises.proofs.WrongLaws.{heapAfter, passing, not-refused}
 
 -- The block at b is granted for z bytes in a chunk of rank `high`, although a chunk of rank `low` can serve: shown by tests of all chunks
 record OutOfTurn (way : Way) (s : State) (z b high low : ℕ) : Type 0 where
@@ -50,8 +45,7 @@ record OutOfTurn (way : Way) (s : State) (z b high low : ℕ) : Type 0 where
 -- no way that keeps `Choice` does that
 kept-in-turn : (way : Way) → Choice way → (s : State) (z b high low : ℕ) → OutOfTurn way s z b high low → low < high → ⊥
 kept-in-turn way promised s z b high low o l =
-    let p = passes-iff (s .words) (s .heap) .0 (o .passes) in
-    let lowest = promised (s .words) (s .heap) p .allocate z (record { 0 = b }) (pos (need overhead z)) (o .answer) .lowest in
+    let lowest = promised (s .words) (s .heap) (passing s (o .passes)) .allocate z (record { 0 = b }) (pos (need overhead z)) (o .answer) .lowest in
     let (from, there, (lies, ranked)) =
     for-some (λ e. both (both (less (e .place) b) (less b (chunkEnd e))) (number-is (rank (s .heap) (need overhead z) e) high)) (shape (s .words) (s .heap .bytes)) .0 (o .lies) in
     let (other, on-chain, (can, lower)) =
@@ -96,14 +90,10 @@ unfolding computes serves
 full-serves = refl
 
 pub room-refutes-donor-for-small : Room donorForSmall → ⊥
-room-refutes-donor-for-small promised =
-    let p = passes-iff (full .words) (full .heap) .0 full-passes in
-    let none = promised (full .words) (full .heap) p .allocate 32 refl .0 full-refused in
-    let (e, m, can) = for-some (λ x. itself (serves (full .heap .donor .0) (full .heap .top .0) (need overhead 32) x)) (shape (full .words) (full .heap .bytes)) .0 full-serves in
-    false≢true (sym (none e m) ∙ can)
+room-refutes-donor-for-small promised = not-refused donorForSmall promised full (passing full full-passes) 32 refl full-serves full-refused
 
--- What request Four takes away: on one heap, a request that is refused for lack of room now was refused in document 01's way too. (The reverse
--- does not hold, as 15 shows. A run of calls is another matter: after the first large block from the donor the two heaps differ)
+-- Request Four gives refusal 7 less often: on one heap, a request that is refused for lack of room now was refused in document 01's way too
+-- (the reverse does not hold, as 15 shows). Of a run of calls this says nothing: the two heaps differ from the first large block in the donor on
 all-fail : (little : Bool) (own larger donor top : Source) → Fails own × Fails larger × Fails donor × Fails top
     → Fails (firstOf (cond little (inOrder little own larger donor top) (own ∷ larger ∷ top ∷ [])))
 all-fail little own larger donor top (o, l, d, t) =

@@ -14,7 +14,8 @@ use Rattle.drafts.proofs.NeedLaws.{need-large}
 use Rattle.lists.specs.Lists.{every, any}
 use Rattle.lists.proofs.ListsLaws.{number-is, itself, if-then, for-each, for-some}
 use Rattle.record.specs.declared.answers.Answer.{Answer}
-use Rattle.record.specs.declared.answers.Answer.the-variants.{Granted}
+use Rattle.record.specs.declared.answers.Answer.the-variants.{Granted, Refused}
+use Rattle.record.specs.declared.answers.Refusal.the-variants.{NoRoom}
 use Rattle.record.specs.declared.heap.Heap.{Heap}
 use Rattle.record.specs.Answers.{figuresOf}
 use Rattle.record.specs.Heap.{empty}
@@ -23,9 +24,9 @@ use Rattle.rules.specs.Shape.{Entry, shape, binList, chunkEnd}
 use Rattle.rules.specs.Kinds.{live, overhead, blockOf}
 use Rattle.rules.specs.Check.{Passes, passes}
 use Rattle.rules.specs.Draft.{asRead}
-use Rattle.rules.specs.Serve.{need, serves}
+use Rattle.rules.specs.Serve.{need, permitted, serves}
 use Rattle.rules.specs.Free.{isLive}
-use Rattle.rules.specs.Calls.{Allocate, State, run}
+use Rattle.rules.specs.Calls.{Call, Allocate, State, run}
 use Rattle.rules.specs.Cases.{opening, turns}
 use Rattle.rules.proofs.CasesLaws.{computes}
 use Rattle.rules.proofs.CheckLaws.{passes-iff}
@@ -38,12 +39,15 @@ use Rattle.promises.specs.Apart.{Apart}
 use Rattle.promises.specs.Wrong.{refusesAlways, sameBlock, idleFree, inventedCount, inventedUsed}
 use Rattle.promises.proofs.ReasonLaws.{live-iff}
 
--- the demonstration's heap after so many of its calls, in a region of zeros
+-- the demonstration's heap after any calls, in a region of zeros; after so many of its own
+abbrev pub heapAfter : List Call → State
+heapAfter calls = run (opening ∷ calls) (record { words = replicate 64 0; heap = empty })
+
 abbrev afterCalls : ℕ → State
-afterCalls k = run (opening ∷ take k turns) (record { words = replicate 64 0; heap = empty })
+afterCalls k = heapAfter (take k turns)
 
 -- it passes when fresh, after call 1 and after call 7
-passing : (s : State) → passes (s .words) (s .heap) ≡ true → Passes (s .words) (s .heap)
+pub passing : (s : State) → passes (s .words) (s .heap) ≡ true → Passes (s .words) (s .heap)
 passing s = passes-iff (s .words) (s .heap) .0
 
 fresh-passes : Passes (afterCalls 0 .words) (afterCalls 0 .heap)
@@ -63,13 +67,18 @@ fresh-serves : any (serves (afterCalls 0 .heap .donor .0) (afterCalls 0 .heap .t
 unfolding computes serves
 fresh-serves = refl
 
+-- no way that keeps `Room` refuses a permitted size for lack of room where some chunk can serve
+pub not-refused : (way : Way) → Room way → (s : State) → Passes (s .words) (s .heap) → (z : ℕ) → permitted z ≡ true
+    → any (serves (s .heap .donor .0) (s .heap .top .0) (need overhead z)) (shape (s .words) (s .heap .bytes)) ≡ true
+    → way (Allocate z) (s .words) (s .heap) .answer ≡ Refused NoRoom → ⊥
+not-refused way promised s p z q some refused =
+    let none = promised (s .words) (s .heap) p .allocate z q .0 refused in
+    let (e, m, t) = for-some (λ x. itself (serves (s .heap .donor .0) (s .heap .top .0) (need overhead z) x)) (shape (s .words) (s .heap .bytes)) .0 some in
+    false≢true (sym (none e m) ∙ t)
+
 -- an allocator that refuses always
 pub room-refutes-refusing : Room refusesAlways → ⊥
-room-refutes-refusing promised =
-    let s : State = afterCalls 0 in
-    let none = promised (s .words) (s .heap) fresh-passes .allocate 16 refl .0 refl in
-    let (e, m, t) = for-some (λ x. itself (serves (s .heap .donor .0) (s .heap .top .0) (need overhead 16) x)) (shape (s .words) (s .heap .bytes)) .0 fresh-serves in
-    false≢true (sym (none e m) ∙ t)
+room-refutes-refusing promised = not-refused refusesAlways promised (afterCalls 0) fresh-passes 16 refl fresh-serves refl
 
 -- no way that keeps blocks apart grants a block that is live
 granted-once : (way : Way) → Apart way → (ws : List ℕ) (h : Heap) → Passes ws h → (z : ℕ) (block : Block) (change : ℤ) (d : Entry)
