@@ -136,8 +136,10 @@ fn told(answer: Answer) -> Option<u32> {
 impl<W: AsRef<[u32]> + AsMut<[u32]>> Heap<W> {
     /// Sets up a heap in [`FEWEST_WORDS`](crate::limits::FEWEST_WORDS) to
     /// [`MOST_WORDS`](crate::limits::MOST_WORDS) words. `table`: ascending bin sizes, multiples of 8, the first 24.
-    /// `donor`: bytes of the donor chunk, which serves small requests; 0 for none. `merge`: whether free coalesces a
-    /// chunk with its free neighbours.
+    /// `donor`: bytes of the donor chunk, 0 for none. Small requests take from it before they split a chunk of a larger
+    /// bin; any other request takes from it only if no bin and not the top can serve. A request is small if its chunk
+    /// (its bytes and 8 more, taken up to 8, at least 24) is below the last size of the run 24, 32, 40 .. without a gap
+    /// with which the table begins. `merge`: whether free coalesces a chunk with its free neighbours.
     ///
     /// ```
     /// use kruzhvela::{Heap, Refusal};
@@ -166,12 +168,19 @@ impl<W: AsRef<[u32]> + AsMut<[u32]>> Heap<W> {
 
     /// Allocates a block of `bytes` bytes, 1 to [`MOST_BYTES`](crate::limits::MOST_BYTES). Its words stay as found.
     ///
+    /// It comes from the bin of its size, a larger bin, the top or the donor, tried in this order; a small request tries
+    /// the donor before the larger bins. Donor and top serve only if 24 bytes of them remain.
+    ///
     /// ```
     /// use kruzhvela::{Heap, Refusal};
     /// let mut heap = Heap::setup(vec![0; 64], &[24, 64], 0, true)?;
     /// let first = heap.allocate(17)?;
     /// assert_eq!(first.change, 32);
     /// assert_eq!(heap.allocate(200), Err(Refusal::NoRoom));
+    ///
+    /// let mut heap = Heap::setup(vec![0; 64], &[24, 32, 40, 128], 64, true)?;
+    /// assert_eq!(heap.allocate(112)?.block.offset(), 80); // from the top, which keeps 56 bytes
+    /// assert_eq!(heap.allocate(32)?.block.offset(), 16); // a large request, from the donor
     /// # Ok::<(), kruzhvela::Refusal>(())
     /// ```
     pub fn allocate(&mut self, bytes: u32) -> Result<Granted, Refusal> {

@@ -283,7 +283,7 @@ fn a_large_bin_is_searched_in_list_order() {
 #[test]
 fn the_four_tries_in_their_order() {
     let mut world = World::fresh(100, &DEMO_TABLE, 72, false);
-    // 72 is not small, so the donor is passed over for it; 24 is.
+    // 72 is not small, so the top comes before the donor for it; 24 is.
     assert_eq!(world.allocate(64), granted(88, 72));
     assert_eq!(world.allocate(16), granted(16, 24));
     world.free(88);
@@ -296,6 +296,32 @@ fn the_four_tries_in_their_order() {
     assert_eq!(world.allocate(16), granted(40, 24));
     assert_eq!(world.allocate(32), granted(112, 48));
     assert_eq!(world.allocate(32), granted(160, 40));
+}
+
+// Document 02, request Four.
+#[test]
+fn a_large_need_tries_the_donor_last() {
+    // With the second table m is 0, and no need is small.
+    for table in [&DEMO_TABLE[..], &[24]] {
+        let mut world = World::fresh(64, table, 80, true);
+        // The top of 160 bytes serves 40 and 72 and has 48 left.
+        assert_eq!(world.allocate(32), granted(96, 40));
+        assert_eq!(world.allocate(64), granted(136, 72));
+        assert_eq!(world.donor(), 8);
+        // A bin comes before the donor too.
+        assert_eq!(world.free(96), freed(-40));
+        assert_eq!(world.allocate(32), granted(96, 40));
+        // The donor's 80 bytes serve 56, which leave 24, and not 64.
+        let full = world.clone();
+        assert_eq!(world.allocate(49), [7, 0, 0, 0, 0]);
+        assert_eq!(world.allocate(48), granted(16, 56));
+        assert_eq!((world.donor(), world.top()), (64, 200));
+        let mut world = full.clone();
+        assert_eq!(world.cleared(6, 8), granted(16, 56));
+        let mut world = full;
+        assert_eq!(world.reallocate(96, 49), [7, 0, 0, 0, 0]);
+        assert_eq!(world.reallocate(96, 48), granted(16, 16));
+    }
 }
 
 #[test]

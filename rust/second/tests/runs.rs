@@ -58,7 +58,8 @@ fn an_odd_last_word_is_neither_read_nor_written() {
     }
     let before = odd.region[64];
     assert_eq!(odd.setup(&DEMO_TABLE, 216, true), ACCEPTED);
-    assert_eq!(odd.cleared(1, 100)[0], 7);
+    assert_eq!(odd.cleared(1, 200)[0], 7);
+    assert_eq!(odd.cleared(1, 100)[0], 0);
     assert_eq!(odd.region[64], before);
 }
 
