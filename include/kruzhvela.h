@@ -81,12 +81,16 @@ extern "C" {
 #endif
 
 /* Sets up a heap in a region of 10 to 16,384 words. table: ascending bin sizes, multiples of 8, the first 24. donor: bytes of the
-   donor chunk, which serves small requests; 0 for none. merge: whether free coalesces a chunk with its free neighbours.
-   Writes the record without reading it. */
+   donor chunk, 0 for none. Small requests take from it before they split a chunk of a larger bin; any other request takes from it
+   only if no bin and not the top can serve. A request is small if its chunk (z + 8, taken up to 8, at least 24) is below the last
+   size of the run 24, 32, 40 .. without a gap with which the table begins. merge: whether free coalesces a chunk with its free
+   neighbours. Writes the record without reading it. */
 uint32_t kz_setup(uint32_t *region, size_t words, const uint32_t *table, size_t bins, uint32_t donor, bool merge,
                   uint32_t *record, uint32_t *answer);
 
-/* Allocates a block of z bytes, 1 to 65,488, and answers its offset in bytes from the region's first word.
+/* Allocates a block of z bytes, 1 to 65,488, and answers its offset in bytes from the region's first word. It comes from the bin of
+   its size, a larger bin, the top or the donor, tried in this order; a small request tries the donor before the larger bins.
+   Donor and top serve only if 24 bytes of them remain. KZ_NO_ROOM means that no chunk of the heap can serve.
    The block's words stay as found. */
 uint32_t kz_allocate(uint32_t *region, size_t words, uint32_t *record, uint32_t z, uint32_t *answer);
 
