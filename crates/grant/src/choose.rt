@@ -53,7 +53,7 @@ pub fn top_serves(region: &[u32], top: Chunk, need: u32) -> bool
     need as u64 + LEAST as u64 <= word(region, top, SIZE) as u64
 }
 
-// Where no bin has a chunk: the top, and the donor if the top does not serve.
+// Where no bin serves: the top, and the donor if the top does not serve either.
 pub fn top_or_donor(top: bool, donor: bool) -> Source
     ensures { λ r. ⌜ r ≡ topOrDonorM top donor ⌝ }
 {

@@ -74,9 +74,11 @@ module _ {ws : List ℕ} {h : Heap} (p : Passes ws h) {block : Block} {change : 
     taken : Failed (allocateRefusals (heapFails ws h) (asRead ws h) z) × (allocateWith fill ws h z ≡ made-of)
     taken = accepted h made-of (allocateRefusals (heapFails ws h) (asRead ws h) z) q
 
+    -- some chunk can serve the need
     pub grantable : Grantable ws h n
     grantable = let (_, (_, (some, _))) = taken .0 in need-grantable z p some
 
+    -- the block is the one that the rule grants
     pub block-is : blockOf (grant n (asRead ws h) .granted) ≡ block .0
     block-is = granted-block 0 (grant n (asRead ws h) .granted) (sym (ap (λ (o : Outcome). o .answer) (taken .1)) ∙ q)
 
@@ -160,6 +162,7 @@ module _ {ws : List ℕ} {h : Heap} (p : Passes ws h) {b : ℕ} {e : Entry} (k :
       unfolding resized
       moved-is = rw (lt-ltb (old .size) wanted outgrown) refl
 
+      -- the block that it becomes
       pub moved-block : blockOf (moves .granted) ≡ block .0
       moved-block = ap (λ (x : Grant). blockOf (x .granted)) (sym moved-is) ∙ resized-block
 

@@ -94,9 +94,9 @@ room-refutes-donor-for-small promised = not-refused donorForSmall promised full 
 
 -- Request Four gives refusal 7 less often: on one heap, a request that is refused for lack of room now was refused in document 01's way too
 -- (the reverse does not hold, as 15 shows). Of a run of calls this says nothing: the two heaps differ from the first large block in the donor on
-all-fail : (little : Bool) (own larger donor top : Source) → Fails own × Fails larger × Fails donor × Fails top
+tries-fail : (little : Bool) (own larger donor top : Source) → Fails own × Fails larger × Fails donor × Fails top
     → Fails (firstOf (cond little (inOrder little own larger donor top) (own ∷ larger ∷ top ∷ [])))
-all-fail little own larger donor top (o, l, d, t) =
+tries-fail little own larger donor top (o, l, d, t) =
     rw (nothing-found own o, nothing-found larger l, nothing-found donor d, nothing-found top t) (none-left little)
   where
     nothing-found : (s : Source) → Fails s → s ≡ Nowhere
@@ -116,4 +116,4 @@ refused-before ws h p z q refused =
     let n : ℕ = need overhead z in
     let none = room-iff ws h p n (need-large z) .1 (room ws h p .allocate z q .0 refused) in
     let fail = in-order-fails (small (tableOf h) n) (own ws h p n) (larger ws h p n) (donor ws h p n) (top ws h p n) none in
-    rw (passes-iff ws h .1 p, q, all-fail (small (tableOf h) n) (own ws h p n) (larger ws h p n) (donor ws h p n) (top ws h p n) fail)
+    rw (passes-iff ws h .1 p, q, tries-fail (small (tableOf h) n) (own ws h p n) (larger ws h p n) (donor ws h p n) (top ws h p n) fail)
