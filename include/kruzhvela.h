@@ -82,9 +82,9 @@ extern "C" {
 
 /* Sets up a heap in a region of 10 to 16,384 words. table: ascending bin sizes, multiples of 8, the first 24. donor: bytes of the
    donor chunk, 0 for none. Small requests take from it before they split a chunk of a larger bin; any other request takes from it
-   only if no bin and not the top can serve. A request is small if its chunk (z + 8, taken up to 8, at least 24) is below the last
-   size of the run 24, 32, 40 .. without a gap with which the table begins. merge: whether free coalesces a chunk with its free
-   neighbours. Writes the record without reading it. */
+   only if no bin and not the top can serve. The table begins with a run 24, 32, 40 .. without a gap; a request is small if its
+   chunk (z + 8, rounded up to a multiple of 8, at least 24) is below the last size of that run. merge: whether free coalesces a
+   chunk with its free neighbours. Writes the record without reading it. */
 uint32_t kz_setup(uint32_t *region, size_t words, const uint32_t *table, size_t bins, uint32_t donor, bool merge,
                   uint32_t *record, uint32_t *answer);
 

@@ -137,9 +137,9 @@ impl<W: AsRef<[u32]> + AsMut<[u32]>> Heap<W> {
     /// Sets up a heap in [`FEWEST_WORDS`](crate::limits::FEWEST_WORDS) to
     /// [`MOST_WORDS`](crate::limits::MOST_WORDS) words. `table`: ascending bin sizes, multiples of 8, the first 24.
     /// `donor`: bytes of the donor chunk, 0 for none. Small requests take from it before they split a chunk of a larger
-    /// bin; any other request takes from it only if no bin and not the top can serve. A request is small if its chunk
-    /// (its bytes and 8 more, taken up to 8, at least 24) is below the last size of the run 24, 32, 40 .. without a gap
-    /// with which the table begins. `merge`: whether free coalesces a chunk with its free neighbours.
+    /// bin; any other request takes from it only if no bin and not the top can serve. The table begins with a run
+    /// 24, 32, 40 .. without a gap; a request is small if its chunk (its bytes and 8 more, rounded up to a multiple of 8,
+    /// at least 24) is below the last size of that run. `merge`: whether free coalesces a chunk with its free neighbours.
     ///
     /// ```
     /// use kruzhvela::{Heap, Refusal};
