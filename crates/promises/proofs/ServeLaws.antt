@@ -61,7 +61,7 @@ module _ (ws : List ℕ) (h : Heap) (p : Passes ws h) (n : ℕ) where
   es = shape ws (h .bytes)
 
   abbrev pub can : Entry → Bool
-  can = serves (h .donor .0) (h .top .0) n
+  can = serves (tableOf h) (h .donor .0) (h .top .0) n
 
   module _ (e : Entry) (m : Mem e es) where
     can-free : can e ≡ true → Free ws h e

@@ -39,7 +39,7 @@ record OutOfTurn (way : Way) (s : State) (z b high low : ℕ) : Type 0 where
   passes : passes (s .words) (s .heap) ≡ true
   answer : way (Allocate z) (s .words) (s .heap) .answer ≡ Granted (record { 0 = b }) (pos (need overhead z))
   lies : any (λ e. ltb (e .place) b && ltb b (chunkEnd e) && eqb (rank (s .heap) (need overhead z) e) high) (shape (s .words) (s .heap .bytes)) ≡ true
-  serves : any (λ e. serves (s .heap .donor .0) (s .heap .top .0) (need overhead z) e && eqb (rank (s .heap) (need overhead z) e) low)
+  serves : any (λ e. serves (tableOf (s .heap)) (s .heap .donor .0) (s .heap .top .0) (need overhead z) e && eqb (rank (s .heap) (need overhead z) e) low)
       (shape (s .words) (s .heap .bytes)) ≡ true
 
 -- no way that keeps `Choice` does that
@@ -49,7 +49,7 @@ kept-in-turn way promised s z b high low o l =
     let (from, there, (lies, ranked)) =
     for-some (λ e. both (both (less (e .place) b) (less b (chunkEnd e))) (number-is (rank (s .heap) (need overhead z) e) high)) (shape (s .words) (s .heap .bytes)) .0 (o .lies) in
     let (other, on-chain, (can, lower)) =
-    for-some (λ e. both (itself (serves (s .heap .donor .0) (s .heap .top .0) (need overhead z) e)) (number-is (rank (s .heap) (need overhead z) e) low)) (shape (s .words) (s .heap .bytes)) .0
+    for-some (λ e. both (itself (serves (tableOf (s .heap)) (s .heap .donor .0) (s .heap .top .0) (need overhead z) e)) (number-is (rank (s .heap) (need overhead z) e) low)) (shape (s .words) (s .heap .bytes)) .0
     (o .serves) in
     omega (arith, lowest from there lies other on-chain can)
 
@@ -85,7 +85,7 @@ full-refused : donorForSmall (Allocate 32) (full .words) (full .heap) .answer �
 unfolding computes
 full-refused = refl
 
-full-serves : any (serves (full .heap .donor .0) (full .heap .top .0) (need overhead 32)) (shape (full .words) (full .heap .bytes)) ≡ true
+full-serves : any (serves (tableOf (full .heap)) (full .heap .donor .0) (full .heap .top .0) (need overhead 32)) (shape (full .words) (full .heap .bytes)) ≡ true
 unfolding computes serves
 full-serves = refl
 

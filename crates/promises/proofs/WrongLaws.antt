@@ -18,7 +18,7 @@ use Rattle.record.specs.declared.answers.Answer.the-variants.{Granted, Refused}
 use Rattle.record.specs.declared.answers.Refusal.the-variants.{NoRoom}
 use Rattle.record.specs.declared.heap.Heap.{Heap}
 use Rattle.record.specs.Answers.{figuresOf}
-use Rattle.record.specs.Heap.{empty}
+use Rattle.record.specs.Heap.{empty, tableOf}
 use Rattle.region.specs.declared.Block.{Block}
 use Rattle.rules.specs.Shape.{Entry, shape, binList, chunkEnd}
 use Rattle.rules.specs.Kinds.{live, overhead, blockOf}
@@ -63,17 +63,17 @@ unfolding computes
 seventh-passes = passing (afterCalls 7) refl
 
 -- some chunk of the fresh heap can serve 16 bytes
-fresh-serves : any (serves (afterCalls 0 .heap .donor .0) (afterCalls 0 .heap .top .0) (need overhead 16)) (shape (afterCalls 0 .words) (afterCalls 0 .heap .bytes)) ≡ true
+fresh-serves : any (serves (tableOf (afterCalls 0 .heap)) (afterCalls 0 .heap .donor .0) (afterCalls 0 .heap .top .0) (need overhead 16)) (shape (afterCalls 0 .words) (afterCalls 0 .heap .bytes)) ≡ true
 unfolding computes serves
 fresh-serves = refl
 
 -- no way that keeps `Room` refuses a permitted size for lack of room where some chunk can serve
 pub not-refused : (way : Way) → Room way → (s : State) → Passes (s .words) (s .heap) → (z : ℕ) → permitted z ≡ true
-    → any (serves (s .heap .donor .0) (s .heap .top .0) (need overhead z)) (shape (s .words) (s .heap .bytes)) ≡ true
+    → any (serves (tableOf (s .heap)) (s .heap .donor .0) (s .heap .top .0) (need overhead z)) (shape (s .words) (s .heap .bytes)) ≡ true
     → way (Allocate z) (s .words) (s .heap) .answer ≡ Refused NoRoom → ⊥
 not-refused way promised s p z q some refused =
     let none = promised (s .words) (s .heap) p .allocate z q .0 refused in
-    let (e, m, t) = for-some (λ x. itself (serves (s .heap .donor .0) (s .heap .top .0) (need overhead z) x)) (shape (s .words) (s .heap .bytes)) .0 some in
+    let (e, m, t) = for-some (λ x. itself (serves (tableOf (s .heap)) (s .heap .donor .0) (s .heap .top .0) (need overhead z) x)) (shape (s .words) (s .heap .bytes)) .0 some in
     false≢true (sym (none e m) ∙ t)
 
 -- an allocator that refuses always

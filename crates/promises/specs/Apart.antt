@@ -10,6 +10,7 @@ use lib.IntN.{ℤ}
 use Rattle.record.specs.declared.answers.Answer.the-variants.{Granted, Refused}
 use Rattle.record.specs.declared.answers.Refusal.{Refusal}
 use Rattle.record.specs.declared.heap.Heap.{Heap}
+use Rattle.record.specs.Heap.{tableOf}
 use Rattle.region.specs.declared.Block.{Block}
 use Rattle.region.specs.Words.{word}
 use Rattle.rules.specs.Shape.{Entry, chunkEnd}
@@ -61,7 +62,7 @@ NoOthers ws h b left =
 -- the chunk e has at least n bytes, lies inside a chunk of the old chain that can serve n, and overlaps no chunk of a live block
 pub record CutFrom (ws : List ℕ) (h : Heap) (n : ℕ) (e from : Entry) : Type 0 where
   pub member : OnChain ws h from
-  pub serves : serves (h .donor .0) (h .top .0) n from ≡ true
+  pub serves : serves (tableOf h) (h .donor .0) (h .top .0) n from ≡ true
   pub starts : from .place ≤ e .place
   pub ends : chunkEnd e ≤ chunkEnd from
   pub enough : n ≤ e .size

@@ -53,7 +53,7 @@ rank h n e = rankAs (inOwnBin h n e) (small (tableOf h) n) (kindOf h e)
 
 -- the chunk e can serve n
 abbrev can : Heap → ℕ → Entry → Bool
-can h n e = serves (h .donor .0) (h .top .0) n e
+can h n e = serves (tableOf h) (h .donor .0) (h .top .0) n e
 
 -- of a block at b that was granted for n: no chunk that can serve has a lower rank than the chunk `from` in which it lies
 abbrev pub LowestRank : List ℕ → Heap → ℕ → ℕ → Type 0

@@ -9,6 +9,7 @@ use Rattle.lists.specs.Lists.{Mem}
 use Rattle.record.specs.declared.answers.Answer.the-variants.{Refused}
 use Rattle.record.specs.declared.answers.Refusal.the-variants.{NoRoom}
 use Rattle.record.specs.declared.heap.Heap.{Heap}
+use Rattle.record.specs.Heap.{tableOf}
 use Rattle.rules.specs.Shape.{Entry, shape}
 use Rattle.rules.specs.Kinds.{live, overhead, blockOf}
 use Rattle.rules.specs.Check.{Passes}
@@ -29,7 +30,7 @@ pub record HoldsBlock (ws : List ℕ) (h : Heap) (b : ℕ) (e : Entry) : Type 0 
 -- no chunk of the chain can serve n
 abbrev pub NoneServes : List ℕ → Heap → ℕ → Type 0
 NoneServes ws h n =
-    (e : Entry) → OnChain ws h e → serves (h .donor .0) (h .top .0) n e ≡ false
+    (e : Entry) → OnChain ws h e → serves (tableOf h) (h .donor .0) (h .top .0) n e ≡ false
 
 -- the call is refused for lack of room exactly when no chunk can serve the need of z bytes
 abbrev pub OnlyForRoom : Way → Call → List ℕ → Heap → ℕ → Type 0

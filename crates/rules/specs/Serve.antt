@@ -31,9 +31,10 @@ abbrev pub permitted : ℕ → Bool
 permitted z = leb 1 z && leb z mostBytes
 
 -- The chunk e can serve n: ordinary with at least n bytes, the top or the donor with at least n + 24.
--- Only the entry and the places of donor and top decide it.
-unfoldable pub serves : ℕ → ℕ → ℕ → Entry → Bool
-serves donor top n e =
+-- Only the entry and the places of donor and top decide it. The table, which told the small n of document 01, is not looked at any
+-- more; it stays an argument so that the promises keep their texts.
+unfoldable pub serves : List ℕ → ℕ → ℕ → ℕ → Entry → Bool
+serves table donor top n e =
     not (inUse e)
     && cond (eqb (e .place) top || eqb (e .place) donor) (leb (n + least) (e .size)) (leb n (e .size))
 
