@@ -1,8 +1,10 @@
 -- The list functions that the rules are written in. Nothing here speaks of a heap.
+use mathlib.Core.Path.{_≡_}
+use mathlib.Core.Logic.{_⊎_}
 use mathlib.Core.Bool.{Bool, true, false, not, _&&_, _||_, cond}
 use mathlib.Core.List.{List, [], _∷_, _++_, List·Memᴰ}
-use Prim.Native.Nat.{ℕ, zero, suc, _+_}
-use lib.Dec.{eqb}
+use Prim.Native.Nat.{ℕ, zero, suc, _+_, _≤_}
+use lib.Dec.{eqb, leb}
 
 module _ {A : Type 0} where
   abbrev pub Mem : A → List A → Type 0
@@ -49,6 +51,25 @@ module _ {A : Type 0} where
   abbrev pub past : (A → Bool) → List A → List A
   past p [] = []
   past p (x ∷ xs) = cond (p x) xs (past p xs)
+
+  -- the first for which the test holds, and those after it
+  abbrev pub onFrom : (A → Bool) → List A → List A
+  onFrom p [] = []
+  onFrom p (x ∷ xs) = cond (p x) (x ∷ xs) (onFrom p xs)
+
+  -- x stands before y
+  abbrev pub Before : A → A → List A → Type 0
+  Before x y [] = ⊥
+  Before x y (z ∷ zs) = ((x ≡ z) × Mem y zs) ⊎ Before x y zs
+
+  -- in non-descending order of f: no member has more than one behind it
+  abbrev pub Ascending : (A → ℕ) → List A → Type 0
+  Ascending f [] = Unit {0}
+  Ascending f (x ∷ xs) = ((y : A) → Mem y xs → f x ≤ f y) × Ascending f xs
+
+  abbrev pub ascending : (A → ℕ) → List A → Bool
+  ascending f [] = true
+  ascending f (x ∷ xs) = every (λ y. leb (f x) (f y)) xs && ascending f xs
 
   -- no member occurs twice
   abbrev pub Distinct : List A → Type 0

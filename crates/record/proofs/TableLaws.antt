@@ -99,6 +99,10 @@ bin-taken (b ∷ bs) s = go (binOf bs s) (bin-taken bs s) (leb b s) refl
         above (suc j) hi = k j (omega arith)
 
 module _ (t : List ℕ) where
+  -- the bin that it computes takes the size
+  pub bin-takes : {s i : ℕ} → binOf t s ≡ Bin i → Takes t s i
+  bin-takes {s} e = subst (λ (r : Binned). TakenBy t s r) e (bin-taken t s)
+
   -- a larger size has no smaller bin; the sizes of a larger bin are larger
   pub bin-grows : {s u i j : ℕ} → Takes t s i → Takes t u j → s ≤ u → i ≤ j
   bin-grows {s} {u} {i} {j} a b h = go (decLe i j)
@@ -265,13 +269,21 @@ module _ (t : List ℕ) (v : ValidTable t) where
   pub bin-small : (s : ℕ) → 24 ≤ s → s < 24 + 8 * smallBins t → binOf t s ≡ Bin (s / 8 - 3)
   bin-small s lo hi = sym (bin-is t s (Bin (s / 8 - 3)) (division-takes s lo hi))
 
+  -- a bin of the small array takes one multiple of 8 only
+  pub one-size : {s i : ℕ} → Takes t s i → i < smallBins t → s % 8 ≡ 0 → s ≡ 24 + 8 * i
+  one-size {s} {i} k l z =
+      let m = small-bins-is t v in
+      let low = m .gapless i (omega arith) in
+      let high = m .gapless (suc i) (omega arith) in
+      omega (arith, k .notAbove, k .last (suc i) (omega arith) (omega (arith, m .below)))
+
   -- the comparison with two sizes decides which bin a size has
   pub takes-iff : (i s : ℕ) → Decides (takesBin t i s) (binOf t s ≡ Bin i)
   unfolding takesBin
   takes-iff i s =
       meaning (both (both (less i (length t)) (at-most (sizeAt t i) s)) (or-else (at-most (length t) (suc i)) (less s (sizeAt t (suc i)))))
       (λ ((inside, notAbove), next). sym (bin-is t s (Bin i) (record { inside = inside; notAbove = notAbove; last = λ j lo hi. above next j lo hi })))
-      (λ e. back (subst (λ (r : Binned). TakenBy t s r) e (bin-taken t s)))
+      (λ e. back (bin-takes t e))
     where
       above : (length t ≤ suc i) ⊎ (s < sizeAt t (suc i)) → (j : ℕ) → i < j → j < length t → s < sizeAt t j
       above (inl l) j lo hi = absurd (omega arith)
