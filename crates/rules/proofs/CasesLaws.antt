@@ -20,7 +20,7 @@ use Rattle.rules.specs.Merge.{setMerge, checked, check}
 use Rattle.rules.specs.Ask.{askChunk, askBin}
 use Rattle.rules.specs.Patrol.{skips, broken, nextOf, mends, patrolRun, patrol}
 use Rattle.rules.specs.Calls.{step, next}
-use Rattle.rules.specs.Cases.{cases, donorCases, caseHolds}
+use Rattle.rules.specs.Cases.{cases, donorCases, orderCases, caseHolds}
 
 -- `unfolding computes` opens every definition by which a call's outcome is computed
 unfoldable pub computes : ℕ
@@ -34,3 +34,7 @@ marked-cases = refl
 pub donor-cases : every caseHolds donorCases ≡ true
 unfolding computes caseHolds
 donor-cases = refl
+
+pub order-cases : every caseHolds orderCases ≡ true
+unfolding computes caseHolds
+order-cases = refl

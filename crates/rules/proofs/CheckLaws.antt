@@ -8,15 +8,16 @@ use lib.ListN.{length, getD}
 use lib.Seq.{length-take-le}
 use Rattle.lists.specs.Lists.{Mem, headOr, lastOr}
 use Rattle.lists.proofs.ListsLaws.{Decides, number-is, at-most, less, meaning, both, if-then, for-each, for-some, for-below, is-member, once, itself, zeros-from}
+use Rattle.lists.proofs.AscendingLaws.{ascending-iff}
 use Rattle.record.specs.declared.heap.Heap.{Heap}
 use Rattle.record.specs.declared.table.Binned.{Binned}
 use Rattle.record.specs.declared.table.Binned.the-variants.{Bin, NoBin}
 use Rattle.record.specs.Heap.{tableOf}
-use Rattle.record.specs.Table.{binOf}
+use Rattle.record.specs.Table.{binOf, smallBins}
 use Rattle.record.proofs.TableLaws.{valid-iff}
 use Rattle.region.specs.Words.{word, forward, backward, size, nextInBin, previousInBin, bin}
 use Rattle.rules.specs.Shape.{Entry, shape, binList, heapBytes, chunkEnd}
-use Rattle.rules.specs.Kinds.{ordinary, outside}
+use Rattle.rules.specs.Kinds.{ordinary, outside, sizeOn}
 use Rattle.rules.specs.Check.{Fits, fits, Tabled, tabled, Chained, chained, Ended, ended, Backed, backed, Sound, sound, Reserved, reserved, Linked, linked, isBin, BelongsTo, belongsTo, Listed, listed, inBin, usedBytes, PassesAs, Passes, passesAs, passes}
 
 -- the record's table has as many sizes as the record has bins
@@ -108,15 +109,16 @@ module _ (ws : List ℕ) (h : Heap) where
   listed-iff : (es : List Entry) (i : ℕ) (cs : List ℕ) → Decides (listed ws h es i cs) (Listed ws h es i cs)
   listed-iff es i cs =
       meaning
-      (both (both (both (both
+      (both (both (both (both (both
       (number-is (getD (h .tails) i 0) (lastOr 0 cs))
       (linked-iff 0 cs))
       (once cs))
       (for-each (λ c. for-some (λ e. both (number-is (e .place) c) (belongs-iff i e)) es) cs))
       (for-each (λ c. number-is (word ws c bin) (8 * i)) cs))
-      (λ ((((tail, links), once), chunks), words).
-      record { tail = tail; links = links; once = once; chunks = chunks; words = words })
-      (λ f. ((((f .tail, f .links), f .once), f .chunks), f .words))
+      (if-then (at-most (smallBins (tableOf h)) i) (ascending-iff (sizeOn es) cs)))
+      (λ (((((tail, links), once), chunks), words), order).
+      record { tail = tail; links = links; once = once; chunks = chunks; words = words; order = order })
+      (λ f. (((((f .tail, f .links), f .once), f .chunks), f .words), f .order))
 
   in-bin-iff : (c : ℕ) (r : Binned)
       → Decides (inBin ws h c r) ((i : ℕ) × (r ≡ Bin i) × ((i < h .bins) × Mem c (binList ws h i)))

@@ -134,6 +134,7 @@ module _ {ws ws′ : List ℕ} {h : Heap} (p : Passes ws h) (same : (e : Entry) 
         once = s .once;
         chunks = s .chunks;
         words = λ c m. sym (member-word i l c m bin (omega arith)) ∙ s .words c m;
+        order = s .order;
       }
 
   passes-as-same : Fits ws′ h → PassesAs ws′ h es

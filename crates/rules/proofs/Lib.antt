@@ -6,6 +6,7 @@ pub mod CheckLaws
 pub mod OutcomeLaws
 pub mod TiledLaws
 pub mod SpotLaws
+pub mod OrderLaws
 pub mod NamedLaws
 pub mod HeadersLaws
 pub mod EvenLaws

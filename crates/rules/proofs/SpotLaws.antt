@@ -14,10 +14,9 @@ use Rattle.lists.proofs.SplitLaws.{begins-with, ends-with, in-split, split-seco
 use Rattle.record.specs.declared.heap.Heap.{Heap}
 use Rattle.region.specs.Words.{word, forward, backward}
 use Rattle.rules.specs.Shape.{Entry, flagsAt, shape, chunkEnd}
-use Rattle.rules.specs.Kinds.{live, isAt, outside}
+use Rattle.rules.specs.Kinds.{live, isAt, outside, sizeOn}
 use Rattle.rules.specs.Check.{Backed, Passes}
 use Rattle.rules.specs.Draft.{spot}
-use Rattle.rules.specs.Serve.{sizeOn}
 use Rattle.rules.proofs.ChainLaws.{same-place, shape-chain}
 use Rattle.rules.proofs.TiledLaws.{Tiled, Forwards, chain-tiled, tiled-cut, tiled-up, tiled-in, tiled-apart, tiled-eights, tiled-empty, tiled-few, tiled-some}
 

@@ -1,5 +1,5 @@
 -- The fourteen proved cases (document 01, "The demonstration" and "Both sides") as one table:
--- the region, the calls before, the call, and every fact that the document states of it. Then cases of our own for the donor.
+-- the region, the calls before, the call, and every fact that the document states of it. Then cases of our own for the donor and for the order in bins.
 use mathlib.Core.Bool.{Bool, true, false, cond, _&&_}
 use mathlib.Core.List.{List, [], _∷_}
 use Prim.Native.Nat.{ℕ, _-_}
@@ -17,7 +17,7 @@ use Rattle.rules.specs.Shape.{shape, binList}
 use Rattle.rules.specs.Kinds.{kindOf}
 use Rattle.rules.specs.Check.{passes}
 use Rattle.rules.specs.Outcome.{Outcome}
-use Rattle.rules.specs.Calls.{Call, Setup, Allocate, Free, Reallocate, step, State, run}
+use Rattle.rules.specs.Calls.{Call, Setup, Allocate, Free, Reallocate, SetMerge, step, State, run}
 
 -- what the document states of a case
 pub data Fact : Type 0 where
@@ -106,6 +106,19 @@ donorCases =
     ∷ given 64 (opening ∷ Allocate 112 ∷ []) (Allocate 32)
     (Gives 16 (pos 40) ∷ Chunk 8 40 InUse ∷ Chunk 48 24 Donor ∷ Chunk 192 56 Top ∷ Sound ∷ [])
     ∷ given 64 (opening ∷ Allocate 112 ∷ []) (Allocate 33) (Refuses 7 ∷ [])
+    ∷ []
+
+-- The order in bin 2, which is outside the small array (document 02, request Five), with merging off: a freed chunk of 40 bytes goes before one of
+-- 48, and behind one of 40; the rest of a cut and the tail of a resize, 48 bytes each, go before a chunk of 104. The small bin 1 is last in, first out
+abbrev pub orderCases : List Case
+orderCases =
+    given 64 (opening ∷ Allocate 40 ∷ Allocate 32 ∷ SetMerge false ∷ Free 80 ∷ []) (Free 128) (Bin 2 (120 ∷ 72 ∷ []) ∷ Sound ∷ [])
+    ∷ given 64 (opening ∷ Allocate 32 ∷ Allocate 32 ∷ SetMerge false ∷ Free 80 ∷ []) (Free 120) (Bin 2 (72 ∷ 112 ∷ []) ∷ Sound ∷ [])
+    ∷ given 128 (opening ∷ Allocate 96 ∷ Allocate 96 ∷ SetMerge false ∷ Free 80 ∷ Free 184 ∷ []) (Allocate 48)
+    (Chunk 128 48 Ordinary ∷ Bin 2 (128 ∷ 176 ∷ []) ∷ Sound ∷ [])
+    ∷ given 128 (opening ∷ Allocate 96 ∷ Allocate 96 ∷ SetMerge false ∷ Free 184 ∷ []) (Reallocate 80 48)
+    (Chunk 128 48 Ordinary ∷ Bin 2 (128 ∷ 176 ∷ []) ∷ Sound ∷ [])
+    ∷ given 64 (opening ∷ Allocate 24 ∷ Allocate 24 ∷ SetMerge false ∷ Free 16 ∷ []) (Free 80) (Bin 1 (72 ∷ 8 ∷ []) ∷ Sound ∷ [])
     ∷ []
 
 -- Tests of facts.

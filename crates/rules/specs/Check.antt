@@ -6,16 +6,16 @@ use mathlib.Core.List.{List, [], _∷_}
 use Prim.Native.Nat.{ℕ, _+_, _*_, _%_, _≤_, _<_}
 use lib.Dec.{eqb, leb, ltb}
 use lib.ListN.{length, getD, drop}
-use Rattle.lists.specs.Lists.{Mem, headOr, lastOr, every, any, keep, total, numbersFrom, Distinct, distinct}
+use Rattle.lists.specs.Lists.{Mem, headOr, lastOr, every, any, keep, total, numbersFrom, Distinct, distinct, Ascending, ascending}
 use Rattle.record.specs.declared.answers.Counts.{Counts}
 use Rattle.record.specs.declared.heap.Heap.{Heap}
 use Rattle.record.specs.declared.table.Binned.{Binned}
 use Rattle.record.specs.declared.table.Binned.the-variants.{Bin, NoBin}
 use Rattle.record.specs.Heap.{places, tableOf}
-use Rattle.record.specs.Table.{least, ValidTable, validTable, binOf}
+use Rattle.record.specs.Table.{least, ValidTable, validTable, binOf, smallBins}
 use Rattle.region.specs.Words.{word, forward, backward, size, nextInBin, previousInBin, bin}
 use Rattle.rules.specs.Shape.{Entry, shape, binList, heapBytes, chunkEnd}
-use Rattle.rules.specs.Kinds.{used, unused, endSize, ordinary, isFree, live, outside}
+use Rattle.rules.specs.Kinds.{used, unused, endSize, ordinary, isFree, live, outside, sizeOn}
 
 -- The region has 10 to 16,384 words, and the record has the heap bytes of that length.
 abbrev pub fewestWords : ℕ
@@ -158,19 +158,22 @@ abbrev pub belongsTo : Heap → ℕ → Entry → Bool
 belongsTo h i e = ordinary h e && isBin i (binOf (tableOf h) (e .size))
 
 -- The list cs of bin i: doubly linked, its last member at the tail; no member twice; each member an ordinary chunk of the chain
--- that belongs to bin i, as its bin word says. (No field for the head: `binList` begins there.)
+-- that belongs to bin i, as its bin word says; outside the small array in non-descending order of size (document 02, request Five).
+-- (No field for the head: `binList` begins there.)
 pub record Listed (ws : List ℕ) (h : Heap) (es : List Entry) (i : ℕ) (cs : List ℕ) : Type 0 where
   pub tail : getD (h .tails) i 0 ≡ lastOr 0 cs
   pub links : Linked ws 0 cs
   pub once : Distinct cs
   pub chunks : (c : ℕ) → Mem c cs → (e : Entry) × Mem e es × ((e .place ≡ c) × BelongsTo h i e)
   pub words : (c : ℕ) → Mem c cs → word ws c bin ≡ 8 * i
+  pub order : smallBins (tableOf h) ≤ i → Ascending (sizeOn es) cs
 
 abbrev pub listed : List ℕ → Heap → List Entry → ℕ → List ℕ → Bool
 listed ws h es i cs =
     eqb (getD (h .tails) i 0) (lastOr 0 cs) && linked ws 0 cs && distinct cs
     && every (λ c. any (λ e. eqb (e .place) c && belongsTo h i e) es) cs
     && every (λ c. eqb (word ws c bin) (8 * i)) cs
+    && (not (leb (smallBins (tableOf h)) i) || ascending (sizeOn es) cs)
 
 -- The chunk e is in the list of the bin that takes its size.
 abbrev pub InItsBin : List ℕ → Heap → Entry → Type 0

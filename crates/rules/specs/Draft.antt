@@ -5,7 +5,7 @@ use mathlib.Core.List.{List, [], _∷_, _++_}
 use Prim.Native.Nat.{ℕ, _+_, _*_, _-_}
 use lib.Dec.{eqb, ltb}
 use lib.ListN.{set}
-use Rattle.lists.specs.Lists.{headOr, lastOr, keep, upTo, past}
+use Rattle.lists.specs.Lists.{headOr, lastOr, keep, upTo, past, onFrom}
 use Rattle.record.specs.declared.heap.Heap.{Heap}
 use Rattle.record.specs.declared.table.Binned.{Binned}
 use Rattle.record.specs.declared.table.Binned.the-variants.{Bin, NoBin}
@@ -15,7 +15,7 @@ use Rattle.region.specs.Words.{Store, put, forward, backward, size, nextInBin, 
 use Rattle.record.specs.declared.kinds.Kind.{Kind}
 use Rattle.record.specs.declared.kinds.Kind.the-variants.{Start, InUse, Ordinary, Donor, Top, End}
 use Rattle.rules.specs.Shape.{Entry, shape, binList, chunkEnd}
-use Rattle.rules.specs.Kinds.{unused, outside}
+use Rattle.rules.specs.Kinds.{unused, outside, sizeOn}
 
 -- the stores stand in the order in which they are made
 pub record Draft : Type 0 where
@@ -97,12 +97,19 @@ unfoldable pub putBetween : ℕ → List ℕ → ℕ → List ℕ → Draft → 
 putBetween i xs c ys d =
     relist i (xs ++ c ∷ ys) (meet xs (c ∷ []) ++ meet (c ∷ []) ys ++ put c bin (8 * i) ∷ []) d
 
--- put at the head in a bin of the small array (last in, first out), at the tail in any other (first in, first out)
-unfoldable pub putInto : ℕ → ℕ → Draft → Draft
-putInto i c d =
+-- the chunk at c is larger than the chunk e
+abbrev pub larger : List Entry → Entry → ℕ → Bool
+larger es e c = ltb (e .size) (sizeOn es c)
+
+-- the chunk e is put into bin i: at the head of a bin of the small array (last in, first out); in any other before the first larger chunk,
+-- and so behind those of equal size (document 02, request Five)
+unfoldable pub putInto : ℕ → Entry → Draft → Draft
+putInto i e d =
+    let cs = d .lists i in
+    let isLarger = larger (d .chain) e in
     cond (ltb i (smallBins (tableOf (d .heap))))
-    (putBetween i [] c (d .lists i) d)
-    (putBetween i (d .lists i) c [] d)
+    (putBetween i [] (e .place) cs d)
+    (putBetween i (upTo isLarger cs) (e .place) (onFrom isLarger cs) d)
 
 -- a chunk leaves the bin that `binOf` answered, if it answered one
 abbrev pub leaves : Entry → Binned → Draft → Draft
@@ -115,7 +122,7 @@ leaveBin e d = leaves e (binOf (tableOf (d .heap)) (e .size)) d
 
 -- a chunk is put into the bin that `binOf` answered; without one the draft notes it, for refusal 9
 abbrev pub isPut : Entry → Binned → Draft → Draft
-isPut e (Bin i) d = putInto i (e .place) d
+isPut e (Bin i) d = putInto i e d
 isPut e NoBin d =
     record { heap = d .heap; chain = d .chain; lists = d .lists; stores = d .stores; noBinTakes = true }
 

@@ -1,8 +1,10 @@
 -- The kind of a chunk, and its block (document 01, "Words, chunks, blocks").
 -- The eight bytes between a chunk's place and its block's stand in `overhead` and nowhere else in the rules.
 use mathlib.Core.Bool.{Bool, true, false, cond}
+use mathlib.Core.List.{List}
 use Prim.Native.Nat.{ℕ, _+_, _-_, _/_, _%_}
 use lib.Dec.{eqb}
+use Rattle.lists.specs.Lists.{headOr, keep}
 use Rattle.record.specs.declared.heap.Heap.{Heap}
 use Rattle.record.specs.declared.kinds.Kind.{Kind}
 use Rattle.record.specs.declared.kinds.Kind.the-variants.{Start, InUse, Ordinary, Donor, Top, End}
@@ -95,3 +97,7 @@ holdsBlock h b e = cond (live h e) (eqb (blockOf e) b) false
 -- the entry that stands in where a list has no chunk: it is marked in use, so nothing joins it, and holds no bytes
 abbrev pub outside : Entry
 outside = entry 0 0 used
+
+-- the size of the chunk at c, read from the chain
+abbrev pub sizeOn : List Entry → ℕ → ℕ
+sizeOn es c = headOr outside (keep (isAt c) es) .size

@@ -13,7 +13,7 @@ use Rattle.record.specs.declared.table.Binned.the-variants.{Bin, NoBin}
 use Rattle.record.specs.Heap.{at, tableOf}
 use Rattle.record.specs.Table.{least, small, binOf}
 use Rattle.rules.specs.Shape.{Entry}
-use Rattle.rules.specs.Kinds.{inUse, isAt, outside}
+use Rattle.rules.specs.Kinds.{inUse, sizeOn}
 
 -- rounded up to a multiple of 8
 abbrev pub upToEight : ℕ → ℕ
@@ -41,10 +41,6 @@ serves table donor top n e =
 -- the chunk at c as a source; 0 means that the list had none
 abbrev pub fromBin : ℕ → Source
 fromBin c = cond (eqb c 0) Nowhere (FromBin (at c))
-
--- the size of the chunk at c, read from the chain
-abbrev pub sizeOn : List Entry → ℕ → ℕ
-sizeOn es c = headOr outside (keep (isAt c) es) .size
 
 -- first fit: the first chunk of a list, in list order, that has at least n bytes
 abbrev pub firstFit : List Entry → ℕ → List ℕ → Source
