@@ -29,7 +29,7 @@ use Rattle.drafts.proofs.LayoutLaws.{Beside, Laid, Layout, outer-beside
 use Rattle.drafts.proofs.OpenLaws.{InnerChunk, whole, laid-out, elsewhere, beside, lows, highs, opens-kept, opens-left, top-outer, donor-outer}
 use Rattle.drafts.proofs.HalfwayLaws.{Opened, Closed, closes}
 use Rattle.drafts.proofs.WaitingLaws.{Waiting, Finished, takes-bin, takes-donor, takes-top, waiting-done}
-use Rattle.drafts.proofs.CutLaws.{FreeChunk, Cutting, PartIn, restOf, parts-tiled, granted-among, rest-among, chunks-among, rest-once, part-in, lives-parts, rest-none, rest-above}
+use Rattle.drafts.proofs.CutLaws.{FreeChunk, Cutting, PartIn, restOf, parts-tiled, granted-among, rest-among, chunks-among, rest-once, rest-smaller, part-in, lives-parts, rest-none, rest-above}
 
 -- a free chunk e; the chain is split there
 module _ {ws : List ℕ} {h : Heap} {low : List Entry} {e : Entry} {high : List Entry} (chunk : FreeChunk ws h low e high) where
@@ -75,6 +75,17 @@ module _ {ws : List ℕ} {h : Heap} {low : List Entry} {e : Entry} {high : List 
         go (inl b) = let i = lies x m .large in omega arith
         go (inr b) = let i = lies x m .large in omega arith
 
+    -- nor was a free part a chunk before: it is smaller than e
+    not-there : (x : Entry) → Mem x (restOf parts) → Mem x (shape ws (h .bytes)) → ⊥
+    not-there x m k = go (among low (e ∷ []) high (subst (λ (l : List Entry). Mem x l) (whole inner) k))
+      where
+        go : Mem x (low ++ high) ⊎ Mem x (e ∷ []) → ⊥
+        go (inl o) = not-outer x (rest-among c x m .0) o
+        go (inr o) =
+            let s = ap (λ (y : Entry). y .size) (List·Memᴰ·eq-of-singleton o) in
+            let l = rest-smaller c (omega arith) x m in
+            omega arith
+
     pub cut-waits : {d : Draft} → Opened ws h low e e high d
         → Waiting ws h h (low ++ high) (restOf parts) cutChain (relink low (chunksOf parts) high d)
     cut-waits {d} o =
@@ -91,6 +102,7 @@ module _ {ws : List ℕ} {h : Heap} {low : List Entry} {e : Entry} {high : List 
           stays = λ x m. outer-in low (chunksOf parts) high m;
           waits = λ x m. let r = rest-among c x m in (middle-in low (chunksOf parts) high (r .0), r .1);
           apart = λ x m k. not-outer x (rest-among c x m .0) k;
+          fresh = not-there;
           once = rest-once c (omega arith);
           others = λ x m. others x (among low (chunksOf parts) high m);
         }
@@ -167,7 +179,7 @@ module _ {ws : List ℕ} {h : Heap} {low : List Entry} {e : Entry} {high : List 
         record { top = top-outer inner (o .notTop); donor = donor-outer inner (o .notDonor) }
 
     -- nothing is left of e
-    wholly-done : above .size ≡ 0 → kindOf h e ≡ Ordinary → Finished ws grantChain (nowUses 0 (granted .size) (linked Ordinary))
+    wholly-done : above .size ≡ 0 → kindOf h e ≡ Ordinary → Finished ws h grantChain (nowUses 0 (granted .size) (linked Ordinary))
     wholly-done z kind =
         waiting-done well
         (subst (λ (l : List Entry). Waiting ws h h (low ++ high) l grantChain (linked Ordinary)) (rest-none c z) (waits (opens Ordinary kind refl)))
@@ -185,7 +197,7 @@ module _ {ws : List ℕ} {h : Heap} {low : List Entry} {e : Entry} {high : List 
       one-waits k kind f =
           subst (λ (l : List Entry). Waiting ws h h (low ++ high) l grantChain (linked k)) (rest-above c some) (waits (opens k kind f))
 
-      partly-ordinary : kindOf h e ≡ Ordinary → Finished ws grantChain (nowUses 0 (granted .size) (settle Ordinary above (linked Ordinary)))
+      partly-ordinary : kindOf h e ≡ Ordinary → Finished ws h grantChain (nowUses 0 (granted .size) (settle Ordinary above (linked Ordinary)))
       partly-ordinary kind =
           waiting-done well (takes-bin well (one-waits Ordinary kind refl) (ordinary-posts kind)) (posts-in stays (ordinary-posts kind)) (λ c. c) still-placed 0
           (granted .size) counted
@@ -213,7 +225,7 @@ module _ {ws : List ℕ} {h : Heap} {low : List Entry} {e : Entry} {high : List 
                 let l = lies c refl no-skip eight large above above-in .large in
                 omega arith
 
-        partly-donor : Finished ws grantChain (nowUses 0 (granted .size) (settle Donor above (linked Donor)))
+        partly-donor : Finished ws h grantChain (nowUses 0 (granted .size) (settle Donor above (linked Donor)))
         partly-donor =
             waiting-done well
             (takes-donor well (one-waits Donor kind refl) (λ x m q. elsewhere inner x m (q ∙ sym was-donor)) below-top)
@@ -228,7 +240,7 @@ module _ {ws : List ℕ} {h : Heap} {low : List Entry} {e : Entry} {high : List 
         was-top : IsTop ws h (shape ws (h .bytes)) e
         was-top = is-top ws h well e member (being-as h e Top kind .3)
 
-        partly-top : Finished ws grantChain (nowUses 0 (granted .size) (settle Top above (linked Top)))
+        partly-top : Finished ws h grantChain (nowUses 0 (granted .size) (settle Top above (linked Top)))
         partly-top =
             let r = was-top .reaches in
             let q = was-top .place in
@@ -246,19 +258,19 @@ module _ {ws : List ℕ} {h : Heap} {low : List Entry} {e : Entry} {high : List 
 
     -- for each kind of e; of donor and top at least 24 bytes are left
     pub cut-done : (k : Kind) → kindOf h e ≡ k → freeKind k ≡ true → (ordinaryKind k ≡ false → n + 24 ≤ e .size)
-        → Finished ws grantChain (nowUses 0 (granted .size) (settled k))
+        → Finished ws h grantChain (nowUses 0 (granted .size) (settled k))
     cut-done k kind f spare = go (eqb (above .size) 0) refl
       where
         too-near : above .size ≡ 0 → n + 24 ≤ e .size → ⊥
         too-near z l = let m = c .near z in omega arith
 
-        go : (t : Bool) → eqb (above .size) 0 ≡ t → Finished ws grantChain (nowUses 0 (granted .size) (cond t (linked k) (settle k above (linked k))))
+        go : (t : Bool) → eqb (above .size) 0 ≡ t → Finished ws h grantChain (nowUses 0 (granted .size) (cond t (linked k) (settle k above (linked k))))
         go true t =
             let z = eqb-true (above .size) 0 t in
             free-kinds
-            (λ k. kindOf h e ≡ k → (ordinaryKind k ≡ false → n + 24 ≤ e .size) → Finished ws grantChain (nowUses 0 (granted .size) (linked k)))
+            (λ k. kindOf h e ≡ k → (ordinaryKind k ≡ false → n + 24 ≤ e .size) → Finished ws h grantChain (nowUses 0 (granted .size) (linked k)))
             (λ q s. wholly-done z q) (λ q s. absurd (too-near z (s refl))) (λ q s. absurd (too-near z (s refl))) k f kind spare
         go false t =
             let some = eqb-false (above .size) 0 t in
-            free-kinds (λ k. kindOf h e ≡ k → Finished ws grantChain (nowUses 0 (granted .size) (settle k above (linked k))))
+            free-kinds (λ k. kindOf h e ≡ k → Finished ws h grantChain (nowUses 0 (granted .size) (settle k above (linked k))))
             (partly-ordinary some) (partly-donor some) (partly-top some) k f kind

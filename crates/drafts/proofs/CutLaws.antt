@@ -155,6 +155,14 @@ module _ {e : Entry} {skip n : ℕ} {p : Parts} (c : Cutting e skip n p) where
           let q = ap (λ (y : Entry). y .place) (List·Memᴰ·eq-of-singleton m) in
           omega arith
 
+  -- a free part is smaller than the whole
+  pub rest-smaller : 0 < n → (x : Entry) → Mem x (restOf p) → x .size < e .size
+  rest-smaller some x m = go (kept-from there (p .below ∷ p .above ∷ []) m .0)
+    where
+      go : Mem x (p .below ∷ p .above ∷ []) → x .size < e .size
+      go (List·Memᴰ·head q) = let s = ap (λ (y : Entry). y .size) q in omega arith
+      go (List·Memᴰ·tail k) = let s = ap (λ (y : Entry). y .size) (List·Memᴰ·eq-of-singleton k) in omega arith
+
   -- all figures are multiples of 8, and the part below is empty or large enough for a chunk
   module _ (place : e .place % 8 ≡ 0) (size : e .size % 8 ≡ 0) (skips : skip % 8 ≡ 0) (room : 0 < skip → 24 ≤ skip) (eight : n % 8 ≡ 0) (large : 24 ≤ n) where
     granted-in : PartIn e (p .granted)
@@ -215,6 +223,11 @@ wholly k low e high d =
 module _ (k : Kind) (low : List Entry) (e : Entry) (high : List Entry) {n : ℕ} (d : Draft) (large : 24 ≤ n) where
   abbrev pub ruledCut : Grant
   ruledCut = grantAt k (record { low = low; here = e; high = high }) n d
+
+  pub cut-in-two : n + 24 ≤ e .size → chunksOf (cut e 0 n) ≡ entry (e .place) n used ∷ entry (e .place + n) (e .size - n) unused ∷ []
+  unfolding cut
+  cut-in-two l =
+      rw (add-zero (e .place), sub-zero (e .size), le-leb (n + 24) (e .size) l, ne-eqb n 0 (λ z. omega arith), ne-eqb (e .size - n) 0 (λ z. omega arith))
 
   pub grants-part : n + 24 ≤ e .size → ruledCut ≡ partly k low e high n d
   unfolding grantAt cut

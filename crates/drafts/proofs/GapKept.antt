@@ -24,10 +24,10 @@ use Rattle.drafts.proofs.LivesLaws.{lives, lives-free}
 use Rattle.drafts.proofs.PostsLaws.{TopAmong, DonorAmong, Posts, top-at, donor-at, top-in, donor-in, posts-in}
 use Rattle.drafts.proofs.LayoutLaws.{Beside, cuts, outer-beside}
 use Rattle.drafts.proofs.HalfwayLaws.{Closed, closes}
-use Rattle.drafts.proofs.PictureLaws.{Pictured}
-use Rattle.drafts.proofs.WaitingLaws.{Waiting, Finished, takes-bin, takes-donor, takes-top, waiting-done}
-use Rattle.drafts.proofs.JoinLaws.{sees, joinedBy, joining-sees, sees-ordinary, givenBack, inside-moves, outside-stays}
-use Rattle.drafts.proofs.GapLaws.{gapChunk, Placed, Gap, posts-stay, below-laid, below-joins, above-laid, gap-around, above-joins, above-widens, above-apart, above-higher, above-else}
+use Rattle.drafts.proofs.PictureLaws.{Pictured, StaysQueued}
+use Rattle.drafts.proofs.WaitingLaws.{Waiting, Finished, MembersSized, waiting-sized, takes-bin, takes-donor, takes-top, waiting-done}
+use Rattle.drafts.proofs.JoinLaws.{sees, joinedBy, joining-sees, sees-ordinary, linkedBack, givenBack, inside-moves, outside-stays}
+use Rattle.drafts.proofs.GapLaws.{gapChunk, Placed, crossed-fresh, Gap, posts-stay, below-laid, below-joins, above-laid, gap-around, above-joins, above-widens, above-apart, above-higher, above-else}
 
 -- a neighbour that joining sees as free has the kind that it sees
 sees-kind : (t : Bool) (k : Kind) → freeKind (cond t k InUse) ≡ true → k ≡ cond t k InUse
@@ -46,9 +46,12 @@ unfolding release
 release-is h low part high d heap =
     ap (λ (k : Heap). givenBack (joining k low part high) d) heap ∙ ap (λ (j : Joined). givenBack j d) (joining-sees low part high h)
 
--- what giving back leaves: a picture of the heap whose live chunks are those of `base`
-pub record GivenBack (ws : List ℕ) (h : Heap) (base : List Entry) (after : Draft) : Type 0 where
+-- what giving back leaves: a picture of the heap whose live chunks are those of `base`. In the draft `linked` the gap is filled, and the chunk
+-- that fills it has still to settle
+pub record GivenBack (ws : List ℕ) (h : Heap) (base : List Entry) (linked after : Draft) : Type 0 where
+  pub sized : MembersSized ws h linked
   pub pictured : Pictured ws after
+  pub queued : StaysQueued ws h after
   pub alive : lives h (after .chain) ≡ lives h base
 
 -- where `gone` bytes are no longer used and `new` bytes are, the used bytes are those of `base`
@@ -103,6 +106,7 @@ module _ {ws : List ℕ} {h : Heap} {base : List Entry} (p : Passes ws h) (gone 
           stays = stays;
           waits = λ x m. rw (List·Memᴰ·eq-of-singleton m) (there, refl);
           apart = λ x m k. not-outer (rw (List·Memᴰ·eq-of-singleton m) at k);
+          fresh = λ x m k. crossed-fresh p (g .crossed) (rw (List·Memᴰ·eq-of-singleton m) at k);
           once = ((λ m. List·Memᴰ·not-nil m), tt);
           others = λ x m. others x (among low (fill ∷ []) high m);
         }
@@ -118,8 +122,14 @@ module _ {ws : List ℕ} {h : Heap} {base : List Entry} (p : Passes ws h) (gone 
     counted : h .used + new - gone ≡ usedBytes h chain
     counted = count ∙ ap (total (λ (e : Entry). e .size)) (sym same-lives)
 
-    ends : {after : Draft} → Finished ws chain after → GivenBack ws h base after
-    ends f = record { pictured = f .pictured; alive = ap (lives h) (f .chain) ∙ same-lives }
+    ends : {after : Draft} → Finished ws h chain after → GivenBack ws h base linked after
+    ends f =
+        record {
+          sized = waiting-sized fill-waits;
+          pictured = f .pictured;
+          queued = f .queued;
+          alive = ap (lives h) (f .chain) ∙ same-lives;
+        }
 
     -- a patrol's place in the gap moves down to the chunk that fills it; any other stays
     filled-place : IsChunk chain (movedDown fill (h .patrol .0))
@@ -141,13 +151,13 @@ module _ {ws : List ℕ} {h : Heap} {base : List Entry} (p : Passes ws h) (gone 
     filledAs k = nowUses gone new (swallowing fill (settle k fill linked))
 
     -- it goes to its bin; donor and top are other chunks
-    pub fills-bin : Posts h (low ++ high) → GivenBack ws h base (filledAs Ordinary)
+    pub fills-bin : Posts h (low ++ high) → GivenBack ws h base linked (filledAs Ordinary)
     fills-bin posts =
         ends (waiting-done p (takes-bin p fill-waits posts) (posts-in stays posts) (movedDown fill) filled-place gone new counted)
 
     -- it becomes the donor, in place of the old one
     pub fills-donor : ((x : Entry) → Mem x (low ++ high) → x .place ≢ h .donor .0) → from < h .top .0 → TopAmong (h .bytes) (h .top .0) (low ++ high)
-        → GivenBack ws h base (filledAs Donor)
+        → GivenBack ws h base linked (filledAs Donor)
     fills-donor else below top =
         ends
         (waiting-done p (takes-donor p fill-waits else below)
@@ -156,7 +166,7 @@ module _ {ws : List ℕ} {h : Heap} {base : List Entry} (p : Passes ws h) (gone 
 
     -- it becomes the top, in place of the old one
     pub fills-top : ((x : Entry) → Mem x (low ++ high) → x .place ≢ h .top .0) → chunkEnd fill + 8 ≡ h .bytes
-        → (0 < h .donor .0 → DonorAmong (h .donor .0) from (low ++ high)) → GivenBack ws h base (filledAs Top)
+        → (0 < h .donor .0 → DonorAmong (h .donor .0) from (low ++ high)) → GivenBack ws h base linked (filledAs Top)
     fills-top else reaches donor =
         ends
         (waiting-done p (takes-top p fill-waits else)
@@ -189,7 +199,8 @@ module _ {ws : List ℕ} {h : Heap} {base : List Entry} (p : Passes ws h) (gone 
 
     -- that chunk is ordinary
     joins-ordinary : above .flags ≡ 0 → kindOf h above ≡ Ordinary
-        → GivenBack ws h base (nowUses gone new (swallowing (gapChunk from (chunkEnd above)) (settle Ordinary (gapChunk from (chunkEnd above)) (joined (leaveBin above d)))))
+        → GivenBack ws h base (joined (leaveBin above d))
+        (nowUses gone new (swallowing (gapChunk from (chunkEnd above)) (settle Ordinary (gapChunk from (chunkEnd above)) (joined (leaveBin above d)))))
     joins-ordinary free q =
         let o = ap ordinaryKind q in
         fills-bin (above-joins opened free o)
@@ -201,7 +212,7 @@ module _ {ws : List ℕ} {h : Heap} {base : List Entry} (p : Passes ws h) (gone 
 
       -- it is the donor
       joins-donor : ordinary h above ≡ false → 0 < h .donor .0 → above .place ≡ h .donor .0
-          → GivenBack ws h base (nowUses gone new (swallowing (gapChunk from (chunkEnd above)) (settle Donor (gapChunk from (chunkEnd above)) (joined d))))
+          → GivenBack ws h base (joined d) (nowUses gone new (swallowing (gapChunk from (chunkEnd above)) (settle Donor (gapChunk from (chunkEnd above)) (joined d))))
       joins-donor o some q =
           let t = posted .top in
           let b = posted .donor some .below in
@@ -215,7 +226,7 @@ module _ {ws : List ℕ} {h : Heap} {base : List Entry} (p : Passes ws h) (gone 
 
       -- it is the top
       joins-top : ordinary h above ≡ false → above .place ≡ h .top .0
-          → GivenBack ws h base (nowUses gone new (swallowing (gapChunk from (chunkEnd above)) (settle Top (gapChunk from (chunkEnd above)) (joined d))))
+          → GivenBack ws h base (joined d) (nowUses gone new (swallowing (gapChunk from (chunkEnd above)) (settle Top (gapChunk from (chunkEnd above)) (joined d))))
       joins-top o q =
           let t = posted .top in
           fills-top wide (λ x m z. above-apart opened free x m (z ∙ sym q))
@@ -246,11 +257,8 @@ module _ {ws : List ℕ} {h : Heap} {base : List Entry} (p : Passes ws h) (gone 
     flags-small = above-laid opened .flags
 
     joins-above : (k : Kind) → (freeKind k ≡ true → kindOf h above ≡ k) → let end = cond (freeKind k) (chunkEnd above) to in
-        GivenBack ws h base
-        (nowUses gone new
-        (swallowing (gapChunk from end)
-        (settle (joinedAs k) (gapChunk from end)
-        (relink low (gapChunk from end ∷ []) (cond (freeKind k) beyond high) (leaveBins (cond (ordinaryKind k) (above ∷ []) []) d)))))
+        let closed = relink low (gapChunk from end ∷ []) (cond (freeKind k) beyond high) (leaveBins (cond (ordinaryKind k) (above ∷ []) []) d) in
+        GivenBack ws h base closed (nowUses gone new (swallowing (gapChunk from end) (settle (joinedAs k) (gapChunk from end) closed)))
     joins-above Ordinary q =
         let b = being-as h above Ordinary (q refl) in
         let f = flags-small in
@@ -297,9 +305,9 @@ module _ {ws : List ℕ} {h : Heap} {base : List Entry} (p : Passes ws h) (gone 
               (subst (λ (l : List Entry). Posts h (l ++ high)) low-is posts);
         }
 
-    pub gap-given : GivenBack ws h base (nowUses gone new (release lows part high d))
+    pub gap-given : GivenBack ws h base (linkedBack (joining h lows part high) d) (nowUses gone new (release lows part high d))
     gap-given =
         let over : Kind = sees h (headOr outside high) in
         let r = joins-below (ordinaryKind (sees h below)) (sees-ordinary (h .merge) (kindOf h below)) in
-        rw (release-is h lows part high d heap, leave-all)
+        rw (release-is h lows part high d heap, joining-sees lows part high h, leave-all)
         (joins-above (r .gap) (r .posted) over (sees-kind (h .merge) (kindOf h (headOr outside high))))

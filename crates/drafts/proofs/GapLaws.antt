@@ -5,21 +5,22 @@ use mathlib.Core.Logic.{_≢_, _⊎_, inl, inr}
 use mathlib.Core.Bool.{true, false, false≢true}
 use mathlib.Core.List.{List, [], _∷_, _++_, append-assoc, List·Memᴰ·head, List·Memᴰ·tail, List·Memᴰ·eq-of-singleton, Memᴰ·append-right}
 use Prim.Native.Nat.{ℕ, _+_, _-_, _%_, _≤_, _<_}
+use native.Mathlib.Decide.{ℕ-discrete}
 use native.Mathlib.Omega.{arith}
 use Rattle.lists.specs.Lists.{Mem}
 use Rattle.lists.proofs.SplitLaws.{among, middle-in, all-but}
 use Rattle.record.specs.declared.heap.Heap.{Heap}
 use Rattle.region.specs.Words.{written}
-use Rattle.rules.specs.Shape.{Entry, entry, chunkEnd}
+use Rattle.rules.specs.Shape.{Entry, entry, shape, chunkEnd}
 use Rattle.rules.specs.Kinds.{ordinaryKind, ordinary, unused, outside}
-use Rattle.rules.specs.Check.{IsChunk}
+use Rattle.rules.specs.Check.{IsChunk, Passes}
 use Rattle.rules.specs.Draft.{Draft, leaveBin}
-use Rattle.rules.proofs.KindsLaws.{kind-top, kind-donor, ordinary-free}
-use Rattle.rules.proofs.SpotLaws.{Between}
+use Rattle.rules.proofs.KindsLaws.{Used, kind-top, kind-donor, ordinary-free}
+use Rattle.rules.proofs.SpotLaws.{Between, one-chunk, chunks-apart}
 use Rattle.rules.proofs.TiledLaws.{Tiled, tiled-empty}
 use Rattle.drafts.proofs.LivesLaws.{lives, lives-free}
 use Rattle.drafts.proofs.PostsLaws.{Posts, top-at, donor-at}
-use Rattle.drafts.proofs.LayoutLaws.{Laid, Layout, cuts, outer-elsewhere, layout-replaced, laid-between}
+use Rattle.drafts.proofs.LayoutLaws.{Beside, Laid, Layout, cuts, outer-elsewhere, layout-replaced, laid-between}
 use Rattle.drafts.proofs.HeaderLaws.{headed-cut, headed-below}
 use Rattle.drafts.proofs.HalfwayLaws.{Halfway, Opened}
 use Rattle.drafts.proofs.OpenLaws.{Loose, opened-kept, opened-left}
@@ -42,14 +43,41 @@ placed-wider {c} low x high {a} {b} {from} {to} (inl (y, member, q)) l m n k = g
     go (inl r) = inl (y, r, q)
     go (inr r) = let s = ap (λ (e : Entry). e .place) (List·Memᴰ·eq-of-singleton r) in inr (omega arith, omega arith)
 
+-- a chunk in use of the heap before the call reaches into the bytes between two places
+pub record Crossed (ws : List ℕ) (h : Heap) (from to : ℕ) : Type 0 where
+  pub chunk : Entry
+  pub member : Mem chunk (shape ws (h .bytes))
+  pub used : Used chunk
+  pub below : from < chunkEnd chunk
+  pub above : chunk .place < to
+
+crossed-wider : {ws : List ℕ} {h : Heap} {a b from to : ℕ} → Crossed ws h a b → from ≤ a → b ≤ to → Crossed ws h from to
+crossed-wider c l m =
+    record { chunk = c .chunk; member = c .member; used = c .used; below = omega (arith, c .below); above = omega (arith, c .above) }
+
+-- so no free chunk lay there
+pub crossed-fresh : {ws : List ℕ} {h : Heap} {from to : ℕ} → Passes ws h → Crossed ws h from to → Mem (gapChunk from to) (shape ws (h .bytes)) → ⊥
+crossed-fresh {ws} {h} {from} {to} p c m = go (ℕ-discrete (c .chunk .place) from)
+  where
+    apart : Beside (c .chunk) (gapChunk from to) → ⊥
+    apart (inl b) = omega (arith, c .below)
+    apart (inr b) = omega (arith, c .above)
+
+    go : Dec (c .chunk .place ≡ from) → ⊥
+    go (yes q) =
+        let s = ap (λ (e : Entry). e .flags) (one-chunk ws h p (c .chunk) (gapChunk from to) (c .member) m q) in
+        omega (arith, c .used)
+    go (no n) = apart (chunks-apart ws h p (c .chunk) (gapChunk from to) (c .member) m n)
+
 -- the chain is `low`, a gap, and `high`; with the gap filled it is a layout; the live chunks are those of `base`;
--- the patrol's place is a chunk's, or lies in the gap
+-- the patrol's place is a chunk's, or lies in the gap; a chunk in use lay in it before the call
 pub record Gap (ws : List ℕ) (h : Heap) (base low : List Entry) (from to : ℕ) (high : List Entry) (d : Draft) : Type 0 where
   pub layout : Layout (h .bytes) (low ++ gapChunk from to ∷ [] ++ high)
   pub last : Entry
   pub opened : Opened ws h low (gapChunk from to) last high d
   pub alive : lives h (low ++ high) ≡ lives h base
   pub patrol : Placed (h .patrol .0) (low ++ high) from to
+  pub crossed : Crossed ws h from to
 
 -- top and donor stay when an ordinary chunk leaves, which is neither
 pub posts-stay : (h : Heap) (low : List Entry) (x : Entry) (high : List Entry) → Laid (h .bytes) x → ordinary h x ≡ true
@@ -148,6 +176,7 @@ module _ {ws : List ℕ} {h : Heap} {base : List Entry} where
           patrol =
               placed-wider low x high (g .patrol)
               (let s = below-laid .some in omega arith) (omega arith) (omega arith) (let s = below-laid .some in omega (arith, f));
+          crossed = crossed-wider (g .crossed) (omega arith) (omega arith);
         }
 
   -- the free chunk x above the gap
@@ -201,6 +230,7 @@ module _ {ws : List ℕ} {h : Heap} {base : List Entry} where
                 let b = gap-between in
                 placed-wider low x high (subst (λ (l : List Entry). Placed (h .patrol .0) l from to) gap-around (g .patrol))
                 (omega arith) (omega arith) (omega arith) (omega arith);
+            crossed = let n = above-next in crossed-wider (g .crossed) (omega arith) (omega arith);
           }
 
       -- it joins: an ordinary chunk leaves its bin; the donor and the top are in none

@@ -20,7 +20,7 @@ use Rattle.rules.specs.Allocate.{sourceOf, grant}
 use Rattle.rules.proofs.KindsLaws.{free-not-live}
 use Rattle.rules.proofs.SpotLaws.{one-chunk}
 use Rattle.drafts.proofs.OpenLaws.{whole, outer}
-use Rattle.drafts.proofs.PictureLaws.{Pictured, pictured-live}
+use Rattle.drafts.proofs.PictureLaws.{Pictured, StaysQueued, pictured-live}
 use Rattle.drafts.proofs.WaitingLaws.{Finished}
 use Rattle.drafts.specs.Sources.{kindIn}
 use Rattle.drafts.proofs.SourceLaws.{CanGrant, Grantable, free-source, source-can}
@@ -69,11 +69,14 @@ module _ {ws : List ℕ} {h : Heap} {n : ℕ} (room : Grantable ws h n) where
   pub cutting : Cutting sourceChunk 0 n parts
   cutting = cut-parts sourceChunk 0 n (omega (arith, can .enough))
 
-  done : Finished ws (low ++ chunksOf parts ++ high) grantAfter
+  done : Finished ws h (low ++ chunksOf parts ++ high) grantAfter
   done = cut-done chunk cutting (room .eight) (room .large) (kindIn source) (can .kind) (free-source source (room .some)) (can .spare)
 
   pub grant-kept : Pictured ws (theGrant .draft)
   grant-kept = rw grant-is (done .pictured)
+
+  pub grant-queued : StaysQueued ws h (theGrant .draft)
+  grant-queued = rw grant-is (done .queued)
 
   -- the new record finds the same chunks live
   same-live : (e : Entry) → live (theGrant .draft .heap) e ≡ live h e
@@ -98,15 +101,20 @@ module _ {ws : List ℕ} {h : Heap} {n : ℕ} (room : Grantable ws h n) where
       let r = one-chunk ws h (room .well) e sourceChunk m (can .member) q in
       false≢true (sym (free-not-live h sourceChunk (can .free .flags)) ∙ ap (live h) (sym r) ∙ l)
 
+  pub granted-place : theGrant .granted .place ≡ sourceChunk .place
+  granted-place = rw grant-is (cutting .place ∙ add-zero (sourceChunk .place))
+
   pub granted-new : (e : Entry) → Mem e (shape ws (h .bytes)) → live h e ≡ true → e .place ≢ theGrant .granted .place
-  granted-new e m l = rw grant-is (λ q. other e m l (q ∙ cutting .place ∙ add-zero (sourceChunk .place)))
+  granted-new e m l q = other e m l (q ∙ granted-place)
+
+  -- every chunk but the source stays
+  pub others-there : (e : Entry) → Mem e (shape ws (h .bytes)) → e .place ≢ sourceChunk .place → Mem e (theGrant .draft .chain)
+  others-there e m n = rw (grant-is, done .chain) (outer-in low (chunksOf parts) high (outer (inner chunk) e m n))
 
   -- every live chunk stays
   pub live-stays : (e : Entry) → Mem e (shape ws (h .bytes)) → live h e ≡ true
       → Mem e (theGrant .draft .chain) × (live (theGrant .draft .heap) e ≡ true)
-  live-stays e m l =
-      let k = outer (inner chunk) e m (other e m l) in
-      (rw (grant-is, done .chain) (outer-in low (chunksOf parts) high k), same-live e ∙ l)
+  live-stays e m l = (others-there e m (other e m l), same-live e ∙ l)
 
   -- no chunk becomes live but the granted one
   kept-only : (e : Entry) → Mem e (grantAfter .chain) → live h e ≡ true → (e ≡ parts .granted) ⊎ (Mem e es × (live h e ≡ true))

@@ -15,7 +15,7 @@ use Rattle.lists.proofs.SplitLaws.{outer-in}
 use Rattle.record.specs.declared.heap.Heap.{Heap}
 use Rattle.record.specs.declared.table.Binned.the-variants.{Bin}
 use Rattle.record.specs.Heap.{places, tableOf, withEnds, withDonor, withTop, withUsed, withPatrol}
-use Rattle.record.specs.Table.{binOf}
+use Rattle.record.specs.Table.{binOf, smallBins}
 use Rattle.region.specs.Words.{Store, written, nextInBin, previousInBin, bin}
 use Rattle.region.proofs.WordsLaws.{Off, off, length-written}
 use Rattle.rules.specs.Shape.{Entry, shape}
@@ -28,6 +28,7 @@ use Rattle.books.proofs.SegmentLaws.{PassBy}
 use Rattle.books.proofs.HeapBooks.{list-none}
 use Rattle.books.proofs.WayLaws.{OnWay, way-begins, way-keeps}
 use Rattle.books.specs.Books.{booksOf}
+use Rattle.drafts.proofs.QueueLaws.{Queued, Lateness, queued-same}
 use Rattle.drafts.proofs.LayoutLaws.{Laid}
 use Rattle.drafts.proofs.HeaderLaws.{Headed, headed-below}
 use Rattle.drafts.proofs.LinkLaws.{linkStores, relink-written, Linking, link-headed, link-off}
@@ -84,7 +85,7 @@ belongs-at r m = record { chunk = r .chunk; member = m; place = r .place; kind =
 pub listed-at : {h : Heap} {lists others : ℕ → List ℕ} {e : Entry} (r : ListedIn h lists e) → Mem (e .place) (others (r .bin)) → ListedIn h others e
 listed-at r m = record { bin = r .bin; takes = r .takes; inside = r .inside; member = m }
 
--- the ordinary chunks of `stay` are in their bins, which have no other members; its other free chunks are in none
+-- the ordinary chunks of `stay` are in their bins, which have no other members, and in order there (`QueueLaws`); its other free chunks are in none
 pub record Halfway (ws : List ℕ) (h : Heap) (stay : List Entry) (d : Draft) : Type 0 where
   pub heap : d .heap ≡ recordMidway h d
   pub ends : BinEnds (h .bins) (d .heap .heads) (d .heap .tails)
@@ -93,6 +94,8 @@ pub record Halfway (ws : List ℕ) (h : Heap) (stay : List Entry) (d : Draft) : 
   pub members : (i c : ℕ) → i < h .bins → Mem c (d .lists i) → Belonging h (d .heap .donor .0) (d .heap .top .0) stay i c
   pub listed : (e : Entry) → Mem e stay → ordinary (recordMidway h d) e ≡ true → ListedIn h (d .lists) e
   pub reserved : (e : Entry) → Mem e stay → e .flags ≡ 0 → ordinary (recordMidway h d) e ≡ false → Unbinned (written ws (d .stores)) (e .place)
+  pub queue : (late : Entry → ℕ) → Lateness ws h late → (i : ℕ) → i < h .bins → smallBins (tableOf h) ≤ i
+      → Queued late (ordinary (recordMidway h d)) stay (d .lists i)
   pub allPut : d .noBinTakes ≡ false
 
 -- a heap that passes, before the call: all chunks stay
@@ -110,6 +113,7 @@ halfway-begins ws h p =
           record { chunk = e; member = k; place = q; kind = b .0; takes = b .1 };
       listed = λ e m o. let (i, t, (l, k)) = p .binned e m o in record { bin = i; takes = t; inside = l; member = k };
       reserved = λ e m f o. go e m f o (ℕ-discrete (e .place) (h .top .0)) (ℕ-discrete (e .place) (h .donor .0));
+      queue = λ late t i l large. t .queued i l large;
       allPut = refl;
     }
   where
@@ -148,12 +152,16 @@ halfway-others {ws} {h} {stay} {d = d} f every from =
       members = λ i c l m. let r = f .members i c l m in belongs-at r (every (r .chunk) (r .member) (r .kind));
       listed = λ e m o. listed e o (from e m);
       reserved = λ e m z o. reserved e z o (from e m);
+      queue = λ late t i l large. queued-same (f .queue late t i l large) (λ x m o. (stayed x o (from x m), o));
       allPut = f .allPut;
     }
   where
+    stayed : (e : Entry) → ordinary (recordMidway h d) e ≡ true → Mem e stay ⊎ Used e → Mem e stay
+    stayed e o (inl m) = m
+    stayed e o (inr u) = absurd (used-not-ordinary (recordMidway h d) e u o)
+
     listed : (e : Entry) → ordinary (recordMidway h d) e ≡ true → Mem e stay ⊎ Used e → ListedIn h (d .lists) e
-    listed e o (inl m) = f .listed e m o
-    listed e o (inr u) = absurd (used-not-ordinary (recordMidway h d) e u o)
+    listed e o k = f .listed e (stayed e o k) o
 
     reserved : (e : Entry) → e .flags ≡ 0 → ordinary (recordMidway h d) e ≡ false → Mem e stay ⊎ Used e → Unbinned (written ws (d .stores)) (e .place)
     reserved e z o (inl m) = f .reserved e m z o
@@ -181,6 +189,7 @@ writes-halfway {ws} {h} {stay} {d} es ss all f w laid passed =
       members = f .members;
       listed = f .listed;
       reserved = λ e m z o. rw w (unbinned-keeps ss (passed e m z) (f .reserved e m z o));
+      queue = f .queue;
       allPut = f .allPut;
     }
   where

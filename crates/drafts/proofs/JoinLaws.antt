@@ -80,10 +80,12 @@ pub sees-free : (t : Bool) (k : Kind) → freeKind (cond t k InUse) ≡ true →
 sees-free true k e = e
 sees-free false k e = absurd (false≢true e)
 
--- the rest of the rule `release`, after joining
+-- the rest of the rule `release`, after joining: the result is linked into the chain; then it settles
+abbrev pub linkedBack : Joined → Draft → Draft
+linkedBack j d = relink (j .low) (j .here ∷ []) (j .high) (leaveBins (j .leaving) d)
+
 abbrev pub givenBack : Joined → Draft → Draft
-givenBack j d =
-    swallowing (j .here) (settle (j .becomes) (j .here) (relink (j .low) (j .here ∷ []) (j .high) (leaveBins (j .leaving) d)))
+givenBack j d = swallowing (j .here) (settle (j .becomes) (j .here) (linkedBack j d))
 
 -- a place in a chunk, its own included, moves down to it; any other stays
 pub inside-moves : (e : Entry) (c : ℕ) → e .place ≤ c → c < chunkEnd e → movedDown e c ≡ e .place

@@ -1,6 +1,6 @@
 -- The layout of a chain, with no word read: the chunks tile the heap bytes, each has room for its header, start and end are in use.
 -- Replacing some chunks by others that fill the same bytes keeps a layout (`layout-replaced`). Assumes nothing.
-use mathlib.Core.Path.{_≡_, sym, ap, _∙_}
+use mathlib.Core.Path.{_≡_, refl, sym, ap, _∙_}
 use mathlib.Core.Logic.{_≢_, _⊎_, inl, inr}
 use mathlib.Core.List.{List, [], _∷_, _++_, append-assoc, List·Memᴰ·append-cases}
 use Prim.Native.Nat.{ℕ, _+_, _*_, _%_, _≤_, _<_}
@@ -11,9 +11,10 @@ use Rattle.lists.proofs.MembersLaws.{last-append}
 use Rattle.lists.proofs.SplitLaws.{first-stays, last-stays, among, outer-in, middle-in, all-but}
 use Rattle.record.specs.declared.heap.Heap.{Heap}
 use Rattle.rules.specs.Shape.{Entry, shape, chunkEnd}
-use Rattle.rules.specs.Kinds.{outside}
+use Rattle.rules.specs.Kinds.{outside, sizeOn}
 use Rattle.rules.specs.Check.{Ended, Passes}
 use Rattle.rules.proofs.ChainLaws.{same-place}
+use Rattle.rules.proofs.OrderLaws.{size-there}
 use Rattle.rules.proofs.SpotLaws.{Between, tiled, inside}
 use Rattle.rules.proofs.NamedLaws.{free-between}
 use Rattle.rules.proofs.TiledLaws.{Tiled, tiled-cut, tiled-in, tiled-apart, tiled-few, tiled-joined, tiled-rising}
@@ -76,6 +77,9 @@ layout-read ws h p =
 module _ {bytes : ℕ} {es : List Entry} (y : Layout bytes es) where
   pub laid-once : {d e : Entry} → Mem d es → Mem e es → d .place ≡ e .place → d ≡ e
   laid-once m k q = same-place 0 es (tiled-rising 0 bytes es (y .tiled)) m k q
+
+  pub laid-sized : {e : Entry} → Mem e es → sizeOn es (e .place) ≡ e .size
+  laid-sized {e} m = size-there 0 es (tiled-rising 0 bytes es (y .tiled)) e m (e .place) refl
 
   pub laid-beside : {d e : Entry} → Mem d es → Mem e es → (d .place ≡ e .place → ⊥) → Beside d e
   laid-beside m k n = tiled-apart 0 bytes es (y .tiled) m k n

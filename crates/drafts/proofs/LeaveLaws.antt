@@ -1,16 +1,20 @@
 -- Members of bins in a draft (`Halfway`) whose chunks are among those of a layout: where they lie; and that the invariant, the headers
 -- and the record but for the bins' ends are kept when one of them leaves its bin. Assumes nothing.
-use mathlib.Core.Path.{_≡_, sym, ap, _∙_}
+use mathlib.Core.Path.{_≡_, sym, ap, subst, _∙_}
 use mathlib.Core.Logic.{_≢_, inl, inr}
 use mathlib.Core.Bool.{true, false, false≢true}
 use mathlib.Core.List.{List, _++_, Memᴰ·cast}
 use Prim.Native.Nat.{ℕ, _+_, _/_, _%_, _≤_, _<_}
+use native.Mathlib.Decide.{ℕ-discrete}
 use native.Mathlib.Omega.{arith}
 use lib.Dec.{eqb}
 use lib.ListN.{set}
+use borrow.Author.Tests.{eq-eqb, ne-eqb}
 use Rattle.lists.specs.Lists.{Mem, headOr, lastOr, upTo, past}
+use Rattle.lists.proofs.SplitLaws.{split-at-member}
 use Rattle.record.specs.declared.heap.Heap.{Heap}
 use Rattle.record.specs.Heap.{tableOf, withEnds}
+use Rattle.record.specs.Table.{smallBins}
 use Rattle.region.specs.Words.{written, forward, backward, size, nextInBin, previousInBin, bin}
 use Rattle.region.proofs.WordsLaws.{Off, written-append}
 use Rattle.rules.specs.Shape.{Entry}
@@ -21,6 +25,7 @@ use Rattle.rules.proofs.KindsLaws.{ordinary-free}
 use Rattle.books.proofs.BooksLaws.{Far}
 use Rattle.books.proofs.WayLaws.{relisted, relisted-other, far-no-link, header-no-link, leave-off, way-leaves, way-left-far, way-stays, way-remains}
 use Rattle.books.specs.Books.{booksOf}
+use Rattle.drafts.proofs.QueueLaws.{Queued, Lateness, queued-without, queued-same}
 use Rattle.drafts.proofs.LayoutLaws.{Beside, Layout, laid-once, laid-beside, laid-below}
 use Rattle.drafts.proofs.HeaderLaws.{Headed, PassByHeader, headed-keeps}
 use Rattle.drafts.proofs.HalfwayLaws.{recordMidway, EndsAlone, bin-ends-set, Belonging, belongs-at, listed-at, Halfway, unbinned-keeps}
@@ -148,6 +153,14 @@ module _ {ws : List ℕ} {h : Heap} {stay : List Entry} {d : Draft} {all : List 
           let r = f .members i c l (way-stays (booksOf ws d) (d .lists) (h .bins) (f .way) own (e .place) inside there i k) in
           belongs-at r (every (r .chunk) (r .member) (λ q. omega arith))
 
+      left-queue : (late : Entry → ℕ) → Lateness ws h late → (i : ℕ) → i < h .bins → smallBins (tableOf h) ≤ i → Dec (i ≡ own)
+          → Queued late (ordinary (recordMidway h d)) stay (lists i)
+      left-queue late t i l large (yes q) =
+          rw (eq-eqb i own q)
+          (queued-without before (e .place) after
+          (subst (Queued late (ordinary (recordMidway h d)) stay) (split-at-member there) (f .queue late t own inside (omega arith))))
+      left-queue late t i l large (no n) = rw (ne-eqb i own n) (f .queue late t i l large)
+
       pub leave-halfway : Halfway ws h rest (leaveBin e d)
       unfolding leave
       leave-halfway =
@@ -164,5 +177,8 @@ module _ {ws : List ℕ} {h : Heap} {stay : List Entry} {d : Draft} {all : List 
                 let r = f .listed x (others x k .0) u in
                 listed-at r (way-remains (booksOf ws d) (d .lists) (h .bins) (f .way) own (e .place) inside there (r .bin) (others x k .1) (r .member));
             reserved = λ x k z u. rw w (still-unbinned x (others x k .0) z u);
+            queue =
+                λ late t i l large.
+                queued-same (left-queue late t i l large (ℕ-discrete i own)) (λ x k u. (others x k .0, u));
             allPut = f .allPut;
           })

@@ -8,12 +8,15 @@ use Prim.Native.Nat.{ℕ, _≤_, _<_}
 use native.Mathlib.Decide.{decLt}
 use native.Mathlib.Omega.{arith}
 use lib.ListN.{length}
-use Rattle.lists.specs.Lists.{Mem}
+use Rattle.lists.specs.Lists.{Mem, Before}
+use Rattle.lists.proofs.AscendingLaws.{before-members, before-ascending}
 use Rattle.record.specs.declared.heap.Heap.{Heap}
+use Rattle.record.specs.Heap.{tableOf}
+use Rattle.record.specs.Table.{smallBins}
 use Rattle.region.specs.Words.{written}
 use Rattle.region.proofs.WordsLaws.{length-written}
 use Rattle.rules.specs.Shape.{Entry, shape, members, binList}
-use Rattle.rules.specs.Kinds.{ordinaryKind, live, outside}
+use Rattle.rules.specs.Kinds.{ordinaryKind, live, outside, sizeOn}
 use Rattle.rules.specs.Check.{Fits, Tabled, TopIs, DonorIs, Listed, usedBytes, IsChunk, Passes, PassesAs}
 use Rattle.rules.specs.Draft.{Draft}
 use Rattle.rules.proofs.ChainLaws.{places-fit}
@@ -23,7 +26,8 @@ use Rattle.rules.proofs.SpotLaws.{bounds}
 use Rattle.books.proofs.WayLaws.{way-leads}
 use Rattle.drafts.proofs.LivesLaws.{live-same}
 use Rattle.drafts.proofs.PostsLaws.{Posts}
-use Rattle.drafts.proofs.LayoutLaws.{Layout, laid-few}
+use Rattle.drafts.proofs.QueueLaws.{Lateness, QueuedIn, all-late}
+use Rattle.drafts.proofs.LayoutLaws.{Layout, laid-few, laid-sized}
 use Rattle.drafts.proofs.HeaderLaws.{Headed, headed-backed, reads-as, headed-chained, headed-sound}
 use Rattle.drafts.proofs.HalfwayLaws.{recordMidway, Halfway}
 
@@ -33,6 +37,10 @@ pub record Pictured (ws : List ℕ) (d : Draft) : Type 0 where
   pub chain : shape (written ws (d .stores)) (d .heap .bytes) ≡ d .chain
   pub lists : (i : ℕ) → binList (written ws (d .stores)) (d .heap) i ≡ d .lists i
   pub allPut : d .noBinTakes ≡ false
+
+-- late chunks still stand behind the others of equal size when the draft, made on the heap h, is written
+abbrev pub StaysQueued : List ℕ → Heap → Draft → Type 0
+StaysQueued ws h d = (late : Entry → ℕ) → Lateness ws h late → QueuedIn late (written ws (d .stores)) (d .heap)
 
 -- a draft that is complete: all chunks es of its chain stay, in a layout, with right headers; donor, top, used bytes and the patrol's place
 -- are right
@@ -116,6 +124,17 @@ module _ {ws : List ℕ} {h : Heap} (p : Passes ws h) {es : List Entry} {d : Dra
         tailsEnd = f .ends .tailsEnd;
       }
 
+  -- outside the small array a list is in order of size
+  in-order : (i : ℕ) → i < h .bins → smallBins (tableOf h) ≤ i → (x z : ℕ) → Before x z (d .lists i) → sizeOn es x ≤ sizeOn es z
+  in-order i l large x z b =
+      let (m, n) = before-members x z (d .lists i) b in
+      let r = f .members i x l m in
+      let s = f .members i z l n in
+      let q = f .queue _ (all-late ws h p) i l large .stand (r .chunk) (s .chunk) (r .member) (s .member) (r .kind) (s .kind) (rw (r .place, s .place) b) in
+      let a = ap (sizeOn es) (sym (r .place)) ∙ laid-sized y (r .member) in
+      let c = ap (sizeOn es) (sym (s .place)) ∙ laid-sized y (s .member) in
+      omega arith
+
   listed-still : (i : ℕ) → i < h .bins → Listed words (recordMidway h d) es i (binList words (recordMidway h d) i)
   listed-still i l =
       let b = f .way .holds i l in
@@ -126,6 +145,7 @@ module _ {ws : List ℕ} {h : Heap} (p : Passes ws h) {es : List Entry} {d : Dra
         once = b .once;
         chunks = λ c m. let r = f .members i c l m in (r .chunk, r .member, (r .place, (r .kind, r .takes)));
         words = λ c m. f .way .binned i c l m;
+        order = λ large. before-ascending (sizeOn es) (d .lists i) (λ x z b. in-order i l large x z b);
       })
 
   passes-as : PassesAs words (recordMidway h d) es
@@ -154,6 +174,10 @@ module _ {ws : List ℕ} {h : Heap} (p : Passes ws h) {es : List Entry} {d : Dra
         lists = λ i. rw (f .heap) (list-read i);
         allPut = f .allPut;
       }
+
+  -- and its lists stand as the draft's do
+  pub picture-queued : StaysQueued ws h d
+  picture-queued late t = rw (f .heap) (λ i l large. rw (chain-read, list-read i) (f .queue late t i l large))
 
 -- a picture's record has the heap bytes of before, so it finds the same chunks live
 pub pictured-live : (ws : List ℕ) (h : Heap) → Passes ws h → (d : Draft) → Pictured ws d → (e : Entry) → live (d .heap) e ≡ live h e

@@ -14,7 +14,7 @@ use Rattle.rules.specs.Shape.{Entry, shape, chunkEnd}
 use Rattle.rules.specs.Kinds.{ordinaryKind, kindOf, live, blockOf, outside}
 use Rattle.rules.specs.Check.{usedBytes, Passes}
 use Rattle.rules.specs.Draft.{Spot, asRead, nowUses}
-use Rattle.rules.specs.Join.{release}
+use Rattle.rules.specs.Join.{joining, release}
 use Rattle.rules.specs.Free.{isLive, blockSpot, freeBlock}
 use Rattle.rules.proofs.SpotLaws.{one-chunk}
 use Rattle.rules.proofs.NamedLaws.{is-top, is-donor}
@@ -25,8 +25,8 @@ use Rattle.drafts.proofs.LayoutLaws.{Beside, Laid, Layout, layout-repla
 use Rattle.drafts.proofs.HeaderLaws.{headed-below}
 use Rattle.drafts.proofs.HalfwayLaws.{Opened}
 use Rattle.drafts.proofs.OpenLaws.{InnerChunk, whole, laid-out, beside, outer, lows, highs, opens-kept, top-outer, donor-outer}
-use Rattle.drafts.proofs.PictureLaws.{Pictured, pictured-live}
-use Rattle.drafts.proofs.JoinLaws.{LiveChunk, here, own}
+use Rattle.drafts.proofs.PictureLaws.{Pictured, StaysQueued, pictured-live}
+use Rattle.drafts.proofs.JoinLaws.{LiveChunk, here, own, linkedBack}
 use Rattle.drafts.proofs.BlockLaws.{splits, live-chunk}
 use Rattle.drafts.proofs.GapLaws.{gapChunk, Placed, Gap}
 use Rattle.drafts.proofs.GapKept.{GivenBack, gap-given}
@@ -85,6 +85,10 @@ module _ {ws : List ℕ} {h : Heap} {low : List Entry} {e : Entry} {high : List 
             };
         alive = refl;
         patrol = let (x, m, q) = well .patrol in placed x q (among low (e ∷ []) high (subst (λ (l : List Entry). Mem x l) (whole inner) m));
+        crossed =
+            let b = inner .between in
+            let f = own chunk .0 in
+            record { chunk = e; member = here chunk; used = omega arith; below = omega arith; above = omega arith };
       }
     where
       placed : (x : Entry) → x .place ≡ h .patrol .0 → Mem x (low ++ high) ⊎ Mem x (e ∷ [])
@@ -105,7 +109,7 @@ module _ {ws : List ℕ} {h : Heap} {low : List Entry} {e : Entry} {high : List 
       let u = used-with in
       omega arith
 
-  chunk-given : GivenBack ws h (low ++ high) (nowUses (e .size) 0 (release low e high (asRead ws h)))
+  pub chunk-given : GivenBack ws h (low ++ high) (linkedBack (joining h low e high) (asRead ws h)) (nowUses (e .size) 0 (release low e high (asRead ws h)))
   unfolding asRead
   chunk-given = gap-given well (e .size) 0 fewer e refl chunk-gap posts
 
@@ -142,12 +146,15 @@ module _ (ws : List ℕ) (h : Heap) (p : Passes ws h) (b : ℕ) (l : isLive (asR
           go (inl r) a₁ a₂ b₁ b₂ z = omega arith
           go (inr r) a₁ a₂ b₁ b₂ z = omega arith
 
-  free-given : GivenBack ws h (s .low ++ s .high) (freeBlock b (asRead ws h))
+  free-given : GivenBack ws h (s .low ++ s .high) (linkedBack (joining h (s .low) (s .here) (s .high)) (asRead ws h)) (freeBlock b (asRead ws h))
   unfolding freeBlock
   free-given = chunk-given chunk
 
   pub free-kept : Pictured ws (freeBlock b (asRead ws h))
   free-kept = free-given .pictured
+
+  pub free-queued : StaysQueued ws h (freeBlock b (asRead ws h))
+  free-queued = free-given .queued
 
   -- the new record finds the same chunks live
   same-live : (e : Entry) → live (freeBlock b (asRead ws h) .heap) e ≡ live h e

@@ -59,7 +59,7 @@ module _ (ss : List Store) where
   put-in-bin-behind e d = by (binOf (tableOf (d .heap)) (e .size))
     where
       by : (b : Binned) → isPut e b (behind ss d) ≡ behind ss (isPut e b d)
-      by (Bin i) = rw (put-between i (e .place) (behind ss d), put-between i (e .place) d) (relist-behind i _ _ d)
+      by (Bin i) = rw (put-between i e (behind ss d), put-between i e d) (relist-behind i _ _ d)
       by NoBin = refl
 
   settle-behind : (k : Kind) (e : Entry) (d : Draft) → settle k e (behind ss d) ≡ behind ss (settle k e d)

@@ -1,35 +1,37 @@
 -- A free chunk that was linked into the chain settles: it is put into its bin, or becomes the donor or the top, which are in no bin.
 -- The invariant `Halfway` then holds with it among the chunks that stay. Assumes nothing.
-use mathlib.Core.Path.{_≡_, refl, sym, ap, _∙_}
+use mathlib.Core.Path.{_≡_, refl, sym, ap, subst, _∙_}
 use mathlib.Core.Logic.{_≢_, _⊎_, inl, inr}
-use mathlib.Core.Bool.{true, false, false≢true}
+use mathlib.Core.Bool.{Bool, true, false, false≢true}
 use mathlib.Core.List.{List, _∷_, _++_, List·Memᴰ·head, List·Memᴰ·tail, Memᴰ·append-right}
 use Prim.Native.Nat.{ℕ, _+_, _*_, _/_, _≤_, _<_}
 use native.Mathlib.Decide.{ℕ-discrete, decLt}
 use native.Mathlib.Omega.{arith}
 use lib.ListN.{length, length-take}
-use borrow.Author.Tests.{eq-eqb, ne-eqb}
-use Rattle.lists.specs.Lists.{Mem, headOr, lastOr}
+use borrow.Author.Tests.{eq-eqb, ne-eqb, ltb-true, ltb-false, le-ltb}
+use Rattle.lists.specs.Lists.{Mem, headOr, lastOr, upTo, onFrom, Before}
+use Rattle.lists.proofs.AscendingLaws.{before-members, before-right, parts-at-first, before-first, from-first}
 use Rattle.lists.proofs.MembersLaws.{member-with}
 use Rattle.record.specs.declared.heap.Heap.{Heap}
 use Rattle.record.specs.declared.kinds.Kind.the-variants.{Ordinary, Donor, Top}
 use Rattle.record.specs.declared.table.Binned.the-variants.{Bin}
 use Rattle.record.specs.Heap.{tableOf, withDonor, withTop}
-use Rattle.record.specs.Table.{binOf}
+use Rattle.record.specs.Table.{binOf, smallBins}
 use Rattle.record.proofs.TableLaws.{bin-from}
 use Rattle.region.specs.Words.{Store, written, forward, backward, size, nextInBin, previousInBin, bin}
 use Rattle.region.proofs.WordsLaws.{Off, got, length-written, written-append}
-use Rattle.rules.specs.Shape.{Entry}
-use Rattle.rules.specs.Kinds.{ordinaryKind, kindAt, kindOf, ordinary, outside}
+use Rattle.rules.specs.Shape.{Entry, shape}
+use Rattle.rules.specs.Kinds.{ordinaryKind, kindAt, kindOf, ordinary, outside, sizeOn}
 use Rattle.rules.specs.Check.{Unbinned, Passes}
-use Rattle.rules.specs.Draft.{Draft, alsoWrites, withHeap, putBetween, putInBin, noBinWords, settle}
+use Rattle.rules.specs.Draft.{Draft, alsoWrites, withHeap, larger, putBetween, putInBin, noBinWords, settle}
 use Rattle.rules.proofs.SpotLaws.{Between}
 use Rattle.books.specs.Books.{books, booksOf}
 use Rattle.books.proofs.SegmentLaws.{Node, PassBy, NoLink}
 use Rattle.books.proofs.BooksLaws.{Far, putStores, put-off}
 use Rattle.books.proofs.WayLaws.{OnWay, relisted, relisted-same, relisted-other, far-no-link, header-no-link, way-keeps, Placing, way-puts, is-from}
 use Rattle.drafts.proofs.PutLaws.{partBefore, partAfter, parts-whole, put-between}
-use Rattle.drafts.proofs.LayoutLaws.{Beside, Laid, Layout, laid-once, laid-beside, laid-below}
+use Rattle.drafts.proofs.QueueLaws.{Queued, Lateness, all-late, queued-same, queued-more, queued-with}
+use Rattle.drafts.proofs.LayoutLaws.{Beside, Laid, Layout, laid-once, laid-sized, laid-beside, laid-below}
 use Rattle.drafts.proofs.HeaderLaws.{Headed, PassByHeader, headed-keeps}
 use Rattle.drafts.proofs.HalfwayLaws.{recordMidway, EndsAlone, bin-ends-set, Belonging, ListedIn, belongs-at, listed-at, Halfway, unbinned-keeps}
 use Rattle.drafts.proofs.LeaveLaws.{Among, member-chunk, not-listed, midway-below, member-far}
@@ -42,12 +44,14 @@ pub record PlaceTaken (ws : List ℕ) (h : Heap) (all stay : List Entry) (g : He
   pub chain : after .chain ≡ d .chain
   pub heap : EndsAlone g after
 
--- a draft (`Among`) and a free chunk c of its layout that does not stay yet
+-- a draft (`Among`) and a free chunk c of its layout that does not stay yet, and was not on the chain before the call
 pub record Unsettled (ws : List ℕ) (h : Heap) (stay : List Entry) (d : Draft) (all : List Entry) (c : Entry) : Type 0 where
   pub among : Among ws h stay d all
+  pub chain : d .chain ≡ all
   pub there : Mem c all
   pub free : c .flags ≡ 0
   pub new : Mem c stay → ⊥
+  pub fresh : Mem c (shape ws (h .bytes)) → ⊥
 
 module _ {ws : List ℕ} {h : Heap} {stay : List Entry} {d : Draft} {all : List Entry} {c : Entry} (u : Unsettled ws h stay d all c) where
   abbrev f : Halfway ws h stay d
@@ -95,9 +99,14 @@ module _ {ws : List ℕ} {h : Heap} {stay : List Entry} {d : Draft} {all : List 
   pub unsettled-elsewhere : (x : Entry) → Mem x stay → x .place ≢ c .place
   unsettled-elsewhere x m q = u .new (rw (laid-once y (sub x m) (u .there) q) at m)
 
+  -- no chunk in xs is larger than c, and all in ys are
+  record Fitting (xs ys : List ℕ) : Type 0 where
+    low : (x : Entry) → Mem x stay → ordinary (recordMidway h d) x ≡ true → Mem (x .place) xs → x .size ≤ c .size
+    high : (x : Entry) → Mem x stay → ordinary (recordMidway h d) x ≡ true → Mem (x .place) ys → c .size < x .size
+
   -- c is put into bin i, between xs and ys
   module _ (kind : ordinary (recordMidway h d) c ≡ true) (long : h .bytes ≤ 4 * length ws) (i : ℕ) (l : i < h .bins) (t : binOf (tableOf h) (c .size) ≡ Bin i)
-      (xs ys : List ℕ) (s : d .lists i ≡ xs ++ ys) where
+      (xs ys : List ℕ) (s : d .lists i ≡ xs ++ ys) (fits : smallBins (tableOf h) ≤ i → Fitting xs ys) where
     abbrev stores : List Store
     stores = putStores i xs (c .place) ys
 
@@ -167,6 +176,16 @@ module _ {ws : List ℕ} {h : Heap} {stay : List Entry} {d : Draft} {all : List 
     put-reserved x (List·Memᴰ·head q) z o = absurd (false≢true (sym o ∙ ap (ordinary (recordMidway h d)) q ∙ kind))
     put-reserved x (List·Memᴰ·tail k) z o = unbinned-keeps stores (put-passes x k z o) (f .reserved x k z o)
 
+    put-queue : (late : Entry → ℕ) → Lateness ws h late → (j : ℕ) → j < h .bins → smallBins (tableOf h) ≤ j → Dec (j ≡ i)
+        → Queued late (ordinary (recordMidway h d)) (c ∷ stay) (lists j)
+    put-queue late lateness j b large (yes q) =
+        let fit = fits (omega arith) in
+        rw (eq-eqb j i q)
+        (queued-with c (lateness .others c (u .fresh)) (lateness .atMost) (λ x m o. unsettled-elsewhere x m) xs ys
+        (λ m. unknown i l (rw s m)) (fit .low) (fit .high)
+        (subst (Queued late (ordinary (recordMidway h d)) stay) s (f .queue late lateness i l (omega arith))))
+    put-queue late lateness j b large (no n) = rw (ne-eqb j i n) (queued-more c (unknown j b) (f .queue late lateness j b large))
+
     put-settles : PlaceTaken ws h all (c ∷ stay) (d .heap) d (putBetween i xs (c .place) ys d)
     unfolding putBetween
     put-settles =
@@ -181,6 +200,7 @@ module _ {ws : List ℕ} {h : Heap} {stay : List Entry} {d : Draft} {all : List 
                 members = put-members;
                 listed = put-listed;
                 reserved = λ x m z o. rw a (put-reserved x m z o);
+                queue = λ late lateness j b large. put-queue late lateness j b large (ℕ-discrete j i);
                 allPut = f .allPut;
               };
           headed = λ k. rw a (headed-keeps stores (written ws (d .stores)) outside all outside put-spares k);
@@ -188,14 +208,53 @@ module _ {ws : List ℕ} {h : Heap} {stay : List Entry} {d : Draft} {all : List 
           heap = refl;
         }
 
+  -- outside the small array no chunk before c is larger, and all behind it are
+  module _ (p : Passes ws h) (i : ℕ) (l : i < h .bins) (large : smallBins (tableOf h) ≤ i) where
+    abbrev isLarger : ℕ → Bool
+    isLarger = larger (d .chain) c
+
+    sized : (x : Entry) → Mem x stay → sizeOn (d .chain) (x .place) ≡ x .size
+    sized x m = rw (u .chain) (laid-sized y (sub x m))
+
+    -- the first larger chunk, at z, is no larger than a chunk at x behind it
+    behind-larger : (z : ℕ) (x : Entry) → Mem x stay → ordinary (recordMidway h d) x ≡ true → isLarger z ≡ true
+        → Before z (x .place) (onFrom isLarger (d .lists i)) → c .size < x .size
+    behind-larger z x m o t b =
+        let whole : Before z (x .place) (d .lists i) = rw (parts-at-first isLarger (d .lists i)) (before-right z (x .place) (upTo isLarger (d .lists i)) _ b) in
+        let r = f .members i z l (before-members z (x .place) (d .lists i) whole .0) in
+        let q = f .queue _ (all-late ws h p) i l large .stand (r .chunk) x (r .member) m (r .kind) o (rw (r .place) whole) in
+        let s = sized (r .chunk) (r .member) in
+        let a = ltb-true (c .size) (sizeOn (d .chain) z) t in
+        let e : sizeOn (d .chain) z ≡ r .chunk .size = ap (sizeOn (d .chain)) (sym (r .place)) ∙ s in
+        omega arith
+
+    in-order : Fitting (upTo isLarger (d .lists i)) (onFrom isLarger (d .lists i))
+    in-order =
+        record {
+          low =
+              λ x m o k.
+              let s = sized x m in
+              let a = ltb-false (c .size) (sizeOn (d .chain) (x .place)) (before-first isLarger (d .lists i) k) in
+              omega arith;
+          high = λ x m o k. go x m o (from-first isLarger (d .lists i) k);
+        }
+      where
+        go : (x : Entry) → Mem x stay → ordinary (recordMidway h d) x ≡ true
+            → (isLarger (x .place) ≡ true) ⊎ ((z : ℕ) × (isLarger z ≡ true) × Before z (x .place) (onFrom isLarger (d .lists i))) → c .size < x .size
+        go x m o (inl t) = let s = sized x m in let a = ltb-true (c .size) (sizeOn (d .chain) (x .place)) t in omega arith
+        go x m o (inr (z, t, b)) = behind-larger z x m o t b
+
+    parts-fit : Fitting (partBefore i c d) (partAfter i c d)
+    parts-fit = rw (ap tableOf (f .heap), le-ltb i (smallBins (tableOf h)) large) in-order
+
   -- in the bin of its size: some bin takes every size from 24 on
   pub settles-in-bin : Passes ws h → ordinary (recordMidway h d) c ≡ true → PlaceTaken ws h all (c ∷ stay) (d .heap) d (settle Ordinary c d)
   unfolding settle putInBin
   settles-in-bin p kind =
       let (i, is, takes) = bin-from (tableOf h) (p .table .valid) (c .size) (between .some) in
       let l : i < h .bins = omega (arith, takes .inside, length-take (h .bins) (h .sizes)) in
-      rw (ap tableOf (f .heap), is, put-between i (c .place) d)
-      (put-settles kind (omega arith) i l is (partBefore i (c .place) d) (partAfter i (c .place) d) (parts-whole i (c .place) d))
+      rw (ap tableOf (f .heap), is, put-between i c d)
+      (put-settles kind (omega arith) i l is (partBefore i c d) (partAfter i c d) (parts-whole i c d) (parts-fit p i l))
 
   -- in no bin: the record names it the donor or the top, and no chunk that stays changes its kind
   module _ (donor top : ℕ) (long : h .bytes ≤ 4 * length ws) (same : (x : Entry) → Mem x stay → kindAt (h .bytes) donor top x ≡ kindOf (recordMidway h d) x)
@@ -242,10 +301,13 @@ module _ {ws : List ℕ} {h : Heap} {stay : List Entry} {d : Draft} {all : List 
         unbinned-keeps (noBinWords (c .place)) (off nextInBin (omega arith), off previousInBin (omega arith), off bin (omega arith))
         (f .reserved x k z (sym (same-ordinary x k) ∙ o))
 
-    named-listed : (x : Entry) → Mem x (c ∷ stay) → ordinaryKind (kindAt (h .bytes) donor top x) ≡ true → ListedIn h (d .lists) x
-    named-listed x (List·Memᴰ·head q) o =
+    named-stays : (x : Entry) → Mem x (c ∷ stay) → ordinaryKind (kindAt (h .bytes) donor top x) ≡ true → Mem x stay × (ordinary (recordMidway h d) x ≡ true)
+    named-stays x (List·Memᴰ·head q) o =
         absurd (false≢true (sym own ∙ ap (λ (e : Entry). ordinaryKind (kindAt (h .bytes) donor top e)) (sym q) ∙ o))
-    named-listed x (List·Memᴰ·tail k) o = f .listed x k (sym (same-ordinary x k) ∙ o)
+    named-stays x (List·Memᴰ·tail k) o = (k, sym (same-ordinary x k) ∙ o)
+
+    named-listed : (x : Entry) → Mem x (c ∷ stay) → ordinaryKind (kindAt (h .bytes) donor top x) ≡ true → ListedIn h (d .lists) x
+    named-listed x m o = let (k, kind) = named-stays x m o in f .listed x k kind
 
     settles-out : PlaceTaken ws h all (c ∷ stay) record′ d named
     settles-out =
@@ -269,6 +331,7 @@ module _ {ws : List ℕ} {h : Heap} {stay : List Entry} {d : Draft} {all : List 
                     };
                 listed = named-listed;
                 reserved = λ x m z o. rw a (named-unbinned x m z o);
+                queue = λ late lateness i l large. queued-same (f .queue late lateness i l large) (λ x m o. named-stays x m o);
                 allPut = f .allPut;
               };
           headed = λ k. rw a (headed-keeps (noBinWords (c .place)) (written ws (d .stores)) outside all outside named-spares k);

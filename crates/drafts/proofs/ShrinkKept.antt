@@ -16,7 +16,7 @@ use Rattle.rules.specs.Shape.{Entry, entry, shape, chunkEnd}
 use Rattle.rules.specs.Kinds.{liveKind, live, used, blockOf, outside}
 use Rattle.rules.specs.Check.{usedBytes, IsChunk, Passes}
 use Rattle.rules.specs.Draft.{Draft, Spot, asRead, nowUses}
-use Rattle.rules.specs.Join.{release}
+use Rattle.rules.specs.Join.{joining, release}
 use Rattle.rules.specs.Free.{isLive, blockSpot}
 use Rattle.rules.specs.Cut.{Grant}
 use Rattle.rules.specs.Reallocate.{shrunk}
@@ -29,8 +29,8 @@ use Rattle.drafts.proofs.LayoutLaws.{Beside, Laid, Layout, layout-repla
 use Rattle.drafts.proofs.HeaderLaws.{Header, Headed, headed-below, headed-joined, headed-keeps, PassByHeader}
 use Rattle.drafts.proofs.HalfwayLaws.{Halfway, halfway-others, writes-halfway, Opened}
 use Rattle.drafts.proofs.OpenLaws.{whole, laid-out, beside, lows, highs, headers-around}
-use Rattle.drafts.proofs.PictureLaws.{Pictured, pictured-live}
-use Rattle.drafts.proofs.JoinLaws.{LiveChunk, own}
+use Rattle.drafts.proofs.PictureLaws.{Pictured, StaysQueued, pictured-live}
+use Rattle.drafts.proofs.JoinLaws.{LiveChunk, here, own, linkedBack}
 use Rattle.drafts.proofs.BlockLaws.{splits, live-chunk}
 use Rattle.drafts.proofs.ShrinkLaws.{ShrinkingChunk, keptChunk, tailChunk, splitDraft}
 use Rattle.drafts.proofs.GapLaws.{gapChunk, Gap}
@@ -185,6 +185,10 @@ module _ {ws : List ℕ} {h : Heap} {low : List Entry} {e : Entry} {high : List 
         opened = split-opened;
         alive = refl;
         patrol = inl (let (x, m, q) = well .patrol in placed x q (among low (e ∷ []) high (subst (λ (l : List Entry). Mem x l) (whole (inner chunk)) m)));
+        crossed =
+            let b = inner chunk .between in
+            let f = in-use in
+            record { chunk = e; member = here chunk; used = omega arith; below = omega (arith, shrinks .less); above = omega (arith, shrinks .less) };
       }
     where
       -- where it is e's, the kept chunk is there
@@ -196,7 +200,8 @@ module _ {ws : List ℕ} {h : Heap} {low : List Entry} {e : Entry} {high : List 
   split-posts : Posts h (low ++ kept ∷ [] ++ high)
   split-posts = posts-in (λ x m. outer-in low (kept ∷ []) high m) (posts chunk)
 
-  tail-given : GivenBack ws h (low ++ kept ∷ [] ++ high) (nowUses (e .size) n (release (low ++ kept ∷ []) tail high begun))
+  pub tail-given : GivenBack ws h (low ++ kept ∷ [] ++ high) (linkedBack (joining h (low ++ kept ∷ []) tail high) begun)
+      (nowUses (e .size) n (release (low ++ kept ∷ []) tail high begun))
   unfolding asRead
   tail-given =
       gap-given well (e .size) n fewer tail refl tail-gap split-posts
@@ -219,11 +224,17 @@ module _ {ws : List ℕ} {h : Heap} {b n : ℕ} (shrinks : ShrinkingBlock ws h b
   abbrev pub shrunken : Grant
   shrunken = shrunk s n (asRead ws h)
 
-  given : GivenBack ws h (s .low ++ shrunken .granted ∷ [] ++ s .high) (shrunken .draft)
+  abbrev closed : Draft
+  closed = linkedBack (joining h (s .low ++ keptChunk chunk-shrinks ∷ []) (tailChunk chunk-shrinks) (s .high)) (splitDraft chunk-shrinks)
+
+  given : GivenBack ws h (s .low ++ shrunken .granted ∷ [] ++ s .high) closed (shrunken .draft)
   given = tail-given chunk-shrinks
 
   pub shrink-kept : Pictured ws (shrunken .draft)
   shrink-kept = given .pictured
+
+  pub shrink-queued : StaysQueued ws h (shrunken .draft)
+  shrink-queued = given .queued
 
   same-live : (e : Entry) → live (shrunken .draft .heap) e ≡ live h e
   same-live e = pictured-live ws h (shrinks .well) (shrunken .draft) shrink-kept e

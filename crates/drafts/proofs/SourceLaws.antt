@@ -22,11 +22,11 @@ use Rattle.record.specs.Heap.{at, tableOf}
 use Rattle.record.specs.Table.{Takes, TakenBy, small, binOf}
 use Rattle.record.proofs.TableLaws.{bin-taken, sizes-grow}
 use Rattle.rules.specs.Shape.{Entry, shape, binList}
-use Rattle.rules.specs.Kinds.{freeKind, ordinaryKind, kindOf, isAt, overhead}
+use Rattle.rules.specs.Kinds.{freeKind, ordinaryKind, kindOf, isAt, overhead, sizeOn}
 use Rattle.rules.specs.Check.{Passes}
 use Rattle.rules.specs.Draft.{asRead, spot}
 use Rattle.rules.specs.Cut.{grantAt, grantFrom}
-use Rattle.rules.specs.Serve.{sizeOn, fromBin, ownBin, tryDonor, largerBin, tryTop, inOrder, firstOf, chosen, nowhere, need}
+use Rattle.rules.specs.Serve.{fromBin, ownBin, tryDonor, largerBin, tryTop, inOrder, firstOf, chosen, nowhere, need}
 use Rattle.rules.specs.Allocate.{sourceOf}
 use Rattle.rules.proofs.SpotLaws.{spot-at, size-on}
 use Rattle.rules.proofs.NamedLaws.{Free, top-here, donor-here}

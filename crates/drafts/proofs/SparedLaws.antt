@@ -179,10 +179,10 @@ module _ (P : ℕ → Type 0) where
       where
         go : (b : Binned) → Spared (isPut e b d)
         go (Bin i) =
-            let xs : List ℕ = partBefore i (e .place) d in
-            let ys : List ℕ = partAfter i (e .place) d in
-            let all : MemberLinks (xs ++ ys) = rw (parts-whole i (e .place) d) at (s .members i) in
-            rw (put-between i (e .place) d)
+            let xs : List ℕ = partBefore i e d in
+            let ys : List ℕ = partAfter i e d in
+            let all : MemberLinks (xs ++ ys) = rw (parts-whole i e d) at (s .members i) in
+            rw (put-between i e d)
             (put-spared i xs ys (λ c m. all c (Memᴰ·append-left ys m)) (λ c m. all c (Memᴰ·append-right xs m)))
         go NoBin = record { stores = s .stores; members = s .members }
 

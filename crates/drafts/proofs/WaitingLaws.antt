@@ -11,23 +11,24 @@ use Rattle.lists.specs.Lists.{Mem, total, Distinct}
 use Rattle.record.specs.declared.heap.Heap.{Heap}
 use Rattle.record.specs.declared.kinds.Kind.the-variants.{Ordinary, Donor, Top}
 use Rattle.record.specs.Heap.{withEnds, withDonor, withTop}
-use Rattle.region.specs.Words.{written}
-use Rattle.rules.specs.Shape.{Entry}
-use Rattle.rules.specs.Kinds.{ordinaryKind, kindAt, kindOf, ordinary, outside}
+use Rattle.region.specs.Words.{word, written, size}
+use Rattle.rules.specs.Shape.{Entry, shape}
+use Rattle.rules.specs.Kinds.{ordinaryKind, kindAt, kindOf, ordinary, outside, sizeOn}
 use Rattle.rules.specs.Check.{usedBytes, IsChunk, Passes}
 use Rattle.rules.specs.Draft.{Draft, settle, nowUses, patrolsAt}
 use Rattle.rules.proofs.KindsLaws.{Used, kind-top, kind-donor, kind-ordinary, donor-moved, top-moved}
 use Rattle.rules.proofs.SpotLaws.{Between, bounds}
 use Rattle.drafts.proofs.LivesLaws.{lives-same}
 use Rattle.drafts.proofs.PostsLaws.{Posts}
-use Rattle.drafts.proofs.LayoutLaws.{Layout}
-use Rattle.drafts.proofs.HeaderLaws.{Headed}
+use Rattle.drafts.proofs.LayoutLaws.{Layout, laid-sized}
+use Rattle.drafts.proofs.HeaderLaws.{Headed, headed-sized}
 use Rattle.drafts.proofs.HalfwayLaws.{recordMidway, EndsAlone, Halfway, halfway-others}
+use Rattle.drafts.proofs.LeaveLaws.{member-chunk}
 use Rattle.drafts.proofs.SettleLaws.{PlaceTaken, Unsettled, unsettled-elsewhere, settles-in-bin, settles-as-donor, settles-as-top}
-use Rattle.drafts.proofs.PictureLaws.{Pictured, pictured}
+use Rattle.drafts.proofs.PictureLaws.{Pictured, StaysQueued, Complete, pictured, picture-queued}
 
 -- the chain es is linked: the chunks `stay` are settled (`Halfway`), the free chunks `wait` are in no bin yet, all others are in use.
--- The record is g but for the bins' ends
+-- No chunk that waits was on the chain before the call. The record is g but for the bins' ends
 pub record Waiting (ws : List ℕ) (h g : Heap) (stay wait es : List Entry) (d : Draft) : Type 0 where
   pub layout : Layout (h .bytes) es
   pub halfway : Halfway ws h stay d
@@ -38,13 +39,25 @@ pub record Waiting (ws : List ℕ) (h g : Heap) (stay wait es : List Entry) (d :
   pub stays : (x : Entry) → Mem x stay → Mem x es
   pub waits : (x : Entry) → Mem x wait → Mem x es × (x .flags ≡ 0)
   pub apart : (x : Entry) → Mem x wait → Mem x stay → ⊥
+  pub fresh : (x : Entry) → Mem x wait → Mem x (shape ws (h .bytes)) → ⊥
   pub once : Distinct wait
   pub others : (x : Entry) → Mem x es → Mem x stay ⊎ (Mem x wait ⊎ Used x)
 
--- the draft is a picture of the heap, and its chain is es
-pub record Finished (ws : List ℕ) (es : List Entry) (d : Draft) : Type 0 where
+-- the draft, made on the heap h, is a picture of the heap, and its chain is es
+pub record Finished (ws : List ℕ) (h : Heap) (es : List Entry) (d : Draft) : Type 0 where
   pub pictured : Pictured ws d
+  pub queued : StaysQueued ws h d
   pub chain : d .chain ≡ es
+
+-- the size words of all that are in bins say the sizes of the chain
+abbrev pub MembersSized : List ℕ → Heap → Draft → Type 0
+MembersSized ws h d = (i c : ℕ) → i < h .bins → Mem c (d .lists i) → word (written ws (d .stores)) c size ≡ sizeOn (d .chain) c
+
+pub waiting-sized : {ws : List ℕ} {h g : Heap} {stay wait es : List Entry} {d : Draft} → Waiting ws h g stay wait es d → MembersSized ws h d
+waiting-sized {ws} {h} {es = es} {d} w i c l m =
+    let a = member-chunk (record { halfway = w .halfway; layout = w .layout; sub = w .stays }) i c l m in
+    rw (w .chain, ← a .place)
+    (headed-sized (written ws (d .stores)) outside es outside (w .headed) (a .member) (a .free) ∙ sym (laid-sized (w .layout) (a .member)))
 
 -- the invariant does not depend on used bytes, nor on the patrol's place
 uses-halfway : {ws : List ℕ} {h : Heap} {es : List Entry} {d : Draft} (c gone new : ℕ) → Halfway ws h es d
@@ -58,6 +71,7 @@ uses-halfway c gone new f =
       members = f .members;
       listed = f .listed;
       reserved = f .reserved;
+      queue = f .queue;
       allPut = f .allPut;
     }
 
@@ -77,7 +91,15 @@ module _ {ws : List ℕ} {h : Heap} (p : Passes ws h) where
     out = w .apart c (List·Memᴰ·head refl)
 
     unsettled : Unsettled ws h stay d es c
-    unsettled = record { among = record { halfway = w .halfway; layout = w .layout; sub = w .stays }; there = there; free = free; new = out }
+    unsettled =
+        record {
+          among = record { halfway = w .halfway; layout = w .layout; sub = w .stays };
+          chain = w .chain;
+          there = there;
+          free = free;
+          new = out;
+          fresh = w .fresh c (List·Memᴰ·head refl);
+        }
 
     between : Between (h .bytes) c
     between = w .layout .chunks c there .free free
@@ -103,6 +125,7 @@ module _ {ws : List ℕ} {h : Heap} (p : Passes ws h) where
           stays = stays;
           waits = λ x m. w .waits x (List·Memᴰ·tail m);
           apart = apart;
+          fresh = λ x m. w .fresh x (List·Memᴰ·tail m);
           once = w .once .1;
           others = λ x m. others x (w .others x m);
         }
@@ -185,24 +208,21 @@ module _ {ws : List ℕ} {h : Heap} (p : Passes ws h) where
         go x (inr (inr u)) = inr u
 
     pub waiting-done : Posts g es → (move : ℕ → ℕ) → IsChunk es (move (g .patrol .0)) → (gone new : ℕ) → g .used + new - gone ≡ usedBytes h es
-        → Finished ws es (nowUses gone new (patrolsAt (move (d .heap .patrol .0)) d))
+        → Finished ws h es (nowUses gone new (patrolsAt (move (d .heap .patrol .0)) d))
     waiting-done posts move place gone new u =
         let donorIs = ap (λ (k : Heap). k .donor .0) (w .heap) in
         let topIs = ap (λ (k : Heap). k .top .0) (w .heap) in
         let usedIs = ap (λ (k : Heap). k .used) (w .heap) in
         let patrolIs = ap (λ (k : Heap). k .patrol .0) (w .heap) in
         let after = nowUses gone new (patrolsAt (move (d .heap .patrol .0)) d) in
+        let complete : Complete ws h es after =
         record {
-          pictured =
-              pictured p
-              (record {
-                halfway = uses-halfway (move (d .heap .patrol .0)) gone new all-belong;
-                layout = w .layout;
-                headed = w .headed;
-                posts = record { top = rw (topIs, ← w .bytes) (posts .top); donor = rw (donorIs, topIs) (posts .donor) };
-                chain = w .chain;
-                used = rw usedIs (u ∙ ap (total (λ (e : Entry). e .size)) (sym (lives-same (recordMidway h after) h refl es)));
-                patrol = rw patrolIs place;
-              });
+          halfway = uses-halfway (move (d .heap .patrol .0)) gone new all-belong;
+          layout = w .layout;
+          headed = w .headed;
+          posts = record { top = rw (topIs, ← w .bytes) (posts .top); donor = rw (donorIs, topIs) (posts .donor) };
           chain = w .chain;
-        }
+          used = rw usedIs (u ∙ ap (total (λ (e : Entry). e .size)) (sym (lives-same (recordMidway h after) h refl es)));
+          patrol = rw patrolIs place;
+        } in
+        record { pictured = pictured p complete; queued = picture-queued p complete; chain = w .chain }

@@ -1,0 +1,106 @@
+-- The order in the bins outside the small array during a call: by size, and among chunks of equal size those that came late behind the
+-- others. Which chunks came late is a parameter: `late` is 1 for them and 0 for the others. So one invariant says both that lists are in order of
+-- size and that a chunk that is put stands behind those of equal size. Assumes nothing.
+use mathlib.Core.Path.{_≡_, sym, ap, _∙_}
+use mathlib.Core.Logic.{_≢_, _⊎_, inl, inr}
+use mathlib.Core.Bool.{Bool, true}
+use mathlib.Core.List.{List, _∷_, _++_, List·Memᴰ·head, List·Memᴰ·tail}
+use Prim.Native.Nat.{ℕ, _+_, _*_, _≤_, _<_}
+use native.Mathlib.Omega.{arith}
+use Rattle.lists.specs.Lists.{Mem, Before, Ascending}
+use Rattle.lists.proofs.AscendingLaws.{before-members, before-with, before-without, ascending-before, before-ascending}
+use Rattle.record.specs.declared.heap.Heap.{Heap}
+use Rattle.record.specs.Heap.{tableOf}
+use Rattle.record.specs.Table.{smallBins}
+use Rattle.rules.specs.Shape.{Entry, shape, binList}
+use Rattle.rules.specs.Kinds.{ordinary, sizeOn}
+use Rattle.rules.specs.Check.{Passes}
+use Rattle.rules.proofs.SpotLaws.{size-on}
+
+-- where a chunk stands in its bin: by its size, and among equals by whether it came late
+abbrev pub standing : (Entry → ℕ) → Entry → ℕ
+standing late e = 2 * e .size + late e
+
+-- in the list cs those chunks of es for which a test holds stand so
+pub record Queued (late : Entry → ℕ) (test : Entry → Bool) (es : List Entry) (cs : List ℕ) : Type 0 where
+  pub stand : (x y : Entry) → Mem x es → Mem y es → test x ≡ true → test y ≡ true → Before (x .place) (y .place) cs
+      → standing late x ≤ standing late y
+
+-- the lists of a heap, outside the small array
+abbrev pub QueuedIn : (Entry → ℕ) → List ℕ → Heap → Type 0
+QueuedIn late ws h =
+    (i : ℕ) → i < h .bins → smallBins (tableOf h) ≤ i → Queued late (ordinary h) (shape ws (h .bytes)) (binList ws h i)
+
+-- late are at least all chunks that are not on the chain before the call
+pub record Lateness (ws : List ℕ) (h : Heap) (late : Entry → ℕ) : Type 0 where
+  pub atMost : (e : Entry) → late e ≤ 1
+  pub others : (e : Entry) → (Mem e (shape ws (h .bytes)) → ⊥) → late e ≡ 1
+  pub queued : QueuedIn late ws h
+
+-- on a heap that passes, chunks all of which came late stand in order of size alone
+pub all-late : (ws : List ℕ) (h : Heap) → Passes ws h → Lateness ws h (λ e. 1)
+all-late ws h p =
+    record {
+      atMost = λ e. omega arith;
+      others = λ e n. omega arith;
+      queued =
+          λ i l large.
+          record {
+            stand =
+                λ x y m k _ _ b.
+                let s = ascending-before (sizeOn (shape ws (h .bytes))) (x .place) (y .place) (binList ws h i) (p .bins i l .order large) b in
+                let q = size-on ws h p (x .place) x m (omega arith) in
+                let r = size-on ws h p (y .place) y k (omega arith) in
+                omega arith;
+          };
+    }
+
+-- a chunk leaves, the chunk e is put between two parts, and the test becomes another one
+module _ {late : Entry → ℕ} {test : Entry → Bool} {es : List Entry} where
+  pub queued-without : (xs : List ℕ) (c : ℕ) (ys : List ℕ) → Queued late test es (xs ++ c ∷ ys) → Queued late test es (xs ++ ys)
+  queued-without xs c ys q = record { stand = λ x y m k s t b. q .stand x y m k s t (before-with (x .place) (y .place) xs c ys b) }
+
+  pub queued-same : {other : Entry → Bool} {fs : List Entry} {cs : List ℕ} → Queued late test es cs
+      → ((x : Entry) → Mem x fs → other x ≡ true → Mem x es × (test x ≡ true)) → Queued late other fs cs
+  queued-same q f =
+      record { stand = λ x y m k s t b. let (mx, sx) = f x m s in let (ky, ty) = f y k t in q .stand x y mx ky sx ty b }
+
+  -- a chunk that is not in the list may be added
+  pub queued-more : (e : Entry) {cs : List ℕ} → (Mem (e .place) cs → ⊥) → Queued late test es cs → Queued late test (e ∷ es) cs
+  queued-more e {cs} out q = record { stand = λ x y m k s t b. go x y m k s t b (before-members (x .place) (y .place) cs b) }
+    where
+      go : (x y : Entry) → Mem x (e ∷ es) → Mem y (e ∷ es) → test x ≡ true → test y ≡ true → Before (x .place) (y .place) cs
+          → Mem (x .place) cs × Mem (y .place) cs → standing late x ≤ standing late y
+      go x y (List·Memᴰ·head p) k s t b (i, j) = absurd (out (rw (← ap (λ (z : Entry). z .place) p) i))
+      go x y (List·Memᴰ·tail m) (List·Memᴰ·head p) s t b (i, j) = absurd (out (rw (← ap (λ (z : Entry). z .place) p) j))
+      go x y (List·Memᴰ·tail m) (List·Memᴰ·tail k) s t b r = q .stand x y m k s t b
+
+  -- e is late, no chunk before it is larger, all chunks behind it are; no other chunk is at its place
+  pub queued-with : (e : Entry) → late e ≡ 1 → ((x : Entry) → late x ≤ 1) → ((x : Entry) → Mem x es → test x ≡ true → x .place ≢ e .place)
+      → (xs ys : List ℕ) → (Mem (e .place) (xs ++ ys) → ⊥)
+      → ((x : Entry) → Mem x es → test x ≡ true → Mem (x .place) xs → x .size ≤ e .size)
+      → ((y : Entry) → Mem y es → test y ≡ true → Mem (y .place) ys → e .size < y .size)
+      → Queued late test es (xs ++ ys) → Queued late test (e ∷ es) (xs ++ e .place ∷ ys)
+  queued-with e one few elsewhere xs ys out low high q =
+      record { stand = λ x y m k s t b. go x y m k s t (before-without (x .place) (y .place) xs (e .place) ys b) }
+    where
+      go : (x y : Entry) → Mem x (e ∷ es) → Mem y (e ∷ es) → test x ≡ true → test y ≡ true
+          → Before (x .place) (y .place) (xs ++ ys) ⊎ (((x .place ≡ e .place) × Mem (y .place) ys) ⊎ (Mem (x .place) xs × (y .place ≡ e .place)))
+          → standing late x ≤ standing late y
+      go x y (List·Memᴰ·head p) (List·Memᴰ·head r) s t c = let a = ap (standing late) p in let d = ap (standing late) r in omega arith
+      go x y (List·Memᴰ·tail m) (List·Memᴰ·tail k) s t (inl c) = q .stand x y m k s t c
+      go x y (List·Memᴰ·tail m) (List·Memᴰ·tail k) s t (inr (inl (z, _))) = absurd (elsewhere x m s z)
+      go x y (List·Memᴰ·tail m) (List·Memᴰ·tail k) s t (inr (inr (_, z))) = absurd (elsewhere y k t z)
+      go x y (List·Memᴰ·head p) (List·Memᴰ·tail k) s t (inr (inl (_, n))) =
+          let a = ap (standing late) p in
+          let l = high y k t n in
+          omega arith
+      go x y (List·Memᴰ·head p) (List·Memᴰ·tail k) s t (inr (inr (_, z))) = absurd (elsewhere y k t z)
+      go x y (List·Memᴰ·tail m) (List·Memᴰ·head r) s t (inr (inr (n, _))) =
+          let a = ap (standing late) r in
+          let l = low x m s n in
+          let f = few x in
+          omega arith
+      go x y (List·Memᴰ·tail m) (List·Memᴰ·head r) s t (inr (inl (z, _))) = absurd (elsewhere x m s z)
+      go x y (List·Memᴰ·head p) (List·Memᴰ·tail k) s t (inl c) = absurd (out (rw (← ap (λ (z : Entry). z .place) p) (before-members (x .place) (y .place) (xs ++ ys) c .0)))
+      go x y (List·Memᴰ·tail m) (List·Memᴰ·head r) s t (inl c) = absurd (out (rw (← ap (λ (z : Entry). z .place) r) (before-members (x .place) (y .place) (xs ++ ys) c .1)))
