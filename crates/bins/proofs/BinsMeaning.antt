@@ -1,23 +1,26 @@
 -- Leaving a bin and putting into one, as the code does it, make of the books what the rules say. Assumes nothing.
-use mathlib.Core.Path.{_≡_, refl, sym, ap, _∙_}
+use mathlib.Core.Path.{_≡_, refl, sym, ap, subst, _∙_}
 use mathlib.Core.Bool.{Bool, true, false, cond}
 use mathlib.Core.List.{List, [], _∷_, _++_, append-nil, List·Memᴰ·head, List·Memᴰ·tail, Memᴰ·append-left, Memᴰ·append-right}
-use Prim.Native.Nat.{ℕ, _*_, _/_, _%_, _<_}
+use Prim.Native.Nat.{ℕ, _+_, _*_, _/_, _%_, _^_, _≤_, _<_}
 use native.Mathlib.Omega.{arith}
-use lib.Dec.{eqb}
-use lib.ListN.{getD, set}
+use lib.Dec.{eqb, leb, ltb}
+use lib.ListN.{length, getD, set}
 use lib.Seq.{set-getD}
 use borrow.Author.Tests.{ne-eqb}
-use Rattle.lists.specs.Lists.{Mem, headOr, lastOr, upTo, past}
-use Rattle.lists.proofs.MembersLaws.{head-append, last-append, last-member}
+use Rattle.lists.specs.Lists.{Mem, headOr, lastOr, upTo, past, onFrom}
+use Rattle.lists.proofs.AscendingLaws.{parts-at-first, first-kept}
+use Rattle.lists.proofs.ListsLaws.{at-most, less, same-test}
+use Rattle.lists.proofs.MembersLaws.{head-append, last-append, last-member, kept-same}
 use Rattle.lists.proofs.SplitLaws.{split-at-member}
-use Rattle.region.specs.Words.{word, store, written, nextInBin, previousInBin, bin}
+use Rattle.region.specs.Words.{word, store, written, size, nextInBin, previousInBin, bin}
 use Rattle.region.proofs.WordsLaws.{written-append}
 use Rattle.rules.specs.Draft.{followedBy, precededBy}
 use Rattle.books.specs.Books.{Books}
 use Rattle.books.proofs.BooksLaws.{Holds, leftBooks, putAt, around, ownLinks, put-written}
-use Rattle.books.proofs.WayLaws.{OnWay}
-use Rattle.bins.specs.Bins.{side, linkM, leaveM, slot, putM, putIntoM}
+use Rattle.books.proofs.WayLaws.{OnWay, way-leads}
+use Rattle.bins.specs.Bins.{side, linkM, leaveM, slot, putM, steps, firstFitM, memberBeforeM, slotM, putIntoM}
+use Rattle.bins.proofs.SearchLaws.{first-fit-is}
 
 kept-end : (ends : List ℕ) (i v : ℕ) → getD ends i 0 ≡ v → ends ≡ set ends i v
 kept-end ends i v e = rw (← e) (sym (set-getD ends i 0))
@@ -78,13 +81,13 @@ module _ (b : Books) (i : ℕ) (xs : List ℕ) (c : ℕ) (ys : List ℕ) where
         last-append 0 xs (c ∷ ys),
       )
 
--- at a bin's head nothing stands before, at its tail nothing after
-module _ (b : Books) (i : ℕ) (cs : List ℕ) (c : ℕ) (h : Holds b i cs) (few : i < 32) where
-  pub put-head-is : putM b (slot i 0 (getD (b .heads) i 0)) c ≡ putAt b i [] c cs
-  put-head-is = rw (h .head) (put-is b i [] c cs h few)
-
-  pub put-tail-is : putM b (slot i (getD (b .tails) i 0) 0) c ≡ putAt b i cs c []
-  put-tail-is = rw (h .tail) (put-is b i cs c [] (rw append-nil h) few)
+-- the member before the first of ys, where the bin's list is xs and ys
+before-is : (b : Books) (i : ℕ) (xs ys : List ℕ) → Holds b i (xs ++ ys) → memberBeforeM (b .words) (b .tails) i (headOr 0 ys) ≡ lastOr 0 xs
+unfolding memberBeforeM
+before-is b i xs [] h = h .tail ∙ ap (lastOr 0) (append-nil xs)
+before-is b i xs (y ∷ ys) h =
+    let some = h .nodes y (Memᴰ·append-right xs (List·Memᴰ·head refl)) .some in
+    rw (ne-eqb y 0 (omega arith)) (around b i xs y ys h .1 .0)
 
 -- in the middle of a call
 module _ {b : Books} {lists : ℕ → List ℕ} {n : ℕ} (w : OnWay b lists n) (i c : ℕ) (l : i < n) where
@@ -93,8 +96,29 @@ module _ {b : Books} {lists : ℕ → List ℕ} {n : ℕ} (w : OnWay b lists n) 
   member-leaves m =
       leave-is b i (upTo (eqb c) (lists i)) c (past (eqb c) (lists i)) (rw (split-at-member m) at (w .holds i l)) (w .binned i c l m)
 
-  -- a chunk is put into a bin, of which it is known whether it is one of the small array
-  pub put-into-is : (small : Bool) → putIntoM b small i c ≡ putAt b i (cond small [] (lists i)) c (cond small (lists i) [])
-  unfolding putIntoM
-  put-into-is true = put-head-is b i (lists i) c (w .holds i l) (omega (arith, w .few))
-  put-into-is false = put-tail-is b i (lists i) c (w .holds i l) (omega (arith, w .few))
+  -- a chunk of s bytes is put into a bin; `isLarger` says of its members which are larger
+  module _ (s : ℕ) (fits : s + 1 < 2 ^ 32) (isLarger : ℕ → Bool) (reads : (x : ℕ) → Mem x (lists i) → isLarger x ≡ ltb s (word (b .words) x size))
+      (short : length (lists i) ≤ steps) where
+    held : Holds b i (lists i)
+    held = w .holds i l
+
+    -- the first fit for one byte more is the first larger member
+    larger-is : firstFitM steps (b .words) ((s + 1) % 2 ^ 32) (getD (b .heads) i 0) ≡ headOr 0 (onFrom isLarger (lists i))
+    larger-is =
+        let m : (s + 1) % 2 ^ 32 ≡ s + 1 = omega arith in
+        rw (m, held .head)
+        (first-fit-is (b .words) (s + 1) (lists i) (way-leads w i l) short
+        ∙ ap (headOr 0) (kept-same (λ x. leb (s + 1) (word (b .words) x size)) isLarger (lists i) (λ x k. same x ∙ sym (reads x k)))
+        ∙ first-kept isLarger 0 (lists i))
+      where
+        same : (x : ℕ) → leb (s + 1) (word (b .words) x size) ≡ ltb s (word (b .words) x size)
+        same x = same-test (at-most (s + 1) (word (b .words) x size)) (less s (word (b .words) x size)) (λ k. omega arith) (λ k. omega arith)
+
+    pub put-into-is : (small : Bool)
+        → putIntoM b small i c s ≡ putAt b i (cond small [] (upTo isLarger (lists i))) c (cond small (lists i) (onFrom isLarger (lists i)))
+    unfolding putIntoM slotM
+    put-into-is true = rw (held .head) (put-is b i [] c (lists i) held (omega (arith, w .few)))
+    put-into-is false =
+        let parts = subst (Holds b i) (parts-at-first isLarger (lists i)) held in
+        rw (larger-is, before-is b i (upTo isLarger (lists i)) (onFrom isLarger (lists i)) parts)
+        (put-is b i (upTo isLarger (lists i)) c (onFrom isLarger (lists i)) parts (omega (arith, w .few)))

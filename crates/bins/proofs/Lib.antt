@@ -1,3 +1,3 @@
 pub mod BinsSteps
-pub mod BinsMeaning
 pub mod SearchLaws
+pub mod BinsMeaning

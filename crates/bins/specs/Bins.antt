@@ -2,7 +2,7 @@
 -- Nobody needs to believe them: `proofs/` shows that on a heap's lists they do what the rules say.
 use mathlib.Core.Bool.{Bool, true, false, cond}
 use mathlib.Core.List.{List}
-use Prim.Native.Nat.{ℕ, zero, suc, _*_, _-_, _/_, _%_}
+use Prim.Native.Nat.{ℕ, zero, suc, _+_, _*_, _-_, _/_, _%_, _^_}
 use lib.Dec.{eqb, leb}
 use lib.ListN.{getD, set}
 use Rattle.bins.specs.declared.Slot.{Slot}
@@ -43,10 +43,6 @@ putM b s c =
     let back : Side = linkM (side own (b .tails)) i (s .after) previousInBin c in
     books (store (back .words) c bin (i % 32 * 8)) (front .ends) (back .ends)
 
--- at the head of a bin of the small array, at the tail of any other
-unfoldable pub putIntoM : Books → Bool → ℕ → ℕ → Books
-putIntoM b small i c = cond small (putM b (slot i 0 (getD (b .heads) i 0)) c) (putM b (slot i (getD (b .tails) i 0) 0) c)
-
 -- the steps that a search takes along a list at most
 abbrev pub steps : ℕ
 steps = 8192
@@ -58,6 +54,21 @@ firstFitM (suc left) ws need c =
       | true ↦ 0
       | false ↦ elim (leb need (word ws c size)) [ true ↦ c | false ↦ firstFitM left ws need (word ws c nextInBin) ]
     ]
+
+-- the member of bin i before the one at c; before the end of the list, at 0, stands the tail
+unfoldable pub memberBeforeM : List ℕ → List ℕ → ℕ → ℕ → ℕ
+memberBeforeM ws tails i c = cond (eqb c 0) (getD tails i 0) (word ws c previousInBin)
+
+-- the place of a chunk of s bytes in bin i: at the head of a bin of the small array, in any other before the first larger member
+unfoldable pub slotM : Books → Bool → ℕ → ℕ → Slot
+slotM b small i s =
+    let head : ℕ = getD (b .heads) i 0 in
+    let larger : ℕ = firstFitM steps (b .words) ((s + 1) % 2 ^ 32) head in
+    cond small (slot i 0 head) (slot i (memberBeforeM (b .words) (b .tails) i larger) larger)
+
+-- the chunk at c, of s bytes, is put there
+unfoldable pub putIntoM : Books → Bool → ℕ → ℕ → ℕ → Books
+putIntoM b small i c s = putM b (slotM b small i s) c
 
 -- the first end that is not 0 among so many from bin i on
 unfoldable pub someEnd : ℕ → List ℕ → ℕ → ℕ

@@ -1,10 +1,11 @@
-// The bins' free lists, which are doubly linked: leaving one, putting into one, first fit in one, and the next bin that is not empty.
+// The bins' free lists, which are doubly linked: leaving one, finding a place in one and putting a chunk there, first fit, the next bin that is
+// not empty.
 // Head and tail of a bin stand in two slices, the links in the region. Which bin a chunk belongs in is not known here.
 ghost use mathlib.Core.Path.{_≡_};
 ghost use Prim.Native.Nat.{_*_, _%_};
 ghost use lib.ListN.{getD, set};
 ghost use Rattle.books.specs.Books.{books};
-ghost use Rattle.bins.specs.Bins.{side, linkM, leaveM, putM, firstFitM, nextOccupiedM, putIntoM, slot, steps};
+ghost use Rattle.bins.specs.Bins.{side, linkM, leaveM, putM, firstFitM, nextOccupiedM, memberBeforeM, slotM, steps};
 use record::heap::PLACES;
 use region::BIN;
 use region::BIN_FACTOR;
@@ -88,48 +89,6 @@ pub fn put_between(
     store(region, chunk, BIN, bin_word(bin));
 }
 
-// Bins of the small array are last in, first out.
-pub fn put_head(region: &mut [u32], heads: &mut [u32], tails: &mut [u32], bin: usize, chunk: Chunk)
-    ensures { λ _. ⌜ books (now (region .exit)) (now (heads .exit)) (now (tails .exit)) ≡ putM (books (now (region .entry)) (now (heads .entry)) (now (tails .entry))) (slot bin 0 (getD (now (heads .entry)) bin 0)) (chunk .0) ⌝ }
-{
-    let slot = Slot {
-        bin: bin,
-        before: 0,
-        after: list_end(heads, bin),
-    };
-    put_between(region, heads, tails, slot, chunk);
-}
-
-// All other bins are first in, first out.
-pub fn put_tail(region: &mut [u32], heads: &mut [u32], tails: &mut [u32], bin: usize, chunk: Chunk)
-    ensures { λ _. ⌜ books (now (region .exit)) (now (heads .exit)) (now (tails .exit)) ≡ putM (books (now (region .entry)) (now (heads .entry)) (now (tails .entry))) (slot bin (getD (now (tails .entry)) bin 0) 0) (chunk .0) ⌝ }
-{
-    let slot = Slot {
-        bin: bin,
-        before: list_end(tails, bin),
-        after: 0,
-    };
-    put_between(region, heads, tails, slot, chunk);
-}
-
-// Where a chunk is put: at the head of a bin of the small array, at the tail of any other. `small` says which the bin is.
-pub fn put_into(
-    region: &mut [u32],
-    heads: &mut [u32],
-    tails: &mut [u32],
-    small: bool,
-    bin: usize,
-    chunk: Chunk,
-)
-    ensures { λ _. ⌜ books (now (region .exit)) (now (heads .exit)) (now (tails .exit)) ≡ putIntoM (books (now (region .entry)) (now (heads .entry)) (now (tails .entry))) small bin (chunk .0) ⌝ }
-{
-    if small {
-        put_head(region, heads, tails, bin, chunk);
-        return;
-    }
-    put_tail(region, heads, tails, bin, chunk);
-}
-
 // First fit: the first chunk of a list, in its order, that has the need. Chunk(0), the start chunk, says that there is none.
 pub fn first_fit(region: &[u32], first: Chunk, need: u32) -> Chunk
     ensures { λ r. ⌜ r .0 ≡ firstFitM steps (now (region .entry)) need (first .0) ⌝ }
@@ -147,6 +106,44 @@ pub fn first_fit(region: &[u32], first: Chunk, need: u32) -> Chunk
         left -= 1;
     }
     Chunk(0)
+}
+
+// The member before the one at `at`; before the end of the list, at 0, stands the tail.
+fn member_before(region: &[u32], tails: &[u32], bin: usize, at: u32) -> u32
+    ensures { λ r. ⌜ r ≡ memberBeforeM (now (region .entry)) (now (tails .entry)) bin at ⌝ }
+{
+    if at == 0 {
+        return list_end(tails, bin);
+    }
+    word(region, Chunk(at), PREVIOUS_IN_BIN)
+}
+
+// Where a chunk of this size goes in a bin: at the head of a bin of the small array, which is last in, first out; in any other before the first
+// larger member, and so behind those of equal size. `small` says which the bin is. The first larger member is the first fit for one byte more.
+pub fn slot_for(
+    region: &[u32],
+    heads: &[u32],
+    tails: &[u32],
+    small: bool,
+    bin: usize,
+    size: u32,
+) -> Slot
+    ensures { λ r. ⌜ r ≡ slotM (books (now (region .entry)) (now (heads .entry)) (now (tails .entry))) small bin size ⌝ }
+{
+    let head = list_end(heads, bin);
+    if small {
+        return Slot {
+            bin: bin,
+            before: 0,
+            after: head,
+        };
+    }
+    let larger = first_fit(region, Chunk(head), std::num::wrapping_add_u32(size, 1));
+    Slot {
+        bin: bin,
+        before: member_before(region, tails, bin, larger.0),
+        after: larger.0,
+    }
 }
 
 // The head of the next bin above this one that is not empty: each chunk of it is larger than every need of this bin.

@@ -24,7 +24,8 @@ use Rattle.region.specs.Words.{word, size}
 use Rattle.rules.specs.Allocate.{sourceOf}
 use Rattle.rules.specs.Check.{Passes}
 use Rattle.rules.specs.Draft.{asRead}
-use Rattle.rules.specs.Serve.{sizeOn, fromBin, ownBin, tryDonor, largerBin, tryTop, chosen}
+use Rattle.rules.specs.Kinds.{sizeOn}
+use Rattle.rules.specs.Serve.{fromBin, ownBin, tryDonor, largerBin, tryTop, chosen}
 use Rattle.rules.specs.Shape.{Entry, shape, binList}
 use Rattle.rules.proofs.SpotLaws.{size-on}
 use Rattle.rules.proofs.NamedLaws.{top-here, donor-here}

@@ -1,6 +1,6 @@
 -- Cutting a free chunk that can serve does to a heap that passes what the rules say: the words, the bins' ends and the record.
 -- Which chunk is chosen is not looked at here. Assumes nothing.
-use mathlib.Core.Path.{_≡_, refl, sym, ap, _∙_}
+use mathlib.Core.Path.{_≡_, refl, sym, ap, subst, _∙_}
 use mathlib.Core.Logic.{_≢_, _⊎_, inl, inr}
 use mathlib.Core.Bool.{Bool, true, false, false≢true}
 use mathlib.Core.List.{List, [], _∷_, _++_, append-assoc}
@@ -28,14 +28,15 @@ use Rattle.rules.proofs.SpotLaws.{Around, bounds, inside, around, chunks-apart,
 use Rattle.rules.proofs.NamedLaws.{Free}
 use Rattle.rules.proofs.KindsLaws.{free-kinds}
 use Rattle.books.specs.Books.{books, booksOf}
-use Rattle.books.proofs.BooksLaws.{Far}
 use Rattle.books.proofs.HeapBooks.{member-entry, member-below, ordinary-listed}
 use Rattle.settling.specs.Settling.{leaveBinM, alsoWritten, settledM}
 use Rattle.settling.proofs.SettledLaws.{settled-keeps, settled-ordinary}
 use Rattle.settling.proofs.DraftLaws.{Clears, Follows, Settled, follows-begins, leave-step, relink-follows, settle-step}
 use Rattle.grant.specs.declared.cut.Cut.{Cut}
 use Rattle.grant.specs.Cut.{grantedM, cutM, takeM}
-use Rattle.drafts.proofs.CutLaws.{grants-part, grants-all}
+use Rattle.drafts.proofs.WaitingLaws.{MembersSized, waiting-sized}
+use Rattle.drafts.proofs.CutLaws.{FreeChunk, cut-parts, cut-in-two, grants-part, grants-all}
+use Rattle.drafts.proofs.CutKept.{opens, cut-waits}
 
 -- the chunk e of kind k, between low and high, from which n bytes can be granted
 pub record Serving (ws : List ℕ) (h : Heap) (n : ℕ) (k : Kind) (low : List Entry) (e : Entry) (high : List Entry) : Type 0 where
@@ -101,6 +102,9 @@ module _ {ws : List ℕ} {h : Heap} (p : Passes ws h) where
   module _ {n : ℕ} (large : 24 ≤ n) (eight : n % 8 ≡ 0) {k : Kind} {low : List Entry} {e : Entry} {high : List Entry} (s : Serving ws h n k low e high) where
     here : Mem e (shape ws (h .bytes))
     here = in-split low e high (s .split)
+
+    chunk : FreeChunk ws h low e high
+    chunk = record { well = p; split = s .split; free = s .free }
 
     sides : Around ws (shape ws (h .bytes)) low e high
     sides = let b = s .free .between in around ws h p low e high (s .split) (omega arith) (omega arith)
@@ -189,13 +193,6 @@ module _ {ws : List ℕ} {h : Heap} (p : Passes ws h) where
           go (inl a) l = omega arith
           go (inr a) l = absurd (omega arith)
 
-      rest-far : n + 24 ≤ e .size → Far (e .place + n) x
-      rest-far u = go outside-it
-        where
-          go : (x + 24 ≤ e .place) ⊎ (chunkEnd e ≤ x) → Far (e .place + n) x
-          go (inl a) = omega arith
-          go (inr a) = omega arith
-
     -- the rule's grant, and what the code's cut comes to
     abbrev pub grantRuled : Grant
     grantRuled = grantAt k (record { low = low; here = e; high = high }) n (asRead ws h)
@@ -231,13 +228,19 @@ module _ {ws : List ℕ} {h : Heap} (p : Passes ws h) where
           let y : chunkEnd e - (e .place + n) ≡ e .size - n = omega arith in
           rw (b, a, y, z, add-zero, i .next, append-assoc, written-append)
 
+      -- the rest of the chunk waits, as the rules cut it
+      part-sized : MembersSized ws h cutUp
+      part-sized =
+          subst (λ (parts : List Entry). MembersSized ws h (relink low parts high out)) (cut-in-two k low e high (asRead ws h) large l)
+          (waiting-sized
+          (cut-waits chunk (cut-parts e 0 n (omega (arith, s .enough))) refl (λ z. absurd (omega arith)) eight large (opens chunk k (s .kind) (s .isFree))))
+
       part-settles : (k₁ : Kind) → freeKind k₁ ≡ true → Settled ws h (booksOf ws cutUp) k₁ (e .place + n) (e .size - n) (settle k₁ rest cutUp)
       unfolding relink
       part-settles k₁ f =
           let i = bounded in
           let t =
-          settle-step ws h cutUp part-follows p (e .place + n) (e .size - n) unused (omega arith)
-          (record { eight = omega arith; some = omega arith; fits = omega arith }) (λ j x lj m. rest-far j x lj m l) in
+          settle-step ws h cutUp part-follows p part-sized (e .place + n) (e .size - n) unused (omega arith) (omega arith) in
           free-kinds (λ k₂. Settled ws h (booksOf ws cutUp) k₂ (e .place + n) (e .size - n) (settle k₂ rest cutUp)) (t Ordinary) (t Donor) (t Top) k₁ f
 
       part-taken : takeM (books ws (h .heads) (h .tails)) (tableOf h) k (cutM ws (e .place) n) ≡ booksOf ws (settle k rest cutUp)

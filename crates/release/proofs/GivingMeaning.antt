@@ -18,22 +18,21 @@ use Rattle.rules.specs.Join.{Joined, joinedAs, leaveBins, movedDown, swallowing
 use Rattle.rules.proofs.SpotLaws.{bounds, inside}
 use Rattle.books.specs.Books.{Books, booksOf}
 use Rattle.bins.specs.Bins.{leaveM}
-use Rattle.books.proofs.BooksLaws.{Far}
 use Rattle.books.proofs.HeapBooks.{member-below, ordinary-listed}
 use Rattle.settling.specs.Settling.{arrival, leaveBinM, settleM, settledM}
 use Rattle.settling.proofs.SettledLaws.{settled-keeps}
 use Rattle.settling.proofs.DraftLaws.{Follows, LeavesBin, Settled, leave-step, link-step, link-follows, settle-step}
-use Rattle.drafts.proofs.JoinLaws.{givenBack}
+use Rattle.drafts.proofs.JoinLaws.{linkedBack, givenBack}
+use Rattle.drafts.proofs.WaitingLaws.{MembersSized}
 use Rattle.seek.specs.declared.Place.{Place}
 use Rattle.release.specs.declared.Union.{Union}
 use Rattle.release.specs.Release.{movedM, settledIn, giveBackM}
 use Rattle.release.proofs.JoinMeaning.{Agrees, UnionLies}
 
--- the books b are those of the draft d, in which no chunk of a bin is near c
-record Out (ws : List ℕ) (h : Heap) (c : ℕ) (b : Books) (d : Draft) : Type 0 where
+-- the books b are those of the draft d
+record Out (ws : List ℕ) (h : Heap) (b : Books) (d : Draft) : Type 0 where
   is : b ≡ booksOf ws d
   follows : Follows ws h d
-  far : (j x : ℕ) → j < h .bins → Mem x (d .lists j) → Far c x
 
 -- giving back makes of the books b what the rules say, and the summary is known from what was joined
 pub record Released (ws : List ℕ) (h : Heap) (b : Books) (p : Place) (u : Union) (after : Draft) : Type 0 where
@@ -58,19 +57,18 @@ module _ {ws : List ℕ} {h : Heap} (p : Passes ws h) {d : Draft} (follows : Fol
 
   -- those that join leave their bins, the lower one first
   out : (t s : Bool) → u .lower ≡ t → u .upper ≡ s
-      → Out ws h (cond t (lower .place) c) (leaveBinM (leaveBinM (booksOf ws d) t (lower .place)) s (upper .place))
+      → Out ws h (leaveBinM (leaveBinM (booksOf ws d) t (lower .place)) s (upper .place))
       (leaveBins (cond t (lower ∷ []) [] ++ cond s (upper ∷ []) []) d)
   unfolding leaveBinM
-  out false false q r =
-      record { is = refl; follows = follows; far = λ j x lj m. lies .far j x lj (follows .from j x lj m) }
+  out false false q r = record { is = refl; follows = follows }
   out false true q r =
       let (member, isOrdinary, above) = lies .over r in
       let g = leaves upper member isOrdinary in
-      record { is = g .is; follows = g .follows; far = λ j x lj m. lies .far j x lj (g .follows .from j x lj m) }
+      record { is = g .is; follows = g .follows }
   out true false q r =
       let (member, isOrdinary, below) = lies .under q in
       let g = leaves lower member isOrdinary in
-      record { is = g .is; follows = g .follows; far = g .far }
+      record { is = g .is; follows = g .follows }
   out true true q r =
       let (lowMember, lowOrdinary, below) = lies .under q in
       let (highMember, highOrdinary, above) = lies .over r in
@@ -78,11 +76,7 @@ module _ {ws : List ℕ} {h : Heap} (p : Passes ws h) {d : Draft} (follows : Fol
       let (i, inside, takes, listed) = ordinary-listed ws h p upper highMember highOrdinary in
       let ne : upper .place ≢ lower .place = λ z. omega arith in
       let k = leave-step ws h _ (g .follows) upper i inside takes (g .keeps i (upper .place) ne (has i (upper .place) listed)) in
-      record {
-        is = ap (λ (x : Books). leaveM x (upper .place)) (g .is) ∙ k .is;
-        follows = k .follows;
-        far = λ j x lj m. g .far j x lj (k .stays j x lj m);
-      }
+      record { is = ap (λ (x : Books). leaveM x (upper .place)) (g .is) ∙ k .is; follows = k .follows }
 
   abbrev from : ℕ
   from = u .chunk .0
@@ -93,8 +87,8 @@ module _ {ws : List ℕ} {h : Heap} (p : Passes ws h) {d : Draft} (follows : Fol
   abbrev booksOut : Books
   booksOut = leaveBinM (leaveBinM (booksOf ws d) (u .lower) (lower .place)) (u .upper) (upper .place)
 
-  gone : Out ws h from booksOut afterLeaving
-  gone = rw (lies .chunk) (out _ _ refl refl)
+  gone : Out ws h booksOut afterLeaving
+  gone = out _ _ refl refl
 
   bottom-by : (t : Bool) → u .lower ≡ t → Bottom ws h c (cond t (lower .place) c)
   bottom-by false q =
@@ -117,7 +111,7 @@ module _ {ws : List ℕ} {h : Heap} (p : Passes ws h) {d : Draft} (follows : Fol
   bottom : Bottom ws h c from
   bottom = rw (lies .chunk) (bottom-by _ refl)
 
-  module _ {j : Joined} (agrees : Agrees j lower upper u) where
+  module _ {j : Joined} (agrees : Agrees j lower upper u) (sized : MembersSized ws h (linkedBack j d)) where
     abbrev new : Entry
     new = entry from (u .end - from) unused
 
@@ -146,6 +140,9 @@ module _ {ws : List ℕ} {h : Heap} (p : Passes ws h) {d : Draft} (follows : Fol
         ))
         (bottom .eight) (omega arith)
 
+    linked-sized : MembersSized ws h afterLinking
+    linked-sized = rw (agrees .here, agrees .leaving) at sized
+
     settles : Settled ws h (booksOf ws afterLinking) (joinedAs (lies .becomes .0)) from (u .end - from)
         (settle (joinedAs (lies .becomes .0)) new afterLinking)
     unfolding relink
@@ -154,9 +151,7 @@ module _ {ws : List ℕ} {h : Heap} (p : Passes ws h) {d : Draft} (follows : Fol
         let i = inside ws h p top member in
         let b = bounds ws h p in
         let o = bottom in
-        settle-step ws h afterLinking links p from (u .end - from) unused (omega (arith, lies .large))
-        (record { eight = o .eight; some = o .some; fits = omega (arith, lies .large) })
-        (gone .far) (lies .becomes .0)
+        settle-step ws h afterLinking links p linked-sized from (u .end - from) unused (omega (arith, lies .large)) (omega arith) (lies .becomes .0)
 
     settles-so : Settled ws h (booksOf ws afterLinking) (u .becomes) from (u .end - from) (settle (u .becomes) new afterLinking)
     settles-so = rw (lies .becomes .1) settles

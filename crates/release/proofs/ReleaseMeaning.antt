@@ -22,6 +22,7 @@ use Rattle.release.specs.declared.Union.{Union}
 use Rattle.release.specs.Release.{joinM}
 use Rattle.drafts.proofs.JoinLaws.{LiveChunk, sides}
 use Rattle.drafts.proofs.BlockLaws.{live-chunk}
+use Rattle.drafts.proofs.ReleaseKept.{chunk-given}
 use Rattle.settling.proofs.DraftLaws.{follows-begins}
 use Rattle.release.proofs.JoinMeaning.{chunkJoined, chunk-joins, chunk-lies}
 use Rattle.release.proofs.GivingMeaning.{Released, given-back}
@@ -32,7 +33,7 @@ module _ {ws : List ℕ} {h : Heap} {low : List Entry} {e : Entry} {high : List 
       (release low e high (asRead ws h))
   unfolding release asRead
   chunk-given-back =
-      given-back (chunk .well) (follows-begins ws h (chunk .well)) (λ i x m. m) (chunk-lies chunk) (chunk-joins chunk)
+      given-back (chunk .well) (follows-begins ws h (chunk .well)) (λ i x m. m) (chunk-lies chunk) (chunk-joins chunk) (chunk-given chunk .sized)
       (placed (lastOr outside low .place) e) refl (sym (sides chunk .abovePlace))
 
 -- below the first chunk is nothing, at 0, for the walk as for the rules

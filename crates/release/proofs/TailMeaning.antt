@@ -29,6 +29,7 @@ use Rattle.release.specs.declared.Union.{Union}
 use Rattle.release.specs.Release.{neighbourM, joinedM, joinM}
 use Rattle.drafts.proofs.JoinLaws.{LiveChunk, sees, joining-sees, here, own, sides, seen-free, seen-above, part-far}
 use Rattle.drafts.proofs.ShrinkLaws.{ShrinkingChunk, keptChunk, tailChunk, splitStores, splitWords, splitDraft, tailAfter}
+use Rattle.drafts.proofs.ShrinkKept.{tail-given}
 use Rattle.release.proofs.JoinMeaning.{Agrees, UnionLies, neighbour-is, part-joins, part-lies}
 use Rattle.release.proofs.GivingMeaning.{Released, given-back}
 
@@ -152,4 +153,4 @@ module _ {ws : List ℕ} {h : Heap} {low : List Entry} {e : Entry} {high : List 
   pub tail-released : (flags : ℕ) → Released ws h (books words (h .heads) (h .tails)) (tailPlace flags) (tailJoined flags) after
   unfolding release asRead
   tail-released flags =
-      given-back well follows (λ i x m. m) (tail-lies flags) (tail-joins flags) (tailPlace flags) refl (sym (sides chunk .abovePlace))
+      given-back well follows (λ i x m. m) (tail-lies flags) (tail-joins flags) (tail-given shrinks .sized) (tailPlace flags) refl (sym (sides chunk .abovePlace))

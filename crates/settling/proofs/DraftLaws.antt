@@ -1,6 +1,6 @@
 -- The rules' steps on a heap in the making, beside what the code makes of its books: a chunk leaves its bin, a chunk is linked in,
 -- a chunk is put into its bin. After each step the books are those of the draft. Assumes nothing.
-use mathlib.Core.Path.{_≡_, refl}
+use mathlib.Core.Path.{_≡_, refl, sym, ap}
 use mathlib.Core.Logic.{_≢_}
 use mathlib.Core.List.{List, [], _∷_, _++_}
 use Prim.Native.Nat.{ℕ, _+_, _-_, _/_, _%_, _^_, _≤_, _<_}
@@ -10,6 +10,7 @@ use native.Mathlib.Omega.{arith}
 use lib.Dec.{eqb, ltb}
 use lib.ListN.{length, length-take}
 use Rattle.lists.specs.Lists.{Mem, headOr, lastOr, upTo, past}
+use Rattle.lists.proofs.CountLaws.{distinct-fits}
 use Rattle.record.specs.declared.heap.Heap.{Heap}
 use Rattle.record.specs.declared.kinds.Kind.{Kind}
 use Rattle.record.specs.declared.kinds.Kind.the-variants.{Start, InUse, Ordinary, Donor, Top, End}
@@ -23,17 +24,19 @@ use Rattle.headers.specs.Headers.{aboveWords, freeWords}
 use Rattle.rules.specs.Shape.{Entry, entry, binList}
 use Rattle.rules.specs.Kinds.{unused, outside}
 use Rattle.rules.specs.Check.{Passes}
-use Rattle.rules.specs.Draft.{Draft, asRead, meet, leave, leaveBin, putBetween, putInBin, noBinWords, relink, settle}
+use Rattle.rules.specs.Draft.{Draft, asRead, meet, leave, leaveBin, larger, putBetween, putInBin, noBinWords, relink, settle}
 use Rattle.rules.specs.Join.{joinedAs}
 use Rattle.books.specs.Books.{Books, books, booksOf}
 use Rattle.bins.specs.Bins.{leaveM}
 use Rattle.bins.proofs.BinsMeaning.{member-leaves, put-into-is}
-use Rattle.books.proofs.SegmentLaws.{Node, PassBy}
+use Rattle.books.proofs.SegmentLaws.{PassBy}
+use Rattle.books.proofs.HeapBooks.{list-short}
 use Rattle.books.proofs.BooksLaws.{Far, putStores, putAt}
 use Rattle.books.proofs.WayLaws.{OnWay, way-begins, way-keeps, way-leaves, way-left-far, way-stays, way-remains}
 use Rattle.settling.specs.Settling.{arrival, putBinnedM, putInBinM, alsoWritten, settleM, settledM}
 use Rattle.drafts.proofs.PutLaws.{put-between}
 use Rattle.drafts.proofs.LinkLaws.{linkStores, relink-written}
+use Rattle.drafts.proofs.WaitingLaws.{MembersSized}
 
 -- a header at y is not above the chunk at x, or stands clear above that one's header
 abbrev pub Clears : ℕ → ℕ → Type 0
@@ -159,11 +162,14 @@ module _ (ws : List ℕ) (h : Heap) (d : Draft) (f : Follows ws h d) where
         let b : Clears x (headOr outside high .place) = rw next (zt, belowNext) in
         ((omega arith, a, (omega arith, a, (omega arith, a, (omega arith, b, tt))))))
 
-  -- a chunk far from all that are in bins is put into the bin of its size
-  module _ (p : Passes ws h) (c s u : ℕ) (large : 24 ≤ s) (gc : Node (length ws) c)
-      (far : (j x : ℕ) → j < h .bins → Mem x (d .lists j) → Far c x) where
-    node : Node (length (written ws (d .stores))) c
-    node = rw length-written gc
+  -- a chunk is put into the bin of its size; the size words of all that are in bins are right
+  module _ (p : Passes ws h) (sized : MembersSized ws h d) (c s u : ℕ) (large : 24 ≤ s) (below : s ≤ 65536) where
+    -- a list has no more members than it had before the call
+    short : (i : ℕ) → i < h .bins → length (d .lists i) ≤ 8192
+    short i l =
+        let few = distinct-fits (d .lists i) (binList ws h i) (f .way .holds i l .once) (λ x m. f .from i x l m) in
+        let all = list-short ws h p i in
+        omega arith
 
     between-is : (i : ℕ) (xs ys : List ℕ) → putAt (booksOf ws d) i xs c ys ≡ booksOf ws (putBetween i xs c ys d)
     unfolding putBetween
@@ -174,7 +180,14 @@ module _ (ws : List ℕ) (h : Heap) (d : Draft) (f : Follows ws h d) where
     put-step =
         let (i, is, taken) = bin-from (tableOf h) (p .table .valid) s large in
         let l : i < h .bins = omega (arith, taken .inside, length-take (h .bins) (h .sizes)) in
-        rw (f .table, is, put-between i c d, f .table, put-into-is (f .way) i c l (ltb i (smallBins (tableOf h))))
+        let e : Entry = entry c s u in
+        rw (
+          f .table,
+          is,
+          put-between i e d,
+          f .table,
+          put-into-is (f .way) i c l s (omega arith) (larger (d .chain) e) (λ x m. ap (ltb s) (sym (sized i x l m))) (short i l) (ltb i (smallBins (tableOf h))),
+        )
         (between-is i _ _)
 
     -- of the record only the bins' ends change
@@ -182,7 +195,7 @@ module _ (ws : List ℕ) (h : Heap) (d : Draft) (f : Follows ws h d) where
     unfolding putInBin putBetween
     put-keeps =
         let (i, is, taken) = bin-from (tableOf h) (p .table .valid) s large in
-        rw (f .table, is, put-between i c d) (rw (f .heap))
+        rw (f .table, is, put-between i (entry c s u) d) (rw (f .heap))
 
     put-settles : Settled ws h (booksOf ws d) Ordinary c s (settle Ordinary (entry c s u) d)
     unfolding settleM settle

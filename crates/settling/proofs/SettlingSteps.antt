@@ -5,7 +5,8 @@ use mathlib.Core.List.{List}
 use Prim.Native.Nat.{ℕ}
 use lib.Dec.{ltb}
 use Rattle.books.specs.Books.{Books}
-use Rattle.bins.specs.Bins.{putIntoM}
+use Rattle.bins.specs.declared.Slot.{Slot}
+use Rattle.bins.specs.Bins.{putM, slotM, putIntoM}
 use Rattle.record.specs.declared.table.Binned.{Binned}
 use Rattle.record.specs.declared.table.Binned.the-variants.{Bin, NoBin}
 use Rattle.record.specs.Table.{TakenBy, smallBins}
@@ -24,7 +25,7 @@ module _ {b : Books} {table : List ℕ} {c size : ℕ} (r : Binned) (taken : Tak
   unfolding putInBinM putBinnedM
   put-nowhere e = record { is = rw (← bin-is table size r taken, e) }
 
-  pub put-binned : {i : ℕ} {small : Bool} {after : Books} → r ≡ Bin i → small ≡ ltb i (smallBins table) → after ≡ putIntoM b small i c
-      → IsPut b table c size after
-  unfolding putInBinM putBinnedM
-  put-binned e s f = record { is = rw (← bin-is table size r taken, e, ← s) f }
+  pub put-binned : {i : ℕ} {small : Bool} {slot : Slot} {after : Books} → r ≡ Bin i → small ≡ ltb i (smallBins table) → slot ≡ slotM b small i size
+      → after ≡ putM b slot c → IsPut b table c size after
+  unfolding putInBinM putBinnedM putIntoM
+  put-binned e s k f = record { is = rw (← bin-is table size r taken, e, ← s, ← k) f }

@@ -34,12 +34,12 @@ settledM s End c = s
 unfoldable pub leaveBinM : Books → Bool → ℕ → Books
 leaveBinM b binned c = cond binned (leaveM b c) b
 
-unfoldable pub putBinnedM : Books → List ℕ → ℕ → Binned → Books
-putBinnedM b table c (Bin i) = putIntoM b (ltb i (smallBins table)) i c
-putBinnedM b table c NoBin = b
+unfoldable pub putBinnedM : Books → List ℕ → ℕ → ℕ → Binned → Books
+putBinnedM b table c size (Bin i) = putIntoM b (ltb i (smallBins table)) i c size
+putBinnedM b table c size NoBin = b
 
 unfoldable pub putInBinM : Books → List ℕ → ℕ → ℕ → Books
-putInBinM b table c size = putBinnedM b table c (binOf table size)
+putInBinM b table c size = putBinnedM b table c size (binOf table size)
 
 -- the books with some words written
 abbrev pub alsoWritten : Books → List Store → Books

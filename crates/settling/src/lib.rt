@@ -5,7 +5,8 @@ ghost use Rattle.books.specs.Books.{books};
 ghost use Rattle.record.specs.Table.{ValidTable};
 ghost use Rattle.settling.specs.Settling.{leaveBinM, putInBinM, settleM, settledM};
 use bins::leave;
-use bins::put_into;
+use bins::put_between;
+use bins::slot_for;
 use chain::is_ordinary;
 use headers::write_no_bin;
 use record::heap::Summary;
@@ -55,7 +56,8 @@ pub fn put_in_bin(
         return;
     };
     let small = in_small_array(table, bin);
-    put_into(region, heads, tails, small, bin, chunk);
+    let slot = slot_for(region, heads, tails, small, bin, size);
+    put_between(region, heads, tails, slot, chunk);
 }
 
 // An ordinary chunk is put into its bin; of donor and top the bin words are set to 0.

@@ -9,11 +9,14 @@ returns c = is-put (put-nowhere _ (c .before .before .bin-of .ensures) (c .enum-
 
 -- the steps of a put, from its end back
 module _ (c : tie.After-slice-known6) where
-  abbrev put : tie.After-put-into
+  abbrev put : tie.After-put-between
   put = c .before .before .before .before .before .before
 
+  abbrev found : tie.After-slot-for
+  found = put .before .before .before .before
+
   abbrev asked : tie.After-in-small-array
-  asked = put .before .before .before .before
+  asked = found .before .before .before .before
 
   abbrev binned : tie.After-binned
   binned = asked .before .before
@@ -24,7 +27,8 @@ module _ (c : tie.After-slice-known6) where
 returns-2 : tie.Need-returns-2
 returns-2 c =
     is-put
-    (put-binned _ (told c .bin-of .ensures) (binned c .binned .given .1) (asked c .in-small-array .ensures) (put c .put-into .ensures))
+    (put-binned _ (told c .bin-of .ensures) (binned c .binned .given .1) (asked c .in-small-array .ensures) (found c .slot-for .ensures)
+    (put c .put-between .ensures))
 
 pub put-in-bin-spec : {M : Type 1} → statement M
 put-in-bin-spec =
@@ -34,6 +38,7 @@ put-in-bin-spec =
     (λ c. search needs)
     (λ c. search needs)
     returns
+    (λ c κs. search needs)
     (λ c κs. search needs)
     (λ c κs. search needs)
     (λ c. search needs)
