@@ -1,4 +1,4 @@
--- What the walk of the bins' lists finds is what the check asks of them, both ways: each list is linked from head to tail,
+-- What the walk of the bins' lists finds is what the check asks of them, both ways: each list is linked from head to tail and in order of size,
 -- its members are ordinary chunks of its bin, and all of those are in some list. Assumes nothing.
 use mathlib.Core.Path.{_≡_, refl, _∙_, ap}
 use mathlib.Core.Bool.{true}
@@ -8,14 +8,14 @@ use Prim.Native.Nat.{ℕ, zero, suc, _+_, _*_, _%_, _^_, _≤_, _<_}
 use native.Mathlib.Decide.{ℕ-discrete}
 use native.Mathlib.Omega.{arith}
 use lib.ListN.{length, getD}
-use Rattle.lists.specs.Lists.{Mem, headOr, lastOr, total, numbersFrom, gathered, Distinct}
-use Rattle.lists.proofs.ListsLaws.{Decides, number-is, less, both, both-if, for-below, meaning}
+use Rattle.lists.specs.Lists.{Mem, headOr, lastOr, total, numbersFrom, gathered, Distinct, Ascending}
+use Rattle.lists.proofs.ListsLaws.{Decides, number-is, at-most, less, both, both-if, for-below, each-cons, meaning}
 use Rattle.lists.proofs.CountLaws.{distinct-fits, distinct-covers, gathered-length, gathered-from, gathered-has, gathered-once}
 use Rattle.lists.proofs.MembersLaws.{DistinctParts}
 use Rattle.marks.specs.Marks.{marked}
 use Rattle.record.specs.declared.table.Binned.the-variants.{Bin}
-use Rattle.record.specs.Table.{ValidTable, binOf}
-use Rattle.record.proofs.TableLaws.{takes-iff}
+use Rattle.record.specs.Table.{ValidTable, sizeAt, binOf}
+use Rattle.record.proofs.TableLaws.{bin-takes, takes-iff}
 use Rattle.region.specs.Words.{word, size, nextInBin, previousInBin, bin}
 use Rattle.rules.specs.Check.{Linked}
 use Rattle.rules.specs.Shape.{membersFrom}
@@ -86,36 +86,48 @@ module _ (ws table : List ℕ) (valid : ValidTable table) (all : List ℕ) where
     pub bins : word ws c bin ≡ i % 32 * 8
     pub takes : binOf table (word ws c size) ≡ Bin i
 
-  -- all of a list are, and each names the one before it
-  abbrev CombedIs : ℕ → ℕ → List ℕ → Type 0
-  CombedIs i p [] = Unit {0}
-  CombedIs i p (c ∷ cs) = (MemberFacts i c × (word ws c previousInBin ≡ p)) × CombedIs i c cs
+  -- all of a list are, and each names the one before it and is no smaller. The first is behind one at p of size s
+  abbrev CombedIs : ℕ → ℕ → ℕ → List ℕ → Type 0
+  CombedIs i p s [] = Unit {0}
+  CombedIs i p s (c ∷ cs) =
+      (MemberFacts i c × (word ws c previousInBin ≡ p) × (s ≤ word ws c size)) × CombedIs i c (word ws c size) cs
 
-  combed-facts : (i : ℕ) (cs : List ℕ) (p : ℕ) → CombedIs i p cs → (c : ℕ) → Mem c cs → MemberFacts i c
-  combed-facts i (c ∷ cs) p ((facts, back), others) d (List·Memᴰ·head e) = rw e facts
-  combed-facts i (c ∷ cs) p ((facts, back), others) d (List·Memᴰ·tail m) = combed-facts i cs c others d m
+  combed-facts : (i : ℕ) (cs : List ℕ) (p s : ℕ) → CombedIs i p s cs → (c : ℕ) → Mem c cs → MemberFacts i c
+  combed-facts i (c ∷ cs) p s ((facts, back, up), others) d (List·Memᴰ·head e) = rw e facts
+  combed-facts i (c ∷ cs) p s ((facts, back, up), others) d (List·Memᴰ·tail m) = combed-facts i cs c (word ws c size) others d m
+
+  -- so they are in order of size
+  combed-order : (i : ℕ) (cs : List ℕ) (p s : ℕ) → CombedIs i p s cs
+      → ((c : ℕ) → Mem c cs → s ≤ word ws c size) × Ascending (λ c. word ws c size) cs
+  combed-order i [] p s h = (λ c m. absurd (List·Memᴰ·not-nil m), tt)
+  combed-order i (c ∷ cs) p s ((facts, back, up), others) =
+      let (above, order) = combed-order i cs c (word ws c size) others in
+      (each-cons up (λ d m. let l = above d m in omega arith), (above, order))
 
   -- members that name each other backwards along a reading are linked both ways
-  read-linked : (i k c p : ℕ) → beyond ws c (membersFrom k ws c) ≡ 0 → CombedIs i p (membersFrom k ws c) → Linked ws p (membersFrom k ws c)
-  read-linked i zero c p b h = tt
-  read-linked i (suc k) c p b h = go (ℕ-discrete c 0) (λ b′ h′. read-linked i k (word ws c nextInBin) c b′ h′)
+  read-linked : (i k c p s : ℕ) → beyond ws c (membersFrom k ws c) ≡ 0 → CombedIs i p s (membersFrom k ws c) → Linked ws p (membersFrom k ws c)
+  read-linked i zero c p s b h = tt
+  read-linked i (suc k) c p s b h = go (ℕ-discrete c 0) (λ b′ h′. read-linked i k (word ws c nextInBin) c (word ws c size) b′ h′)
     where
       go : Dec (c ≡ 0)
           → (beyond ws (word ws c nextInBin) (membersFrom k ws (word ws c nextInBin)) ≡ 0
-          → CombedIs i c (membersFrom k ws (word ws c nextInBin)) → Linked ws c (membersFrom k ws (word ws c nextInBin)))
+          → CombedIs i c (word ws c size) (membersFrom k ws (word ws c nextInBin)) → Linked ws c (membersFrom k ws (word ws c nextInBin)))
           → Linked ws p (membersFrom (suc k) ws c)
       go (yes e) f = rw e tt
       go (no n) f =
           let q = read-on ws k c n in
           let b′ : beyond ws (word ws c nextInBin) (membersFrom k ws (word ws c nextInBin)) ≡ 0 = rw q at b in
-          let ((facts, back), others) : CombedIs i p (c ∷ membersFrom k ws (word ws c nextInBin)) = rw q at h in
+          let ((facts, back, up), others) : CombedIs i p s (c ∷ membersFrom k ws (word ws c nextInBin)) = rw q at h in
           rw q (back, next-head ws k (word ws c nextInBin) b′, f b′ others)
 
-  -- and back: linked members are combed
-  linked-combed : (i : ℕ) (cs : List ℕ) (p : ℕ) → Linked ws p cs → ((c : ℕ) → Mem c cs → MemberFacts i c) → CombedIs i p cs
-  linked-combed i [] p links f = tt
-  linked-combed i (c ∷ cs) p (back, next, links) f =
-      ((f c (List·Memᴰ·head refl), back), linked-combed i cs c links (λ d m. f d (List·Memᴰ·tail m)))
+  -- and back: members that are linked and in order are combed
+  linked-combed : (i : ℕ) (cs : List ℕ) (p s : ℕ) → Linked ws p cs → ((c : ℕ) → Mem c cs → MemberFacts i c)
+      → ((c : ℕ) → Mem c cs → s ≤ word ws c size) → Ascending (λ c. word ws c size) cs → CombedIs i p s cs
+  linked-combed i [] p s links f low order = tt
+  linked-combed i (c ∷ cs) p s (back, next, links) f low (above, order) = (
+    (f c (List·Memᴰ·head refl), back, low c (List·Memᴰ·head refl)),
+    linked-combed i cs c (word ws c size) links (λ d m. f d (List·Memᴰ·tail m)) above order,
+  )
 
 -- the lists of the bins, read from the heads with at most `bytes` steps each
 module _ (ws table : List ℕ) (valid : ValidTable table) (all heads tails : List ℕ) (bytes : ℕ) (some : 0 < bytes)
@@ -129,40 +141,44 @@ module _ (ws table : List ℕ) (valid : ValidTable table) (all heads tails : Lis
     pub links : Linked ws 0 (list i)
     pub once : Distinct (list i)
     pub members : (c : ℕ) → Mem c (list i) → MemberFacts ws table valid all i c
+    pub order : Ascending (λ c. word ws c size) (list i)
 
   module _ (ms : List ℕ) (marks : Marks ws table valid all ms) (i : ℕ) where
-    -- the tests of a member decide that it is one, and that it names the one before it
-    listed-iff : (p c : ℕ) → Decides (isListedM ws table i bytes ms p c) (MemberFacts ws table valid all i c × (word ws c previousInBin ≡ p))
+    -- the tests of a member decide that it is one, that it names the one before it, and that it is no smaller
+    listed-iff : (p s c : ℕ)
+        → Decides (isListedM ws table i bytes ms p s c) (MemberFacts ws table valid all i c × (word ws c previousInBin ≡ p) × (s ≤ word ws c size))
     unfolding isListedM
-    listed-iff p c =
+    listed-iff p s c =
         meaning
         (both (both (both (both-if (both (number-is (c % 8) 0) (less (c + 16) bytes)) (λ (eight, below). marks c eight))
         (number-is (word ws c bin) (i % 32 * 8)))
-        (number-is (word ws c previousInBin) p)) (takes-iff table valid i (word ws c size)))
-        (λ (((((eight, below), known), bins), back), takes). (record { known = known; bins = bins; takes = takes }, back))
-        (λ (m, back). (((((eights c (m .known), bounded c (m .known) .1), m .known), m .bins), back), m .takes))
+        (number-is (word ws c previousInBin) p)) (both (takes-iff table valid i (word ws c size)) (at-most s (word ws c size))))
+        (λ (((((eight, below), known), bins), back), (takes, up)). (record { known = known; bins = bins; takes = takes }, back, up))
+        (λ (m, back, up). (((((eights c (m .known), bounded c (m .known) .1), m .known), m .bins), back), (m .takes, up)))
 
-    combed-iff : (cs : List ℕ) (p : ℕ) → Decides (combed ws table i bytes ms p cs) (CombedIs ws table valid all i p cs)
-    combed-iff [] p = (λ h. tt, λ h. refl)
-    combed-iff (c ∷ cs) p = both (listed-iff p c) (combed-iff cs c)
+    combed-iff : (cs : List ℕ) (p s : ℕ) → Decides (combed ws table i bytes ms p s cs) (CombedIs ws table valid all i p s cs)
+    combed-iff [] p s = (λ h. tt, λ h. refl)
+    combed-iff (c ∷ cs) p s = both (listed-iff p s c) (combed-iff cs c (word ws c size))
 
     -- so the walk of a bin's list comes through exactly if the list is right
     bin-iff : Decides (wholeBin ws table heads tails bytes ms i) (BinIs i)
     bin-iff =
         meaning
-        (both (both (combed-iff (list i) 0) (number-is (beyond ws (getD heads i 0) (list i)) 0)) (number-is (getD tails i 0) (lastOr 0 (list i))))
+        (both (both (combed-iff (list i) 0 (sizeAt table i)) (number-is (beyond ws (getD heads i 0) (list i)) 0)) (number-is (getD tails i 0) (lastOr 0 (list i))))
         (λ ((combed, ends), tail).
-        let links = read-linked ws table valid all i bytes (getD heads i 0) 0 ends combed in
-        let members = combed-facts ws table valid all i (list i) 0 combed in
+        let links = read-linked ws table valid all i bytes (getD heads i 0) 0 (sizeAt table i) ends combed in
+        let members = combed-facts ws table valid all i (list i) 0 (sizeAt table i) combed in
         record {
           tail = tail;
           links = links;
           once = linked-once ws (list i) links (λ c m. bounded c (members c m .known) .0);
           members = members;
+          order = combed-order ws table valid all i (list i) 0 (sizeAt table i) combed .1;
         })
         (λ q. (
           (
-            linked-combed ws table valid all i (list i) 0 (q .links) (q .members),
+            linked-combed ws table valid all i (list i) 0 (sizeAt table i) (q .links) (q .members)
+                (λ c m. bin-takes table (q .members c m .takes) .notAbove) (q .order),
             linked-ends ws (list i) (getD heads i 0) 0 (q .links) (read-head ws bytes (getD heads i 0) some),
           ),
           q .tail,

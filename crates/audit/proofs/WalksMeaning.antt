@@ -9,6 +9,7 @@ use native.Mathlib.Decide.{ℕ-discrete}
 use native.Mathlib.Omega.{arith}
 use lib.ListN.{length, getD, length-map}
 use Rattle.lists.specs.Lists.{Mem, lastOr, keep, total, numbersFrom}
+use Rattle.lists.proofs.AscendingLaws.{ascending-same}
 use Rattle.lists.proofs.ListsLaws.{Decides, number-is, itself, both, or-else, denied, meaning}
 use Rattle.lists.proofs.MembersLaws.{kept-from, kept-has, kept-few}
 use Rattle.record.specs.declared.heap.Heap.{Heap}
@@ -17,14 +18,15 @@ use Rattle.record.specs.declared.kinds.Kind.the-variants.{Ordinary}
 use Rattle.record.specs.Heap.{tableOf, summaryOf}
 use Rattle.region.specs.Words.{word, size}
 use Rattle.rules.specs.Check.{Tabled, Listed, InItsBin, BelongsTo, usedBytes, freeBytes}
-use Rattle.rules.specs.Kinds.{ordinary, kindOf, outside}
+use Rattle.rules.specs.Kinds.{ordinary, kindOf, outside, sizeOn}
 use Rattle.rules.specs.Shape.{Entry, shape, binList, members, membersFrom}
 use Rattle.rules.proofs.BytesLaws.{bytes-shared}
 use Rattle.rules.proofs.CheckLaws.{table-bins}
 use Rattle.rules.proofs.ChainLaws.{shape-chain}
 use Rattle.rules.proofs.KindsLaws.{being-as, ordinary-kind, ordinary-free}
+use Rattle.rules.proofs.OrderLaws.{size-there, every-bin-iff}
 use Rattle.rules.proofs.ShapeLaws.{shape-is}
-use Rattle.rules.proofs.TiledLaws.{chain-tiled, tiled-in}
+use Rattle.rules.proofs.TiledLaws.{chain-tiled, tiled-in, tiled-eights}
 use Rattle.audit.specs.Audit.{isSettledM, isSharedM, marksOf, metAll, walksWell}
 use Rattle.sweep.specs.Sweep.{listAt, allWhole}
 use Rattle.survey.specs.declared.Tally.{Tally}
@@ -109,6 +111,20 @@ module _ (ws : List ℕ) (h : Heap) (big : 40 ≤ h .bytes) (small : h .bytes �
     sized : (e : Entry) → Mem e es → ordinary h e ≡ true → word ws (e .place) size ≡ e .size
     sized e m o = let s = facts .chunks e m in s .sized (ordinary-free h e o (s .flags))
 
+    -- it is what the chain says
+    size-word : (c : ℕ) (e : Entry) → Mem e es → e .place ≡ c → ordinary h e ≡ true → word ws c size ≡ sizeOn es c
+    size-word c e m here o = (rw here at (sized e m o)) ∙ sym (size-there 0 es (shape-chain ws (h .bytes) .rising) e m c here)
+
+    -- and a multiple of 8, since chunks begin and end at such places
+    eight-word : (c : ℕ) (e : Entry) → Mem e es → e .place ≡ c → ordinary h e ≡ true → word ws c size % 8 ≡ 0
+    eight-word c e m here o =
+        let endEight = facts .chain .eights (lastOr outside es) (shape-chain ws (h .bytes) .has-last outside) in
+        let end = facts .chain .reachesEnd in
+        let begins = facts .chain .eights e m in
+        let ends = tiled-eights 0 (h .bytes) es (chain-tiled ws (h .bytes) (omega arith) .0) (omega arith) (facts .chain .eights) m in
+        let s : word ws c size ≡ e .size = rw here at (sized e m o) in
+        omega arith
+
     -- the ordinary chunks are marked
     marks : Marks ws (tableOf h) (table .valid) all markedAll
     marks c e = marks-are ws h small facts c e
@@ -126,6 +142,7 @@ module _ (ws : List ℕ) (h : Heap) (big : 40 ≤ h .bytes) (small : h .bytes �
           once = b .once;
           chunks = λ c m. chunk c m;
           words = λ c m. let w = b .members c m .bins in let n = table .bins in omega arith;
+          order = λ _. ascending-same (binList ws h i) (λ c m. let (e, known, (here, own)) = chunk c m in size-word c e known here (own .0)) (b .order);
         }
       where
         chunk : (c : ℕ) → Mem c (membersFrom (h .bytes) ws (getD (h .heads) i 0)) → (e : Entry) × Mem e es × ((e .place ≡ c) × BelongsTo h i e)
@@ -143,6 +160,12 @@ module _ (ws : List ℕ) (h : Heap) (big : 40 ≤ h .bytes) (small : h .bytes �
           links = b .links;
           once = b .once;
           members = λ c m. member c m;
+          order =
+              every-bin-iff (tableOf h) (table .valid) i (λ c. word ws c size) (binList ws h i) (λ c m. member c m .takes)
+              (λ c m. let (e, known, (here, own)) = b .chunks c m in eight-word c e known here (own .0)) .0
+              (λ upper.
+              ascending-same (binList ws h i) (λ c m. let (e, known, (here, own)) = b .chunks c m in sym (size-word c e known here (own .0)))
+              (b .order upper));
         }
       where
         member : (c : ℕ) → Mem c (membersFrom (h .bytes) ws (getD (h .heads) i 0)) → MemberFacts ws (tableOf h) (table .valid) all i c

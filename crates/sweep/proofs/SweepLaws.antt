@@ -12,11 +12,11 @@ use lib.Dec.{leb, ltb}
 use lib.ListN.{length, getD}
 use borrow.Author.Tests.{eq-eqb, ne-eqb, le-leb, lt-leb, lt-ltb, le-ltb, not-true, not-false}
 use Rattle.lists.specs.Lists.{lastOr, total, numbersFrom}
-use Rattle.lists.proofs.ListsLaws.{same-test, number-is, less, both}
+use Rattle.lists.proofs.ListsLaws.{same-test, number-is, at-most, less, both}
 use Rattle.marks.specs.Marks.{numberM, marked}
 use Rattle.chain.specs.Length.{Lent}
 use Rattle.record.specs.Table.{ValidTable, sizeAt, takesBin}
-use Rattle.region.specs.Words.{word, size, nextInBin, bin}
+use Rattle.region.specs.Words.{word, size, nextInBin, previousInBin, bin}
 use Rattle.rules.specs.Shape.{membersFrom}
 use Rattle.rules.proofs.ShapeLaws.{read-none, read-spent, read-more}
 use Rattle.sweep.specs.declared.Sizes.{Sizes}
@@ -25,71 +25,100 @@ use Rattle.sweep.specs.declared.Swept.{Swept}
 use Rattle.sweep.specs.declared.Swept.the-variants.{Whole, Torn}
 use Rattle.sweep.specs.Sweep.{sizesM, saysListedM, isPlacedM, isListedM, combed, beyond, wholeList, WholeIs, SweptIs, NextListed, listAt, allWhole, SweepIs}
 
--- a size is below a bound exactly if it is at most the span more than the least one
-below-span : (least above s : ℕ) → least < above → ltb s above ≡ leb s (least + (above - 1 - least))
-below-span least above s h = go (decLt s above)
-  where
-    go : Dec (s < above) → ltb s above ≡ leb s (least + (above - 1 - least))
-    go (yes l) = lt-ltb s above l ∙ sym (le-leb s _ (omega arith))
-    go (no n) = le-ltb s above (omega arith) ∙ sym (lt-leb s _ (omega arith))
+-- a size is below a bound exactly if it is at most one less
+below-most : (above s : ℕ) → 0 < above → ltb s above ≡ leb s (above - 1)
+below-most above s h =
+    same-test (less s above) (at-most s (above - 1)) (λ l. omega arith) (λ l. omega arith)
 
 -- the two comparisons of a size with what its bin asks are the test for the bin
-takes-sizes : (table : List ℕ) (i s : ℕ) → ValidTable table → i < length table → sizeAt table i < 2 ^ 32 → s < 2 ^ 32
-    → takesBin table i s ≡ (leb (sizesM table i .least) s && leb s (sizesM table i .least + sizesM table i .span))
+takes-sizes : (table : List ℕ) (i s : ℕ) → ValidTable table → i < length table → s < 2 ^ 32
+    → takesBin table i s ≡ (leb (sizesM table i .least) s && leb s (sizesM table i .most))
 unfolding takesBin
-takes-sizes table i s valid inside word small = rw (lt-ltb i (length table) inside) (go (decLe (length table) (suc i)))
+takes-sizes table i s valid inside small = rw (lt-ltb i (length table) inside) (go (decLe (length table) (suc i)))
   where
     go : Dec (length table ≤ suc i)
         → (leb (sizeAt table i) s && (leb (length table) (suc i) || ltb s (sizeAt table (suc i))))
-        ≡ (leb (sizeAt table i) s
-        && leb s (sizeAt table i + (cond (leb (length table) (suc i)) (2 ^ 32 - 1) (sizeAt table (suc i) - 1) - sizeAt table i)))
-    go (yes l) = rw (le-leb (length table) (suc i) l, ← below-span (sizeAt table i) (2 ^ 32) s word, lt-ltb s (2 ^ 32) small)
+        ≡ (leb (sizeAt table i) s && leb s (cond (leb (length table) (suc i)) (2 ^ 32 - 1) (sizeAt table (suc i) - 1)))
+    go (yes l) = rw (le-leb (length table) (suc i) l, le-leb s (2 ^ 32 - 1) (omega arith))
     go (no n) =
-        rw (
-          lt-leb (length table) (suc i) (omega arith),
-          below-span (sizeAt table i) (sizeAt table (suc i)) s (valid .ascends i (omega arith)),
-        )
+        let up = valid .ascends i (omega arith) in
+        rw (lt-leb (length table) (suc i) (omega arith), below-most (sizeAt table (suc i)) s (omega arith))
+
+-- what bin i asks somewhere along its list: only the least size changes, and it never falls
+pub record Asks (table : List ℕ) (i : ℕ) (sizes : Sizes) : Type 0 where
+  pub word : sizes .word ≡ sizesM table i .word
+  pub most : sizes .most ≡ sizesM table i .most
+  pub from : sizesM table i .least ≤ sizes .least
+  pub some : sizes .least ≤ sizes .most
+
+-- of the first member it asks for its own size or more
+pub asks-begin : {table : List ℕ} {i : ℕ} {sizes : Sizes} → sizes ≡ sizesM table i → sizes .least ≤ sizes .most → Asks table i sizes
+asks-begin e some =
+    record {
+      word = ap (λ (z : Sizes). z .word) e;
+      most = ap (λ (z : Sizes). z .most) e;
+      from = let q = ap (λ (z : Sizes). z .least) e in omega arith;
+      some = some;
+    }
+
+-- behind a member that passed, its size is the least
+pub asks-on : (ws : List ℕ) {table : List ℕ} {i : ℕ} (p c : ℕ) {sizes : Sizes} {t : Bool}
+    → Asks table i sizes → t ≡ saysListedM ws sizes p c → not t ≡ false
+    → Asks table i (record { word = sizes .word; least = word ws c size; most = sizes .most })
+unfolding saysListedM
+asks-on ws p c {sizes} {t} asks et ht =
+    let (((_, _), low), high) =
+    both (both (both (number-is (word ws c bin) (sizes .word)) (number-is (word ws c previousInBin) p)) (at-most (sizes .least) (word ws c size)))
+    (at-most (word ws c size) (sizes .most)) .0 (sym et ∙ not-false t ht) in
+    record { word = asks .word; most = asks .most; from = omega (arith, asks .from); some = high }
+
+-- so the two comparisons are the test for the bin and that for the order
+takes-from : (table : List ℕ) (i s : ℕ) (sizes : Sizes) → Asks table i sizes → ValidTable table → i < length table → s < 2 ^ 32
+    → (takesBin table i s && leb (sizes .least) s) ≡ (leb (sizes .least) s && leb s (sizes .most))
+takes-from table i s sizes asks valid inside small =
+    rw (takes-sizes table i s valid inside small)
+    (same-test
+    (both (both (at-most (sizesM table i .least) s) (at-most s (sizesM table i .most))) (at-most (sizes .least) s))
+    (both (at-most (sizes .least) s) (at-most s (sizes .most)))
+    (λ ((own, top), least). (least, omega (arith, asks .most)))
+    (λ (least, top). ((omega (arith, asks .from), omega (arith, asks .most)), least)))
 
 -- the code's one comparison makes both: r is the wrapped difference of a size and the least one
-pub span-tested : (least span s r : ℕ) → least + span < 2 ^ 32 → r < 2 ^ 32 → (r + least) % 2 ^ 32 ≡ s
-    → leb r span ≡ (leb least s && leb s (least + span))
-span-tested least span s r fits small e = go (decLe least s) (decLe r span)
-  where
-    go : Dec (least ≤ s) → Dec (r ≤ span) → leb r span ≡ (leb least s && leb s (least + span))
-    go (yes l) (yes k) = rw (le-leb r span k, le-leb least s l, le-leb s (least + span) (omega arith))
-    go (yes l) (no k) = rw (lt-leb r span (omega arith), le-leb least s l, lt-leb s (least + span) (omega arith))
-    go (no l) (yes k) = absurd (omega arith)
-    go (no l) (no k) = rw (lt-leb r span (omega arith), lt-leb least s (omega arith))
+pub bounds-tested : (least most s r : ℕ) → least ≤ most → most < 2 ^ 32 → r < 2 ^ 32 → (r + least) % 2 ^ 32 ≡ s
+    → leb r (most - least) ≡ (leb least s && leb s most)
+bounds-tested least most s r some fits small e =
+    same-test (at-most r (most - least)) (both (at-most least s) (at-most s most))
+    (λ l. (omega arith, omega arith))
+    (λ (low, high). omega arith)
 
 -- what the test of a member comes to. It is a record, so that the checker finds by itself what is tested
-pub record Tested (ws table : List ℕ) (i bytes : ℕ) (ms : List ℕ) (p c : ℕ) (t : Bool) : Type 0 where
-  pub is : t ≡ isListedM ws table i bytes ms p c
+pub record Tested (ws table : List ℕ) (i bytes : ℕ) (ms : List ℕ) (p s c : ℕ) (t : Bool) : Type 0 where
+  pub is : t ≡ isListedM ws table i bytes ms p s c
 
 -- the tests of a member, in the code's order: its place, its mark, its words
 module _ {ws table : List ℕ} {i bytes : ℕ} {ms : List ℕ} {p c : ℕ} {t : Bool} (et : t ≡ isPlacedM bytes c) where
-  pub not-placed : not t ≡ true → Tested ws table i bytes ms p c false
+  pub not-placed : {s : ℕ} → not t ≡ true → Tested ws table i bytes ms p s c false
   unfolding isListedM
   not-placed h = record { is = rw (sym et ∙ not-true t h) }
 
   module _ (ht : not t ≡ false) {m : Bool} (em : m ≡ marked ms c) where
-    pub not-marked : not m ≡ true → Tested ws table i bytes ms p c false
+    pub not-marked : {s : ℕ} → not m ≡ true → Tested ws table i bytes ms p s c false
     unfolding isListedM
     not-marked h = record { is = rw (sym et ∙ not-false t ht, sym em ∙ not-true m h) }
 
-    pub by-words : not m ≡ false → ValidTable table → i < length table → {sizes : Sizes}
-        → (sizes ≡ sizesM table i) × (sizes .least + sizes .span < 2 ^ 32)
-        → {w : Bool} → (w ≡ saysListedM ws sizes p c) × (word ws c size < 2 ^ 32) → Tested ws table i bytes ms p c w
+    pub by-words : not m ≡ false → ValidTable table → i < length table → {sizes : Sizes} → Asks table i sizes
+        → {w : Bool} → (w ≡ saysListedM ws sizes p c) × (word ws c size < 2 ^ 32) → Tested ws table i bytes ms p (sizes .least) c w
     unfolding isListedM saysListedM
-    by-words hm valid inside (es, fits) (ew, small) =
+    by-words hm valid inside {sizes} asks (ew, small) =
         record {
           is =
               rw (
                 sym et ∙ not-false t ht,
                 sym em ∙ not-false m hm,
-                takes-sizes table i (word ws c size) valid inside (omega (arith, rw es at fits)) small,
+                takes-from table i (word ws c size) sizes asks valid inside small,
                 ← and-assoc,
               )
-              (rw es at ew);
+              (rw (asks .word) at ew);
         }
 
 -- one comparison of its number tests the place of a member
@@ -122,30 +151,30 @@ module _ {ws : List ℕ} {bytes : ℕ} (lent : Lent ws bytes) (c : ℕ) {t : Boo
     pub own-mark : (ms : List ℕ) {m : Bool} → m ≡ marked ms (8 * k) → m ≡ marked ms c
     own-mark ms em = let (eight, below) = placed in let same : 8 * k ≡ c = omega arith in em ∙ ap (marked ms) same
 
--- where the walk of one list stands, at c behind p, with `left` steps left
+-- where the walk of one list stands, at c behind p of size s, with `left` steps left
 module _ (ws table : List ℕ) (i bytes : ℕ) (ms : List ℕ) (first : ℕ) where
-  pub record Combing (c p left : ℕ) : Type 0 where
+  pub record Combing (c p s left : ℕ) : Type 0 where
     pub combs :
-        combed ws table i bytes ms p (membersFrom left ws c)
-        ≡ combed ws table i bytes ms 0 (membersFrom bytes ws first)
+        combed ws table i bytes ms p s (membersFrom left ws c)
+        ≡ combed ws table i bytes ms 0 (sizeAt table i) (membersFrom bytes ws first)
     pub ends : beyond ws c (membersFrom left ws c) ≡ beyond ws first (membersFrom bytes ws first)
     pub count : bytes + length (membersFrom left ws c) ≡ left + length (membersFrom bytes ws first)
     pub lasts : lastOr p (membersFrom left ws c) ≡ lastOr 0 (membersFrom bytes ws first)
     pub within : left ≤ bytes
 
 module _ {ws table : List ℕ} {i bytes : ℕ} {ms : List ℕ} {first : ℕ} where
-  pub combing-begins : Combing ws table i bytes ms first first 0 bytes
-  combing-begins =
-      record { combs = refl; ends = refl; count = refl; lasts = refl; within = omega arith }
+  pub combing-begins : {s : ℕ} → s ≡ sizeAt table i → Combing ws table i bytes ms first first 0 s bytes
+  combing-begins e =
+      rw e (record { combs = refl; ends = refl; count = refl; lasts = refl; within = omega arith })
 
-  module _ {c p left : ℕ} (o : Combing ws table i bytes ms first c p left) where
+  module _ {c p s left : ℕ} (o : Combing ws table i bytes ms first c p s left) where
     -- no list is longer than its steps
     pub torn-long : left ≡ 0 → (c ≡ 0 → ⊥) → SweptIs ws table i bytes ms first Torn
     unfolding SweptIs
     torn-long e n =
         let r = read-spent ws left c e in
         let q : beyond ws first (membersFrom bytes ws first) ≡ c = sym (o .ends) ∙ ap (beyond ws c) r in
-        rw (sym (o .combs) ∙ ap (combed ws table i bytes ms p) r, q, ne-eqb c 0 n)
+        rw (sym (o .combs) ∙ ap (combed ws table i bytes ms p s) r, q, ne-eqb c 0 n)
 
     pub whole-list : c ≡ 0 → SweptIs ws table i bytes ms first (Whole (bytes - left) p)
     unfolding SweptIs
@@ -154,23 +183,23 @@ module _ {ws table : List ℕ} {i bytes : ℕ} {ms : List ℕ} {first : ℕ} whe
         let q : beyond ws first (membersFrom bytes ws first) ≡ c = sym (o .ends) ∙ ap (beyond ws c) r in
         let l : bytes + 0 ≡ left + length (membersFrom bytes ws first) = rw r at (o .count) in
         record {
-          whole = rw (sym (o .combs) ∙ ap (combed ws table i bytes ms p) r, q, eq-eqb c 0 e);
+          whole = rw (sym (o .combs) ∙ ap (combed ws table i bytes ms p s) r, q, eq-eqb c 0 e);
           count = omega arith;
           ends = sym (ap (lastOr p) r) ∙ o .lasts;
         }
 
-    module _ (n : c ≡ 0 → ⊥) (h : 0 < left) {t : Bool} (test : Tested ws table i bytes ms p c t) where
+    module _ (n : c ≡ 0 → ⊥) (h : 0 < left) {t : Bool} (test : Tested ws table i bytes ms p s c t) where
       pub torn-here : not t ≡ true → SweptIs ws table i bytes ms first Torn
       unfolding SweptIs
       torn-here ht =
           let r = read-more ws left c n h in
-          rw (sym (o .combs) ∙ ap (combed ws table i bytes ms p) r, sym (test .is) ∙ not-true t ht)
+          rw (sym (o .combs) ∙ ap (combed ws table i bytes ms p s) r, sym (test .is) ∙ not-true t ht)
 
-      pub combing-goes : not t ≡ false → {d : ℕ} → d ≡ word ws c nextInBin
-          → Combing ws table i bytes ms first d c (left - 1)
-      combing-goes ht ed =
+      pub combing-goes : not t ≡ false → {z : ℕ} → z ≡ word ws c size → {d : ℕ} → d ≡ word ws c nextInBin
+          → Combing ws table i bytes ms first d c z (left - 1)
+      combing-goes ht ez ed =
           let r = read-more ws left c n h in
-          rw ed
+          rw (ed, ez)
           (record {
             combs = rw (r, sym (test .is) ∙ not-false t ht) at (o .combs);
             ends = rw r at (o .ends);

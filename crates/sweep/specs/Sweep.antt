@@ -17,21 +17,21 @@ use Rattle.sweep.specs.declared.Sweep.the-variants.{Clean, Dirty}
 use Rattle.sweep.specs.declared.Swept.{Swept}
 use Rattle.sweep.specs.declared.Swept.the-variants.{Whole, Torn}
 
--- what bin i asks of the words of its members: its bin word, and a size from its own to below the next bin's.
+-- what bin i asks of the words of its first member: its bin word, and a size from its own to below the next bin's.
 -- No bin follows the last one: every word from its size on is one of its sizes
 abbrev pub sizesM : List ℕ → ℕ → Sizes
 sizesM table i =
     record {
       word = i % 32 * 8;
       least = sizeAt table i;
-      span = cond (leb (length table) (suc i)) (2 ^ 32 - 1) (sizeAt table (suc i) - 1) - sizeAt table i;
+      most = cond (leb (length table) (suc i)) (2 ^ 32 - 1) (sizeAt table (suc i) - 1);
     }
 
--- the words of the chunk at c are right for a member behind one at p, of the bin that asks for these sizes
+-- the words of the chunk at c are right for a member behind one at p, where these sizes are asked for
 unfoldable pub saysListedM : List ℕ → Sizes → ℕ → ℕ → Bool
 saysListedM ws s p c =
     eqb (word ws c bin) (s .word) && eqb (word ws c previousInBin) p && leb (s .least) (word ws c size)
-    && leb (word ws c size) (s .least + s .span)
+    && leb (word ws c size) (s .most)
 
 -- c is a multiple of 8, and the six words of a header are inside the heap bytes, which are a multiple of 8 too
 abbrev pub isPlacedM : ℕ → ℕ → Bool
@@ -39,16 +39,16 @@ isPlacedM bytes c = eqb (c % 8) 0 && ltb (c + 16) bytes
 
 -- the words, the table, a bin of it, and the heap bytes
 module _ (ws table : List ℕ) (i bytes : ℕ) where
-  -- the chunk at c is a member of bin i behind one at p
-  unfoldable pub isListedM : List ℕ → ℕ → ℕ → Bool
-  isListedM ms p c =
+  -- the chunk at c is a member of bin i behind one at p of size s, and is no smaller
+  unfoldable pub isListedM : List ℕ → ℕ → ℕ → ℕ → Bool
+  isListedM ms p s c =
       isPlacedM bytes c && marked ms c && eqb (word ws c bin) (i % 32 * 8) && eqb (word ws c previousInBin) p
-      && takesBin table i (word ws c size)
+      && (takesBin table i (word ws c size) && leb s (word ws c size))
 
   -- all of a list are, one behind the other
-  abbrev pub combed : List ℕ → ℕ → List ℕ → Bool
-  combed ms p [] = true
-  combed ms p (c ∷ cs) = isListedM ms p c && combed ms c cs
+  abbrev pub combed : List ℕ → ℕ → ℕ → List ℕ → Bool
+  combed ms p s [] = true
+  combed ms p s (c ∷ cs) = isListedM ms p s c && combed ms c (word ws c size) cs
 
 -- where the forward bin links lead from c, past the members cs
 abbrev pub beyond : List ℕ → ℕ → List ℕ → ℕ
@@ -57,10 +57,10 @@ beyond ws c (d ∷ ds) = beyond ws (word ws d nextInBin) ds
 
 -- no list has more members than there are heap bytes: so many steps read it
 module _ (ws table : List ℕ) (i bytes : ℕ) where
-  -- the list from `first` is whole: every member is right, and it ends
+  -- the list from `first` is whole: every member is right, and it ends. The first member is no smaller than the bin's size
   abbrev pub wholeList : List ℕ → ℕ → Bool
   wholeList ms first =
-      combed ws table i bytes ms 0 (membersFrom bytes ws first) && eqb (beyond ws first (membersFrom bytes ws first)) 0
+      combed ws table i bytes ms 0 (sizeAt table i) (membersFrom bytes ws first) && eqb (beyond ws first (membersFrom bytes ws first)) 0
 
   -- it is, with so many members and this last one
   pub record WholeIs (ms : List ℕ) (first met last : ℕ) : Type 0 where

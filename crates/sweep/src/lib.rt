@@ -23,29 +23,31 @@ use region::SIZE;
 // A header takes three times 8 bytes: a chunk with a number this far below the end, or less, has no room for one.
 const BELOW_END: u32 = LEAST / ALIGNMENT - 1;
 
-// What a bin asks of the words of its members: its bin word, and a size from `least` to `span` more.
+// What a bin asks of the words of a member: its bin word, and a size from `least` to `most`. Along a list `least` is the size of the member
+// before, so that no member is smaller than that one. The rules ask for this order outside the small array only; the members of a small bin
+// have one size, so that they are in order anyway.
 pub struct Sizes {
     pub word: u32,
     pub least: u32,
-    pub span: u32,
+    pub most: u32,
 }
 
-// The table is read once for a list, not for each member. No bin follows the last one, and so every word from its size on is one of its sizes.
+// What it asks of the first member. The table is read once for a list, not for each member. No bin follows the last one, and so every word
+// from its size on is one of its sizes.
 fn sizes_of(table: &[u32], bin: usize) -> Sizes
     requires { ⌜ ValidTable (now table) ⌝ }
     requires { ⌜ bin < length (now table) ⌝ }
     ensures { λ r. ⌜ r ≡ sizesM (now (table .entry)) bin ⌝ }
-    ensures { λ r. ⌜ r .least + r .span < 2 ^ 32 ⌝ }
+    ensures { λ r. ⌜ r .least ≤ r .most ⌝ }
 {
     let next = bin + 1;
-    let least = table[bin];
     Sizes {
         word: bin_word(bin),
-        least: least,
-        span: if next < table.len() {
-            table[next] - 1 - least
+        least: table[bin],
+        most: if next < table.len() {
+            table[next] - 1
         } else {
-            u32::MAX - least
+            u32::MAX
         },
     }
 }
@@ -59,11 +61,11 @@ fn is_placed(number: u32, bytes: u32) -> bool
     number < bytes / ALIGNMENT - BELOW_END
 }
 
-// The words of a member: its bin word, its backward bin link and its size are right. A size below `least` wraps to a difference above `span`,
-// so that one comparison tests both bounds.
+// The words of a member: its bin word, its backward bin link and its size are right. A size below `least` wraps to a difference above that of
+// `most`, so that one comparison tests both bounds: the size is one of the bin's, and the order is kept.
 fn is_listed(region: &[u32], sizes: Sizes, before: u32, chunk: Chunk) -> bool
     requires { ⌜ chunk .0 / 4 + bin < length (now region) ⌝ }
-    requires { ⌜ sizes .least + sizes .span < 2 ^ 32 ⌝ }
+    requires { ⌜ sizes .least ≤ sizes .most ⌝ }
     ensures { λ r. ⌜ r ≡ saysListedM (now (region .entry)) sizes before (chunk .0) ⌝ }
     ensures { λ _. ⌜ word (now (region .entry)) (chunk .0) size < 2 ^ 32 ⌝ }
 {
@@ -75,7 +77,7 @@ fn is_listed(region: &[u32], sizes: Sizes, before: u32, chunk: Chunk) -> bool
     if region[i + PREVIOUS_IN_BIN as usize] != before {
         return false;
     }
-    std::num::wrapping_sub_u32(size, sizes.least) <= sizes.span
+    std::num::wrapping_sub_u32(size, sizes.least) <= sizes.most - sizes.least
 }
 
 pub enum Swept {
@@ -99,7 +101,7 @@ pub fn sweep_list(
     requires { ⌜ bin < length (now table) ⌝ }
     ensures { λ r. ⌜ SweptIs (now (region .entry)) (now (table .entry)) bin bytes (now (marks .entry)) first r ⌝ }
 {
-    let sizes = sizes_of(table, bin);
+    let mut sizes = sizes_of(table, bin);
     let mut at = first;
     let mut before = 0;
     let mut left = bytes;
@@ -117,8 +119,11 @@ pub fn sweep_list(
         if !is_listed(region, sizes, before, Chunk(at)) {
             return Swept::Torn;
         }
+        let i = (at / 4) as usize;
+        let size = region[i + SIZE as usize];
+        sizes.least = size;
         before = at;
-        at = region[(at / 4) as usize + NEXT_IN_BIN as usize];
+        at = region[i + NEXT_IN_BIN as usize];
         left -= 1;
     }
     Swept::Whole(bytes - left, before)

@@ -6,7 +6,7 @@ use borrow.Author.Tests.{eq-eqb, ne-eqb}
 use lib.ListN.{getD}
 use Rattle.region.specs.Words.{word, size}
 use Rattle.sweep.specs.Sweep.{saysListedM}
-use Rattle.sweep.proofs.SweepLaws.{span-tested}
+use Rattle.sweep.proofs.SweepLaws.{bounds-tested}
 use Rattle.sweep.proofs.is_listed.Statement.{statement}
 use Rattle.sweep.proofs.is_listed.Tie as tie
 
@@ -41,7 +41,8 @@ returns-3 c =
     let same-bin = same-before .before .before in
     let sizes = start (size-read same-bin) .args .sizes in (
       rw (eq-eqb _ _ (same-bin .if1 .left), eq-eqb _ _ (same-before .if2 .left))
-          (span-tested (sizes .least) (sizes .span) _ _ (start (size-read same-bin) .pre .1) (search needs) (c .before .wrapping-sub-u32 .ensures)),
+          (bounds-tested (sizes .least) (sizes .most) _ _ (start (size-read same-bin) .pre .1) (search needs) (search needs)
+          (c .before .wrapping-sub-u32 .ensures)),
       is-word (size-read same-bin),
     )
 
@@ -65,4 +66,5 @@ is-listed-spec =
     (λ c. search needs)
     returns-2
     (λ c κs. search needs)
+    (λ c. search needs)
     returns-3)

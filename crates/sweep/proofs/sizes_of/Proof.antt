@@ -16,31 +16,29 @@ module _ (read : tie.After-shared-slice-known3) where
   ascends : sizeAt (start .args .table .now) (start .args .bin) < sizeAt (start .args .table .now) (start .args .bin + 1)
   ascends = rw add-one (start .pre .0 .ascends (start .args .bin) (rw add-one at (read .before .if1 .taken)))
 
--- where there is no next bin: the bin's size is a word
-word-is : tie.Need-sub-t17-2
-word-is c = omega (arith, c .before .before .shared-slice-known2 .given (c .before .before .before .before .args .bin))
-
 returns : tie.Need-returns
 returns c = (
-  rw (c .before .before .bin-word .ensures, lt-leb _ _ (rw add-one at (c .before .if1 .taken)), add-one),
-  omega (arith, ascends c, c .shared-slice-known3 .given (start c .args .bin + 1)),
+  rw (c .before .before .before .bin-word .ensures, lt-leb _ _ (rw add-one at (c .before .if1 .taken)), add-one),
+  omega (arith, ascends c),
 )
 
+-- where there is no next bin: the bin's size is a word
 returns-2 : tie.Need-returns-2
-returns-2 c = (rw (c .before .bin-word .ensures, le-leb _ _ (rw add-one at (c .if1 .left))), omega (arith, word-is c))
+returns-2 c = (
+  rw (c .before .before .bin-word .ensures, le-leb _ _ (rw add-one at (c .if1 .left))),
+  omega (arith, c .before .shared-slice-known2 .given (c .before .before .before .before .args .bin)),
+)
 
 pub sizes-of-spec : {M : Type 1} → statement M
 sizes-of-spec =
     tie.close
     (tie.spec
     (λ c. search needs)
-    (λ c. search needs)
-    (λ c. search needs)
     (λ c κs. search needs)
     (λ c. search needs)
     (λ c. search needs)
+    (λ c. search needs)
+    (λ c. search needs)
     (λ c. omega (arith, ascends c))
-    (λ c. omega (arith, ascends c))
-    word-is
     returns
     returns-2)

@@ -1,31 +1,28 @@
--- `sweep::sweep_list` combs one list. The invariant: what is done and what is left come to the whole list; the measure: the steps left.
--- Assumes nothing.
+-- `sweep::sweep_list` combs one list. The invariant: what is done and what is left come to the whole list, and the bin asks for its own sizes,
+-- from that of the member before on; the measure: the steps left. Assumes nothing.
 use native.Mathlib.Omega.{arith}
-use mathlib.Core.Path.{_≡_, refl}
+use mathlib.Core.Path.{_≡_, refl, ap}
 use Prim.Native.Nat.{_+_, _/_, _<_}
 use borrow.Author.Needs.{needs}
 use lib.ListN.{length}
 use Rattle.marks.specs.Marks.{marked}
 use Rattle.region.specs.Words.{word, bin}
+use Rattle.sweep.specs.declared.Sizes.{Sizes}
 use Rattle.sweep.specs.Sweep.{isPlacedM}
-use Rattle.sweep.proofs.SweepLaws.{Tested, not-placed, not-marked, by-words, by-number, header-inside, mark-inside, number-inside, own-mark, Combing, combing-begins, combing-goes, torn-long, torn-here, whole-list}
+use Rattle.sweep.proofs.SweepLaws.{Tested, not-placed, not-marked, by-words, by-number, header-inside, mark-inside, number-inside, own-mark, Asks, asks-begin, asks-on, Combing, combing-begins, combing-goes, torn-long, torn-here, whole-list}
 use Rattle.sweep.proofs.sweep_list.Statement.{statement}
 use Rattle.sweep.proofs.sweep_list.Tie as tie
 
 abbrev Inv-loop : tie.InvT-loop
-Inv-loop region marks table bin first bytes sizes at₀ before₀ left₀ at before left =
-    Combing region table bin bytes marks first at before left
+Inv-loop region marks table bin first bytes sizes₀ at₀ before₀ left₀ sizes at before left =
+    Combing region table bin bytes marks first at before (sizes .least) left × Asks table bin sizes
 
 abbrev μ-loop : tie.MeasureT-loop
-μ-loop region marks table bin first bytes sizes at₀ before₀ left₀ at before left = left
+μ-loop region marks table bin first bytes sizes₀ at₀ before₀ left₀ sizes at before left = left
 
--- in the loop: what the bin asks of its members, and what the function was given
-module _ (turn : tie.In-loop Inv-loop μ-loop) where
-  abbrev asked : tie.After-sizes-of Inv-loop μ-loop
-  asked = turn .before .before
-
-  abbrev start : tie.Start Inv-loop μ-loop
-  start = asked .before .before .before .before
+-- in the loop: what the function was given
+abbrev start : tie.In-loop Inv-loop μ-loop → tie.Start Inv-loop μ-loop
+start turn = turn .before .before .before .before .before .before
 
 -- the test of a member's place
 module _ (tested : tie.After-is-placed Inv-loop μ-loop) where
@@ -72,13 +69,16 @@ module _ (told : tie.After-is-listed Inv-loop μ-loop) where
 
   member-tested :
       Tested (start here .args .region .now) (start here .args .table .now) (start here .args .bin) (start here .args .bytes)
-      (start here .args .marks .now) (here .before .loop .before) (here .before .loop .at) (told .is-listed .result)
+      (start here .args .marks .now) (here .before .loop .before) (here .before .loop .sizes .least) (here .before .loop .at) (told .is-listed .result)
   member-tested =
       by-words (place-tested (tested (placed is-known))) (placed is-known .if2 .left) (mark-read (is-known .before))
-      (is-known .if3 .left) (start here .pre .1 .1 .0) (start here .pre .1 .1 .1) (asked here .sizes-of .ensures) (told .is-listed .ensures)
+      (is-known .if3 .left) (start here .pre .1 .1 .0) (start here .pre .1 .1 .1) (here .before .loop .inv .1) (told .is-listed .ensures)
+
+loop-holds : tie.Need-loop-holds Inv-loop μ-loop
+loop-holds c = let (is, some) = c .sizes-of .ensures in (combing-begins (ap (λ (z : Sizes). z .least) is), asks-begin is some)
 
 returns : tie.Need-returns Inv-loop μ-loop
-returns c = torn-long (c .before .before .loop .inv) (c .if1 .taken) (c .before .loop-test .taken)
+returns c = torn-long (c .before .before .loop .inv .0) (c .if1 .taken) (c .before .loop-test .taken)
 
 enough : tie.Need-is-placed-requires Inv-loop μ-loop
 enough c κs = omega (arith, start (c .before .before) .pre .0 .enough)
@@ -86,7 +86,7 @@ enough c κs = omega (arith, start (c .before .before) .pre .0 .enough)
 returns-2 : tie.Need-returns-2 Inv-loop μ-loop
 returns-2 c =
     let turn = turn (c .before) in
-    torn-here (turn .before .loop .inv) (turn .loop-test .taken) (omega arith)
+    torn-here (turn .before .loop .inv .0) (turn .loop-test .taken) (omega arith)
     (not-placed (place-tested (c .before)) (c .if2 .taken)) refl
 
 in-bitmap : tie.Need-is-marked-requires Inv-loop μ-loop
@@ -99,38 +99,43 @@ returns-3 : tie.Need-returns-3 Inv-loop μ-loop
 returns-3 c =
     let placed = c .before .before in
     let turn = turn (tested placed) in
-    torn-here (turn .before .loop .inv) (turn .loop-test .taken) (omega arith)
+    torn-here (turn .before .loop .inv .0) (turn .loop-test .taken) (omega arith)
     (not-marked (place-tested (tested placed)) (placed .if2 .left) (mark-read (c .before)) (c .if3 .taken)) refl
 
 header : tie.Need-is-listed-requires Inv-loop μ-loop
-header c κs = (in-words (placed c), asked (turn (tested (placed c))) .sizes-of .ensures .1)
+header c κs = (in-words (placed c), turn (tested (placed c)) .before .loop .inv .1 .some)
 
 returns-4 : tie.Need-returns-4 Inv-loop μ-loop
 returns-4 c =
     let turn = here (c .before) in
-    torn-here (turn .before .loop .inv) (turn .loop-test .taken) (omega arith)
+    torn-here (turn .before .loop .inv .0) (turn .loop-test .taken) (omega arith)
     (member-tested (c .before)) (c .if4 .taken)
 
 -- the place of a listed member is below that of the last mark, so that no index made of it wraps
 low : (c : tie.Else4 Inv-loop μ-loop) → here (c .before) .before .loop .at / 256 < 256
 low c = in-marks (placed (is-known (c .before)))
 
+size-inside : tie.Need-shared-slice-read-size Inv-loop μ-loop
+size-inside c = omega (arith, in-words (placed (is-known (c .before .before))))
+
 next-inside : tie.Need-shared-slice-read-at Inv-loop μ-loop
-next-inside c = omega (arith, in-words (placed (is-known (c .before .before))))
+next-inside c = omega (arith, in-words (placed (is-known (c .before .before .before))))
 
 loop-again : tie.Need-loop-again Inv-loop μ-loop
 unfolding word
 loop-again c =
-    let listed = c .before in
-    let turn = here (listed .before) in
-    combing-goes (turn .before .loop .inv) (turn .loop-test .taken) (omega arith)
-    (member-tested (listed .before)) (listed .if4 .left) refl
+    let listed = c .before .before in
+    let told = listed .before in
+    let turn = here told in (
+      combing-goes (turn .before .loop .inv .0) (turn .loop-test .taken) (omega arith) (member-tested told) (listed .if4 .left) refl refl,
+      asks-on _ _ _ (turn .before .loop .inv .1) (told .is-listed .ensures .0) (listed .if4 .left),
+    )
 
-within : tie.Need-sub-t22 Inv-loop μ-loop
-within c = c .before .loop .inv .within
+within : tie.Need-sub-t23 Inv-loop μ-loop
+within c = c .before .loop .inv .0 .within
 
 returns-5 : tie.Need-returns-5 Inv-loop μ-loop
-returns-5 c = whole-list (c .before .loop .inv) (c .loop-test .left)
+returns-5 c = whole-list (c .before .loop .inv .0) (c .loop-test .left)
 
 pub sweep-list-spec : {M : Type 1} → statement M
 sweep-list-spec =
@@ -139,7 +144,7 @@ sweep-list-spec =
     Inv-loop
     μ-loop
     (λ c κs. search needs)
-    (λ c. combing-begins)
+    loop-holds
     returns
     (λ c κs. search needs)
     enough
@@ -152,6 +157,10 @@ sweep-list-spec =
     (λ c. search needs)
     (λ c. omega (arith, low c))
     (λ c. omega (arith, low c))
+    size-inside
+    (λ c. search needs)
+    (λ c. omega (arith, low (c .before)))
+    (λ c. omega (arith, low (c .before)))
     next-inside
     (λ c. omega arith)
     (λ c. omega arith)
