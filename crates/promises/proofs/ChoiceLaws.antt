@@ -32,10 +32,10 @@ use Rattle.record.proofs.TableLaws.{bin-from}
 use Rattle.region.specs.declared.Block.{Block}
 use Rattle.region.specs.Words.{Store}
 use Rattle.rules.specs.Shape.{Entry, shape, binList, chunkEnd}
-use Rattle.rules.specs.Kinds.{kindOf, overhead, blockOf}
+use Rattle.rules.specs.Kinds.{kindOf, overhead, blockOf, sizeOn}
 use Rattle.rules.specs.Check.{Passes}
 use Rattle.rules.specs.Draft.{asRead}
-use Rattle.rules.specs.Serve.{need, sizeOn, ownBin, largerBin, chosen}
+use Rattle.rules.specs.Serve.{need, ownBin, largerBin, chosen}
 use Rattle.rules.specs.Allocate.{sourceOf, asFound, cleared, allocateWith, allocate, allocateCleared}
 use Rattle.rules.specs.Reallocate.{reallocate}
 use Rattle.rules.specs.Calls.{step}

@@ -98,6 +98,7 @@ module _ (ws table : List ℕ) (merge : Bool) (valid : ValidTable table) (enough
           once = tt;
           chunks = λ c m. absurd (List·Memᴰ·not-nil m);
           words = λ c m. absurd (List·Memᴰ·not-nil m);
+          order = λ large. tt;
         })
 
     passes-so : PassesAs (words donor) (opened donor) es

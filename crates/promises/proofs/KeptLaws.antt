@@ -48,7 +48,7 @@ use Rattle.promises.proofs.GrantedLaws.{cleared-within}
 use Rattle.promises.proofs.FreshLaws.{fresh-passes}
 
 -- the state that an outcome leaves for the next call
-abbrev stateLeft : List ℕ → Heap → Outcome → State
+abbrev pub stateLeft : List ℕ → Heap → Outcome → State
 stateLeft ws h o = record { words = written ws (o .stores); heap = recordAfter h (o .heap) (o .answer) }
 
 -- the heap passes once a draft's stores are written
@@ -56,7 +56,7 @@ abbrev PassesAfter : List ℕ → Draft → Type 0
 PassesAfter ws d = Passes (written ws (d .stores)) (d .heap)
 
 -- an outcome that keeps the record leaves it, whatever the answer
-same-record : (h : Heap) (a : Answer) → recordAfter h h a ≡ h
+pub same-record : (h : Heap) (a : Answer) → recordAfter h h a ≡ h
 same-record h Done = refl
 same-record h (Granted b c) = refl
 same-record h (Returned c) = refl
@@ -172,7 +172,7 @@ module _ (ws : List ℕ) (h : Heap) (p : Passes ws h) where
         donor = p .donor;
         bins = λ i l.
             let b = p .bins i l in
-            record { tail = b .tail; links = b .links; once = b .once; chunks = b .chunks; words = b .words };
+            record { tail = b .tail; links = b .links; once = b .once; chunks = b .chunks; words = b .words; order = b .order };
         binned = p .binned;
         used = p .used;
         patrol = there;

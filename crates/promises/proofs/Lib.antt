@@ -20,6 +20,7 @@ pub mod ApartLaws
 pub mod NeverNineLaws
 pub mod RunsLaws
 pub mod ChoiceLaws
+pub mod OrderLaws
 pub mod PatrolLaws
 pub mod FullPatrolLaws
 pub mod RoundsLaws
@@ -32,4 +33,5 @@ pub mod WrongLaws
 pub mod WrongPatrolLaws
 pub mod WrongToldLaws
 pub mod WrongChoiceLaws
+pub mod WrongOrderLaws
 pub mod SignLaws

@@ -22,13 +22,13 @@ use Rattle.record.specs.declared.sources.Source.the-variants.{FromBin, FromDono
 use Rattle.record.specs.declared.table.Binned.{Binned}
 use Rattle.record.specs.declared.table.Binned.the-variants.{Bin}
 use Rattle.record.specs.Heap.{tableOf}
-use Rattle.record.specs.Table.{TakenBy, small, binOf}
-use Rattle.record.proofs.TableLaws.{bin-taken, bin-from, bin-grows}
+use Rattle.record.specs.Table.{small, binOf}
+use Rattle.record.proofs.TableLaws.{bin-takes, bin-from, bin-grows}
 use Rattle.rules.specs.Shape.{Entry, shape, binList}
-use Rattle.rules.specs.Kinds.{ordinaryKind, kindOf, inUse}
+use Rattle.rules.specs.Kinds.{ordinaryKind, kindOf, inUse, sizeOn}
 use Rattle.rules.specs.Check.{Passes}
 use Rattle.rules.specs.Draft.{asRead}
-use Rattle.rules.specs.Serve.{serves, sizeOn, fromBin, ownBin, tryDonor, largerBin, tryTop, chosen, nowhere}
+use Rattle.rules.specs.Serve.{serves, fromBin, ownBin, tryDonor, largerBin, tryTop, chosen, nowhere}
 use Rattle.rules.specs.Allocate.{sourceOf}
 use Rattle.rules.proofs.KindsLaws.{being-as}
 use Rattle.rules.proofs.SpotLaws.{inside, size-on}
@@ -143,7 +143,7 @@ module _ (ws : List ℕ) (h : Heap) (p : Passes ws h) (n : ℕ) where
     larger-fails large f q other =
         let (j, inside, takes, listed) = ordinary-listed ws h p e m (ap ordinaryKind q) in
         let (i, is, taken) = bin-from (tableOf h) (p .table .valid) n large in
-        let grows = bin-grows (tableOf h) taken (subst (λ (r : Binned). TakenBy (tableOf h) (e .size) r) takes (bin-taken (tableOf h) (e .size))) (enough Ordinary q) in
+        let grows = bin-grows (tableOf h) taken (bin-takes (tableOf h) takes) (enough Ordinary q) in
         let differ : i ≡ j → ⊥ = λ s. other (takes ∙ ap Bin (sym s) ∙ sym is) in
         list-fails (gathered (binList ws h) (numbersFrom (suc i) (h .bins - suc i)))
         (λ c k. let (x, (above, below), member) = gathered-from (binList ws h) (h .bins - suc i) (suc i) k in list-nodes ws h p x (omega arith) c member .some)

@@ -11,6 +11,7 @@ pub mod Odd
 pub mod Kept
 pub mod Apart
 pub mod Runs
+pub mod Order
 pub mod Rounds
 pub mod FullPatrol
 pub mod Mended

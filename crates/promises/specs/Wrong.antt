@@ -1,26 +1,32 @@
--- Wrong programs (document 01, "How far each statement reaches"; document 02, requests One, Two and Four): fifteen ways of answering that the
--- promises must rule out. Each answers one call, or the questions, wrongly and the other calls by the rules.
+-- Wrong programs (document 01, "How far each statement reaches"; document 02, requests One, Two, Four and Five): seventeen ways of answering that
+-- the promises must rule out. Each answers one call, or the questions, wrongly and the other calls by the rules.
 use mathlib.Core.Bool.{Bool, true, false, not, cond}
 use mathlib.Core.List.{List, [], _∷_}
 use mathlib.Core.Option.{Option, some, none}
 use Prim.Native.Nat.{ℕ, _-_}
-use lib.Dec.{eqb}
+use lib.Dec.{eqb, leb, ltb}
 use lib.IntN.{pos}
 use Rattle.record.specs.declared.answers.Answer.{Answer}
 use Rattle.record.specs.declared.answers.Answer.the-variants.{Done, Granted, Returned, Told, ToldNone, Counted, Refused}
 use Rattle.record.specs.declared.answers.Refusal.the-variants.{BlockSize, NoRoom}
+use Rattle.lists.specs.Lists.{upTo, onFrom}
 use Rattle.record.specs.declared.heap.Heap.{Heap}
+use Rattle.record.specs.declared.kinds.Kind.{Kind}
 use Rattle.record.specs.declared.sources.Source.{Source}
+use Rattle.record.specs.declared.table.Binned.{Binned}
+use Rattle.record.specs.declared.table.Binned.the-variants.{Bin, NoBin}
 use Rattle.record.specs.Heap.{tableOf}
-use Rattle.record.specs.Table.{small, binOf}
+use Rattle.record.specs.Table.{small, binOf, smallBins}
 use Rattle.region.specs.declared.Block.{Block}
 use Rattle.region.specs.Words.{word, store, forward, size}
-use Rattle.rules.specs.Shape.{shape}
-use Rattle.rules.specs.Kinds.{overhead}
+use Rattle.rules.specs.Shape.{Entry, shape}
+use Rattle.rules.specs.Kinds.{overhead, ordinaryKind, sizeOn}
 use Rattle.rules.specs.Check.{countsOf}
-use Rattle.rules.specs.Draft.{Draft, asRead}
+use Rattle.rules.specs.Draft.{Draft, asRead, nowUses, putBetween, putInto, relink, settle}
 use Rattle.rules.specs.Serve.{need, permitted, ownBin, largerBin, tryDonor, tryTop, inOrder, firstOf, nowhere}
 use Rattle.rules.specs.Cut.{grantFrom}
+use Rattle.rules.specs.Join.{joining, leaveBins, swallowing}
+use Rattle.rules.specs.Free.{blockSpot, freeRefusals, freed}
 use Rattle.rules.specs.Outcome.{judged, heapFails, unchanged, made, grants}
 use Rattle.rules.specs.Statements.{Left, leftBy}
 use Rattle.rules.specs.Calls.{Setup, Allocate, AllocateCleared, Free, Reallocate, SetMerge, Check, AskChunk, AskBin, Patrol}
@@ -223,3 +229,39 @@ largerBeforeDonor =
 abbrev pub donorForSmall : Way
 donorForSmall =
     butOrder (λ little own larger donor top. cond little (inOrder little own larger donor top) (own ∷ larger ∷ top ∷ []))
+
+-- free with another rule of putting: outside the small array a chunk goes before the first one for which `stops` holds. The rules' own is `larger`
+abbrev Stopping : Type 0
+Stopping = List Entry → Entry → ℕ → Bool
+
+abbrev putBy : Stopping → Entry → Binned → Draft → Draft
+putBy stops e (Bin i) d =
+    let cs = d .lists i in
+    cond (ltb i (smallBins (tableOf (d .heap)))) (putInto i e d)
+    (putBetween i (upTo (stops (d .chain) e) cs) (e .place) (onFrom (stops (d .chain) e) cs) d)
+putBy stops e NoBin d = d
+
+abbrev settleBy : Stopping → Kind → Entry → Draft → Draft
+settleBy stops k e d = cond (ordinaryKind k) (putBy stops e (binOf (tableOf (d .heap)) (e .size)) d) (settle k e d)
+
+abbrev freeBy : Stopping → ℕ → Draft → Draft
+freeBy stops b d =
+    let s = blockSpot d b in
+    let j = joining (d .heap) (s .low) (s .here) (s .high) in
+    let linked = relink (j .low) (j .here ∷ []) (j .high) (leaveBins (j .leaving) d) in
+    nowUses (s .here .size) 0 (swallowing (j .here) (settleBy stops (j .becomes) (j .here) linked))
+
+abbrev pub butPut : Stopping → Way
+butPut stops =
+    butFree
+    (λ b ws h.
+    let before = asRead ws h in
+    leftBy ws (judged h (freeRefusals (heapFails ws h) before b) (made (freed before b .answer) (cond (eqb b 0) before (freeBy stops b before)))))
+
+-- 16: a chunk is put before those of equal size
+abbrev pub beforeEquals : Way
+beforeEquals = butPut (λ es e c. leb (e .size) (sizeOn es c))
+
+-- 17: a chunk is put at the tail, as document 01 had it
+abbrev pub atTheTail : Way
+atTheTail = butPut (λ es e c. false)

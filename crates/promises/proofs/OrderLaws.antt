@@ -1,0 +1,389 @@
+-- The bins' lists are in order in every heap that passes, and what a call puts stands behind its equals (`order`): so in each state of every run
+-- (`order-through`). A chunk is late if it was not on the chain before the call; late chunks stand behind the others of equal size (`QueueLaws` of
+-- `drafts`). Assumes nothing.
+use mathlib.Core.Path.{_≡_, refl, sym, ap, subst, _∙_}
+use mathlib.Core.Logic.{_≢_, _⊎_, inl, inr}
+use mathlib.Core.Bool.{Bool, true, false, not, cond, _&&_, false≢true}
+use mathlib.Core.List.{List, [], _∷_, _++_, List·Memᴰ·eq-of-singleton, List·Memᴰ·not-nil}
+use Prim.Native.Nat.{ℕ, _+_, _*_, _≤_, _<_}
+use native.Mathlib.Nat.{add-zero}
+use native.Mathlib.Omega.{arith}
+use lib.Dec.{eqb, ltb}
+use lib.ListN.{length}
+use borrow.Author.Tests.{lt-ltb, not-false}
+use Rattle.lists.specs.Lists.{Mem, any, Before}
+use Rattle.lists.proofs.AscendingLaws.{one-before}
+use Rattle.lists.proofs.ListsLaws.{Decides, number-is, both, for-some, meaning, not-so, zero-at}
+use Rattle.lists.proofs.SplitLaws.{among, outer-in}
+use Rattle.record.specs.declared.answers.Answer.{Answer}
+use Rattle.record.specs.declared.answers.Answer.the-variants.{Done, Refused}
+use Rattle.record.specs.declared.answers.Refusal.{Refusal}
+use Rattle.record.specs.declared.answers.Refusal.the-variants.{RegionLength, BadTable, DonorSize, HeapFails, BlockSize, NotLive, NoRoom, NotThere, NoBinTakes, RunSize, BeyondMending}
+use Rattle.record.specs.declared.heap.Heap.{Heap}
+use Rattle.record.specs.Heap.{empty, withMerge, withPatrol}
+use Rattle.region.specs.Words.{Store, written}
+use Rattle.drafts.proofs.QueueLaws.{QueuedIn, Lateness, all-late, queued-same}
+use Rattle.drafts.proofs.PictureLaws.{StaysQueued}
+use Rattle.drafts.proofs.SourceLaws.{Grantable, need-grantable}
+use Rattle.drafts.proofs.GrantKept.{theGrant, grant-queued, sourceChunk, can, granted-place, granted-new, others-there}
+use Rattle.drafts.proofs.GrantedChunk.{grantedHeap, grantedWords, granted-pictured, filledWords, granted-filled, new-there, new-live}
+use Rattle.drafts.proofs.FillLaws.{Within}
+use Rattle.drafts.proofs.ReleaseKept.{free-kept, free-queued, others-stay}
+use Rattle.drafts.proofs.ShrinkKept.{shrink-kept, shrink-queued}
+use Rattle.drafts.proofs.WantedLaws.{block-moves, block-shrinks}
+use Rattle.drafts.proofs.MovedLaws.{Moving, copies, copies-within, copiedWords, copiedHeap, copied-passes, still-live, moved-reread, moved-words}
+use Rattle.rules.specs.Shape.{Entry, entry, shape, binList, members, heapBytes}
+use Rattle.rules.specs.Kinds.{ordinary, overhead, blockOf}
+use Rattle.rules.specs.Check.{Passes}
+use Rattle.rules.specs.Draft.{Draft, Spot, asRead}
+use Rattle.rules.specs.Serve.{need, nowhere}
+use Rattle.rules.specs.Outcome.{Outcome, Refusals, judged, heapFails, unchanged}
+use Rattle.rules.specs.Setup.{setup, setupRefusals, opened}
+use Rattle.rules.specs.Allocate.{sourceOf, grant, asFound, cleared, allocateWith, allocate, allocateCleared, allocateRefusals, allocated}
+use Rattle.rules.specs.Free.{isLive, blockSpot, freeBlock, free, freeRefusals, freed}
+use Rattle.rules.specs.Reallocate.{shrunk, moved, resized, resize, reallocate, resizeRefusals, resizedTo}
+use Rattle.rules.specs.Merge.{setMerge, checked, check}
+use Rattle.rules.specs.Ask.{askChunk, askBin, chunkAnswers, askedSpot, isThere, binAnswers, answerTo, askRefusals, asked}
+use Rattle.rules.specs.Patrol.{patrol}
+use Rattle.rules.specs.Calls.{Call, Setup, Allocate, AllocateCleared, Free, Reallocate, SetMerge, Check, AskChunk, AskBin, Patrol, State, step}
+use Rattle.rules.proofs.KindsLaws.{live-used}
+use Rattle.rules.proofs.OrderLaws.{lists-in-order}
+use Rattle.rules.proofs.OutcomeLaws.{Failed, judged-so}
+use Rattle.rules.proofs.PatrolSound.{patrol-so}
+use Rattle.rules.proofs.ShapeLaws.{read-none}
+use Rattle.rules.proofs.SpotLaws.{one-chunk}
+use Rattle.promises.specs.Ways.{Way, ours}
+use Rattle.promises.specs.Kept.{Passing, after}
+use Rattle.promises.specs.Order.{listOf, InOrder, On, InBin, Behind, Order, OrderAt}
+use Rattle.promises.specs.Refusing.{asksCheck, Because, setupLength, setupTable, setupDonor, fails, patrolNone, orderOf, Refusing}
+use Rattle.promises.specs.Runs.{ThroughRuns}
+use Rattle.promises.proofs.ResizedLaws.{resized-so}
+use Rattle.promises.proofs.GrantedLaws.{cleared-within}
+use Rattle.promises.proofs.KeptLaws.{stateLeft, same-record, kept}
+use Rattle.promises.proofs.RunsLaws.{through}
+
+pub in-order : (s : State) → Passing s → InOrder s
+in-order s p i l = lists-in-order (s .words) (s .heap) p i l
+
+-- a chunk with this place, size and flags is among es
+abbrev pub has : Entry → List Entry → Bool
+has e es = any (λ x. eqb (x .place) (e .place) && eqb (x .size) (e .size) && eqb (x .flags) (e .flags)) es
+
+pub has-iff : (e : Entry) (es : List Entry) → Decides (has e es) (Mem e es)
+has-iff e es =
+    meaning
+    (for-some (λ x. both (both (number-is (x .place) (e .place)) (number-is (x .size) (e .size))) (number-is (x .flags) (e .flags))) es)
+    (λ (x, m, ((place, size), flags)). subst (λ (y : Entry). Mem y es) (same x place size flags) m)
+    (λ m. (e, m, ((refl, refl), refl)))
+  where
+    same : (x : Entry) → x .place ≡ e .place → x .size ≡ e .size → x .flags ≡ e .flags → x ≡ e
+    same x p q r = let is : entry (x .place) (x .size) (x .flags) ≡ e = rw (p, q, r) refl in is
+
+-- late is a chunk that is not among es
+abbrev lateFor : List Entry → Entry → ℕ
+lateFor es e = cond (has e es) 0 1
+
+late-few : (t : Bool) → cond t 0 1 ≤ 1
+late-few true = omega arith
+late-few false = omega arith
+
+early-there : (e : Entry) (es : List Entry) → Mem e es → lateFor es e ≡ 0
+early-there e es m = rw (has-iff e es .1 m) refl
+
+late-elsewhere : (e : Entry) (es : List Entry) → (Mem e es → ⊥) → lateFor es e ≡ 1
+late-elsewhere e es n = rw (not-so (has-iff e es) n) refl
+
+-- before the call no chunk is late
+none-late : (ws : List ℕ) (h : Heap) → Passes ws h → Lateness ws h (lateFor (shape ws (h .bytes)))
+none-late ws h p =
+    record {
+      atMost = λ e. late-few (has e (shape ws (h .bytes)));
+      others = λ e n. late-elsewhere e (shape ws (h .bytes)) n;
+      queued =
+          λ i l large.
+          record {
+            stand =
+                λ x y m k s t b.
+                let q = all-late ws h p .queued i l large .stand x y m k s t b in
+                let a = early-there x (shape ws (h .bytes)) m in
+                let c = early-there y (shape ws (h .bytes)) k in
+                omega arith;
+          };
+    }
+
+-- late chunks stand behind the others of equal size
+behind-late : (s t : State) → Passing t → (late : Entry → ℕ) → QueuedIn late (t .words) (t .heap)
+    → ((x : Entry) → On s x → On t x → late x ≡ 0) → ((y : Entry) → (On s y → ⊥) → late y ≡ 1) → Behind s t
+behind-late s t p late queued early lates i l large x y (ox, mx) (oy, my) same on off =
+    go (one-before (listOf t i) mx my (λ q. off (subst (On s) (one-chunk (t .words) (t .heap) p x y ox oy q) on)))
+  where
+    is-ordinary : (e : Entry) → On t e → Mem (e .place) (listOf t i) → ordinary (t .heap) e ≡ true
+    is-ordinary e o m =
+        let (d, k, (q, b)) = p .bins i l .chunks (e .place) m in
+        subst (λ (z : Entry). ordinary (t .heap) z ≡ true) (one-chunk (t .words) (t .heap) p d e k o q) (b .0)
+
+    go : Before (x .place) (y .place) (listOf t i) ⊎ Before (y .place) (x .place) (listOf t i) → Before (x .place) (y .place) (listOf t i)
+    go (inl b) = b
+    go (inr b) =
+        let z = queued i l large .stand y x oy ox (is-ordinary y oy my) (is-ordinary x ox mx) b in
+        let a = early x on ox in
+        let c = lates y off in
+        absurd (omega arith)
+
+-- a block is granted, and `ss` written into it
+filled-queued : {ws : List ℕ} {h : Heap} {n : ℕ} (room : Grantable ws h n) (ss : List Store) (w : Within (theGrant room .granted) ss)
+    (late : Entry → ℕ) → Lateness ws h late → QueuedIn late (filledWords room ss w) (grantedHeap room)
+filled-queued room ss w late t i l large =
+    let f = granted-filled room ss w in
+    rw (f .chain, f .lists i) (grant-queued room late t i l large)
+
+-- a block moves: late are the chunks that are on the chain after the grant and were before, and no others
+module _ {ws : List ℕ} {h : Heap} (p : Passes ws h) {n : ℕ} {e : Entry} (moves : Moving ws h n e) where
+  abbrev first : List Entry
+  first = shape ws (h .bytes)
+
+  abbrev second : List Entry
+  second = shape (copiedWords moves) (copiedHeap moves .bytes)
+
+  abbrev lateBoth : Entry → ℕ
+  lateBoth x = cond (has x second && has x first) 0 1
+
+  abbrev source : Entry
+  source = sourceChunk (moves .room)
+
+  abbrev new : Entry
+  new = theGrant (moves .room) .granted
+
+  same-late : (x : Entry) → Mem x second → lateBoth x ≡ lateFor first x
+  same-late x m = rw (has-iff x second .1 m) refl
+
+  both-late : Lateness (copiedWords moves) (copiedHeap moves) lateBoth
+  both-late =
+      record {
+        atMost = λ x. late-few (has x second && has x first);
+        others = λ x k. rw (not-so (has-iff x second) k) refl;
+        queued =
+            λ i l large.
+            record {
+              stand =
+                  λ x y m k s t b.
+                  let q = filled-queued (moves .room) (copies moves) (copies-within moves) (lateFor first) (none-late ws h p) i l large .stand x y m k s t b in
+                  let a = same-late x m in
+                  let c = same-late y k in
+                  omega arith;
+            };
+      }
+
+  abbrev old : ℕ
+  old = blockOf e
+
+  abbrev oldFreed : Draft
+  oldFreed = freeBlock old (asRead (copiedWords moves) (copiedHeap moves))
+
+  abbrev final : State
+  final = record { words = written (copiedWords moves) (oldFreed .stores); heap = oldFreed .heap }
+
+  final-passes : Passing final
+  final-passes = free-kept (copiedWords moves) (copiedHeap moves) (copied-passes moves) old (still-live moves) .passes
+
+  -- the new chunk is on the chain to the end
+  new-stays : On final new
+  new-stays =
+      let f = granted-filled (moves .room) (copies moves) (copies-within moves) in
+      let there : Mem new second = rw (f .chain) (new-there (moves .room)) in
+      let apart = granted-new (moves .room) e (moves .member) (moves .live) in
+      rw (free-kept (copiedWords moves) (copiedHeap moves) (copied-passes moves) old (still-live moves) .chain)
+      (others-stay (copiedWords moves) (copiedHeap moves) (copied-passes moves) old (still-live moves) new there (new-live (moves .room)) (λ q. apart (omega arith)) .0)
+
+  -- the source was free, so the new chunk, at its place, is another one
+  new-is-new : Mem new first → ⊥
+  new-is-new m =
+      let q = one-chunk ws h p new source m (can (moves .room) .member) (granted-place (moves .room)) in
+      let f = can (moves .room) .free .flags in
+      let u = live-used (grantedHeap (moves .room)) new (new-live (moves .room)) in
+      let s = ap (λ (x : Entry). x .flags) q in
+      omega arith
+
+  -- a chunk that is there before and after is there in between
+  between : (x : Entry) → Mem x first → On final x → Mem x second
+  between x m on =
+      let f = granted-filled (moves .room) (copies moves) (copies-within moves) in
+      rw (f .chain, granted-pictured (moves .room) .chain) (others-there (moves .room) x m elsewhere)
+    where
+      elsewhere : x .place ≢ source .place
+      elsewhere q =
+          let s = one-chunk (final .words) (final .heap) final-passes x new on new-stays (q ∙ sym (granted-place (moves .room))) in
+          new-is-new (subst (λ (y : Entry). Mem y first) s m)
+
+  move-behind : Behind (record { words = ws; heap = h }) final
+  move-behind =
+      behind-late (record { words = ws; heap = h }) final final-passes lateBoth
+      (free-queued (copiedWords moves) (copiedHeap moves) (copied-passes moves) old (still-live moves) lateBoth both-late)
+      (λ x on stays. same-late x (between x on stays) ∙ early-there x first on)
+      (λ y off. rw (not-so (has-iff y first) off) (neither (has y second)))
+    where
+      neither : (t : Bool) → _≡_ {A = ℕ} (cond (t && false) 0 1) 1
+      neither true = refl
+      neither false = refl
+
+module _ (ws : List ℕ) (h : Heap) (p : Passes ws h) where
+  abbrev before : State
+  before = record { words = ws; heap = h }
+
+  abbrev es : List Entry
+  es = shape ws (h .bytes)
+
+  -- the state that a draft leaves
+  abbrev drafted : Draft → State
+  drafted d = record { words = written ws (d .stores); heap = d .heap }
+
+  -- a draft in which late chunks stand behind the others
+  queued-behind : (t : State) → Passing t → QueuedIn (lateFor es) (t .words) (t .heap) → Behind before t
+  queued-behind t passes queued =
+      behind-late before t passes (lateFor es) queued (λ x on _. early-there x es on) (λ y off. late-elsewhere y es off)
+
+  -- no chunk is new
+  nothing-new : (t : State) → ((y : Entry) → On t y → On before y) → Behind before t
+  nothing-new t same i l large x y (ox, mx) (oy, my) e on off = absurd (off (same y oy))
+
+  -- a block is granted, and `ss` written into it
+  granted-behind : {n : ℕ} (room : Grantable ws h n) (ss : List Store) (w : Within (theGrant room .granted) ss)
+      → Behind before (record { words = filledWords room ss w; heap = grantedHeap room })
+  granted-behind room ss w =
+      let f = granted-filled room ss w in
+      queued-behind (record { words = filledWords room ss w; heap = grantedHeap room }) (f .passes) (filled-queued room ss w (lateFor es) (none-late ws h p))
+
+  -- a live block is freed; its chunk gives its tail back
+  freed-behind : (b : ℕ) → isLive (asRead ws h) b ≡ true → Behind before (drafted (freeBlock b (asRead ws h)))
+  freed-behind b l =
+      queued-behind (drafted (freeBlock b (asRead ws h))) (free-kept ws h p b l .passes) (free-queued ws h p b l (lateFor es) (none-late ws h p))
+
+  -- the live block at b is to have z bytes
+  module _ (b : ℕ) (l : isLive (asRead ws h) b ≡ true) (z : ℕ) where
+    abbrev at : Spot
+    at = blockSpot (asRead ws h) b
+
+    abbrev n : ℕ
+    n = need overhead z
+
+    shrunk-behind : n + 24 ≤ at .here .size → Behind before (drafted (shrunk at n (asRead ws h) .draft))
+    shrunk-behind spare =
+        let shrinks = block-shrinks p b l z spare in
+        queued-behind (drafted (shrunk at n (asRead ws h) .draft)) (shrink-kept shrinks .passes) (shrink-queued shrinks (lateFor es) (none-late ws h p))
+
+    moved-behind : nowhere (sourceOf n (asRead ws h)) ≡ false → at .here .size < n → Behind before (drafted (moved ws at n (asRead ws h) .draft))
+    moved-behind some less =
+        let moves = block-moves p b l z some less in
+        rw (moved-reread moves .0, moved-words moves) (move-behind p moves)
+
+    resized-behind : (ltb (at .here .size) n && nowhere (sourceOf n (asRead ws h))) ≡ false → Behind before (drafted (resized ws at n (asRead ws h) .draft))
+    unfolding asRead
+    resized-behind q =
+        resized-so (λ x. Behind before (drafted (x .draft))) ws at n (asRead ws h)
+        (λ less. moved-behind (rw (lt-ltb (at .here .size) n less) at q) less) shrunk-behind (nothing-new before (λ y on. on))
+
+  -- a refusal leaves the heap as it was
+  judged-behind : (came : Heap) (o : Outcome) (ts : Refusals) → (Failed ts → Behind before (stateLeft ws h o)) → Behind before (stateLeft ws h (judged came ts o))
+  judged-behind came o ts = judged-so (λ x. Behind before (stateLeft ws h x)) came o ts (λ r. nothing-new before (λ y on. on))
+
+  with-behind : (fill : Entry → List Store) → ((e : Entry) → Within e (fill e)) → (z : ℕ) → Behind before (stateLeft ws h (allocateWith fill ws h z))
+  with-behind fill within z =
+      let e = grant (need overhead z) (asRead ws h) .granted in
+      judged-behind h (allocated fill (asRead ws h) z) (allocateRefusals (heapFails ws h) (asRead ws h) z)
+      (λ (_, (_, (some, _))). granted-behind (need-grantable z p some) (fill e) (within e))
+
+  allocate-behind : (z : ℕ) → Behind before (stateLeft ws h (allocate ws h z))
+  unfolding allocate
+  allocate-behind = with-behind asFound (λ e. tt)
+
+  cleared-behind : (count size : ℕ) → Behind before (stateLeft ws h (allocateCleared ws h count size))
+  unfolding allocateCleared
+  cleared-behind count size = with-behind cleared cleared-within (count * size)
+
+  free-behind : (b : ℕ) → Behind before (stateLeft ws h (free ws h b))
+  unfolding free asRead
+  free-behind b =
+      judged-behind h (freed (asRead ws h) b) (freeRefusals (heapFails ws h) (asRead ws h) b) (λ (_, (l, _)). go (eqb b 0) l)
+    where
+      go : (t : Bool) → (not t && not (isLive (asRead ws h) b)) ≡ false → Behind before (drafted (cond t (asRead ws h) (freeBlock b (asRead ws h))))
+      go true l = nothing-new before (λ y on. on)
+      go false l = freed-behind b (not-false (isLive (asRead ws h) b) l)
+
+  resize-behind : (b z : ℕ) → Behind before (stateLeft ws h (resize ws h b z))
+  unfolding resize
+  resize-behind b z =
+      judged-behind h (resizedTo ws (asRead ws h) b z) (resizeRefusals (heapFails ws h) ws (asRead ws h) b z)
+      (λ (_, (_, (l, (room, _)))). resized-behind b (not-false (isLive (asRead ws h) b) l) z room)
+
+  reallocate-behind : (b z : ℕ) → Behind before (stateLeft ws h (reallocate ws h b z))
+  unfolding reallocate
+  reallocate-behind b z = go (eqb b 0)
+    where
+      go : (t : Bool) → Behind before (stateLeft ws h (cond t (allocate ws h z) (resize ws h b z)))
+      go true = allocate-behind z
+      go false = resize-behind b z
+
+  -- a fresh heap has nothing in its bins
+  setup-behind : (table : List ℕ) (donor : ℕ) (merge : Bool) → Behind before (stateLeft ws h (opened (heapBytes (length ws)) table donor merge))
+  unfolding members
+  setup-behind table donor merge i l large x y (ox, mx) (oy, my) e on off =
+      absurd (List·Memᴰ·not-nil (rw (zero-at 32 i, read-none) at my))
+
+  -- a call that changes nothing
+  told-behind : (a : Answer) → Behind before (stateLeft ws h (unchanged h a))
+  told-behind a = rw (same-record h a) (nothing-new before (λ y on. on))
+
+  step-behind : (call : Call) → Behind before (stateLeft ws h (step call ws h))
+  unfolding step setup check askChunk askBin setMerge
+  step-behind (Setup table donor merge) =
+      judged-behind empty (opened (heapBytes (length ws)) table donor merge) (setupRefusals ws table donor) (λ _. setup-behind table donor merge)
+  step-behind (Allocate z) = allocate-behind z
+  step-behind (AllocateCleared count size) = cleared-behind count size
+  step-behind (Free b) = free-behind b
+  step-behind (Reallocate b z) = reallocate-behind b z
+  step-behind (SetMerge on) = judged-behind h (unchanged (withMerge h on) Done) (heapFails ws h ∷ []) (λ _. nothing-new (record { words = ws; heap = withMerge h on }) (λ y there. there))
+  step-behind Check = told-behind (checked ws h)
+  step-behind (AskChunk q c) =
+      let d = asRead ws h in
+      let answers = chunkAnswers d (askedSpot d q c) in
+      judged-behind h (asked h q answers) (askRefusals (heapFails ws h) q answers (isThere d q c)) (λ _. told-behind (answerTo q answers))
+  step-behind (AskBin q i) =
+      let answers = binAnswers (asRead ws h .lists i) in
+      judged-behind h (asked h q answers) (askRefusals (heapFails ws h) q answers (ltb i (h .bins))) (λ _. told-behind (answerTo q answers))
+  step-behind (Patrol f) =
+      patrol-so ws h p (λ o. Behind before (stateLeft ws h o)) (λ r. nothing-new before (λ y on. on))
+      (λ c t there. nothing-new (record { words = ws; heap = withPatrol h c }) (λ y on. on)) f
+
+pub order : Order ours
+unfolding ours
+order s p =
+    record {
+      now = in-order s p;
+      left = λ call. in-order (after ours call s) (kept .calls call s p);
+      behind = step-behind (s .words) (s .heap) p;
+    }
+
+-- it holds in each state of every run
+pub order-through : ThroughRuns ours (OrderAt ours)
+order-through = through ours kept _ order
+
+-- A heap with a list that is not in order, as older firmware left them, is refused 4 by every call that asks the check: by every way that gives
+-- refusals for their reasons
+module _ (way : Way) (refuses : Refusing way) where
+  pub unordered-refused : (call : Call) → asksCheck call ≡ true → (s : State) → (InOrder s → ⊥) → way call (s .words) (s .heap) .answer ≡ Refused HeapFails
+  unordered-refused call asks s n =
+      refuses .exactly call (s .words) (s .heap) HeapFails .1
+      (record { because = fails asks (λ p. n (in-order s p)); before = λ q l b. none-before q l asks b })
+    where
+      none-before : {c : Call} (q : Refusal) → orderOf q < 4 → asksCheck c ≡ true → Because (s .words) (s .heap) c q → ⊥
+      none-before RegionLength l a (setupLength w) = false≢true a
+      none-before BadTable l a (setupTable w) = false≢true a
+      none-before DonorSize l a (setupDonor w) = false≢true a
+      none-before RunSize l a (patrolNone z) = false≢true a
+      none-before HeapFails l a b = omega arith
+      none-before BlockSize l a b = omega arith
+      none-before NotLive l a b = omega arith
+      none-before NoRoom l a b = omega arith
+      none-before NotThere l a b = omega arith
+      none-before NoBinTakes l a b = omega arith
+      none-before BeyondMending l a b = omega arith
