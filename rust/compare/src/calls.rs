@@ -14,7 +14,8 @@ const EDGES: [u32; 12] =
 fn bytes(view: &View, table: &[u32], random: &mut Random) -> u32 {
     let near =
         |size: u32, random: &mut Random| size.wrapping_sub(HEADER_BYTES).wrapping_add(random.below(19)).wrapping_sub(9);
-    match random.below(24) {
+    let ordinary = view.ordinary();
+    match random.below(26) {
         0..=7 => random.between(1, 64),
         8..=11 if !table.is_empty() => near(random.of(table), random),
         12 | 13 => near(view.size_at(view.top).wrapping_sub(LEAST_CHUNK), random),
@@ -23,6 +24,10 @@ fn bytes(view: &View, table: &[u32], random: &mut Random) -> u32 {
         18 => random.of(&EDGES),
         19 => random.word(),
         20 => random.between(1, 65_600),
+        // what is left of a chunk is about as large as one in a bin
+        21 | 22 if !ordinary.is_empty() => {
+            near(random.of(&view.chunks).size.wrapping_sub(random.of(&ordinary).size), random)
+        }
         _ => random.between(1, 400),
     }
 }

@@ -1,16 +1,17 @@
 //! A case: a heap with its own settings, a run of calls with writes into live blocks between them, damaged links that
-//! are patrolled and put back, and, in five of eight cases, damage on which every call is tried. Each step is chosen by
-//! the heap as it is.
+//! are patrolled and put back, lists in another order, and, in five of eight cases, damage on which every call is tried.
+//! Each step is chosen by the heap as it is.
 
 use crate::calls;
 use crate::damage::Victim;
+use crate::orders;
 use crate::patrols;
 use crate::random::Random;
 use crate::settings;
 use crate::side::{Action, Side};
-use crate::view::View;
-use kruzhvela::flat::{Answer, ANSWER_REFUSAL, BINS, SIZES};
-use kruzhvela::limits::{ALIGNMENT, HEADER_BYTES, MOST_BINS, WORD_BYTES};
+use crate::view::{bins, small_bins, View};
+use kruzhvela::flat::{Answer, ANSWER_OFFSET, ANSWER_REFUSAL, SIZES};
+use kruzhvela::limits::{ALIGNMENT, HEADER_BYTES, WORD_BYTES};
 use kruzhvela::Refusal;
 use second::Call;
 
@@ -33,9 +34,9 @@ pub fn view(stage: &dyn Stage) -> View {
 }
 
 /// The bin sizes in the record.
-fn table(stage: &dyn Stage) -> Vec<u32> {
+pub fn table(stage: &dyn Stage) -> Vec<u32> {
     let record = &stage.side().record;
-    record[SIZES..][..MOST_BINS.min(record[BINS] as usize)].to_vec()
+    record[SIZES..][..bins(record)].to_vec()
 }
 
 /// Writes a word of a live block, as its owner may.
@@ -73,7 +74,7 @@ fn damaged(stage: &mut dyn Stage, random: &mut Random) {
     set_up(stage, random);
 }
 
-fn set_up(stage: &mut dyn Stage, random: &mut Random) {
+pub fn set_up(stage: &mut dyn Stage, random: &mut Random) {
     let call = calls::setup(stage.side().region.len(), random);
     stage.play(Action::Call(call));
 }
@@ -87,6 +88,7 @@ fn run(stage: &mut dyn Stage, steps: u32, damage: bool, random: &mut Random) {
             0 | 1 => write_block(stage, random),
             2 if damage => damaged(stage, random),
             3 if random.once_in(3) => patrols::play(stage, random),
+            4 if random.bit() => orders::play(stage, random),
             _ => {
                 let call = calls::any(stage.side().region.len(), &view(stage), &table(stage), random);
                 if random.once_in(6) {
@@ -119,6 +121,40 @@ fn crowd(stage: &mut dyn Stage, random: &mut Random) {
     stage.play(Action::Call(Call::Check));
 }
 
+/// A few chunk sizes, from the least of a bin outside the small array on.
+fn shared_sizes(stage: &dyn Stage, random: &mut Random) -> Option<[u32; 5]> {
+    let table = table(stage);
+    let large = table.get(small_bins(&stage.side().record)..).filter(|large| !large.is_empty())?;
+    let least = random.of(large);
+    Some([0, 1, 2, 3, 4].map(|step| least.saturating_add(ALIGNMENT * step)))
+}
+
+/// Blocks of a few sizes that share a large bin, and of two such sizes together. Most are freed, cut or moved: a list
+/// with equal members and different ones.
+fn share_a_bin(stage: &mut dyn Stage, random: &mut Random) {
+    let Some(sizes) = shared_sizes(stage, random) else { return };
+    let mut blocks = Vec::new();
+    for _ in 0..random.between(6, 30) {
+        let more = if random.once_in(3) { random.of(&sizes) } else { 0 };
+        let z = random.of(&sizes).saturating_add(more) - HEADER_BYTES;
+        let answer = stage.play(Action::Call(Call::Allocate { z }));
+        blocks.extend(answer.map(|a| a[ANSWER_OFFSET]).filter(|&block| block != 0));
+        // a block between, so that freed neighbours do not join
+        stage.play(Action::Call(Call::Allocate { z: 1 }));
+    }
+    while !blocks.is_empty() && !stage.is_over() {
+        let block = blocks.swap_remove(random.below(blocks.len() as u32) as usize);
+        let call = match random.below(6) {
+            0 => continue,
+            1 | 2 => Call::Reallocate { block, z: random.of(&sizes) - HEADER_BYTES },
+            // more than each of the sizes has: two together are cut
+            3 if random.bit() => Call::Allocate { z: sizes[4] },
+            _ => Call::Free { block },
+        };
+        stage.play(Action::Call(call));
+    }
+}
+
 /// Plays the case of a number and a seed, which determine all of it.
 pub fn play(number: u64, seed: u64, stage: &mut dyn Stage) {
     let mut random = Random::new(seed ^ number.wrapping_mul(0xD134_2543_DE82_EF95));
@@ -127,6 +163,9 @@ pub fn play(number: u64, seed: u64, stage: &mut dyn Stage) {
     set_up(stage, &mut random);
     if number % 100 == 40 {
         crowd(stage, &mut random);
+    }
+    if number % 5 == 1 {
+        share_a_bin(stage, &mut random);
     }
     let steps = random.between(20, 160);
     let damage = number % 2 == 1 || number % 8 == 4;

@@ -2,6 +2,7 @@
 //! a check that tests too little.
 
 mod links;
+mod order;
 
 use crate::random::Random;
 use crate::side::Action;
@@ -240,7 +241,7 @@ impl Victim<'_> {
 
     /// One kind of damage.
     pub fn damage(&self, random: &mut Random) -> Vec<Action> {
-        let stores = match random.below(12) {
+        let stores = match random.below(14) {
             0 | 1 => self.flipped_bit(random),
             2 | 3 => self.fake_chunk(random),
             4 => self.cycle(random),
@@ -250,7 +251,8 @@ impl Victim<'_> {
             8 => self.wrong_place(random),
             9 => self.off(random),
             10 => self.figure(random),
-            _ => self.wrong_header(random),
+            11 => self.wrong_header(random),
+            _ => self.reordered(random).unwrap_or_else(|| self.flipped_bit(random)),
         };
         self.inside(stores)
     }

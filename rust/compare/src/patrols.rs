@@ -70,6 +70,10 @@ impl Before {
     pub fn of(stage: &dyn Stage) -> Before {
         Before { region: stage.side().region.clone(), record: stage.side().record }
     }
+
+    pub fn words(&self) -> usize {
+        self.region.len()
+    }
 }
 
 /// Writes the words that are not as they were.

@@ -3,6 +3,7 @@
 //! arguments, so that an operation may get more arguments later and old scripts stay readable. `#` begins a comment.
 
 mod donors;
+mod orders;
 mod patrols;
 
 use crate::case::{self, Stage};
@@ -235,6 +236,7 @@ pub fn stored() -> Script {
     script.both_sides();
     script.questions();
     script.donors();
+    script.orders();
     script.patrols();
     for number in 0..CASES {
         script.name(&format!("case {number}"));

@@ -1,8 +1,8 @@
-//! What a case reads of a heap to choose its next call or damage: the chain, as far as it can be followed.
-//! It does not check the heap.
+//! What a case reads of a heap to choose its next call or damage: the chain and the bins' lists, as far as they can be
+//! followed. It does not check the heap.
 
-use kruzhvela::flat::{Record, DONOR, TOP};
-use kruzhvela::limits::{ALIGNMENT, WORD_BYTES};
+use kruzhvela::flat::{Record, BINS, DONOR, HEADS, SIZES, TOP};
+use kruzhvela::limits::{ALIGNMENT, LEAST_CHUNK, MOST_BINS, WORD_BYTES};
 
 /// The words of a free chunk's header. A chunk in use has the first two.
 pub const FORWARD: usize = 0;
@@ -60,6 +60,23 @@ impl View {
     pub fn size_at(&self, place: u32) -> u32 {
         self.chunks.iter().find(|c| c.place == place).map_or(0, |c| c.size)
     }
+}
+
+/// The number of bins that have a place in the record.
+pub fn bins(record: &Record) -> usize {
+    MOST_BINS.min(record[BINS] as usize)
+}
+
+/// m: the greatest number below the bin count up to which the bins have no gap.
+pub fn small_bins(record: &Record) -> usize {
+    (0..bins(record)).take_while(|&i| record[SIZES + i] == LEAST_CHUNK + ALIGNMENT * i as u32).last().unwrap_or(0)
+}
+
+/// The places in a bin's list, not more than a region of this length has free chunks: links may go in a circle.
+pub fn list(region: &[u32], record: &Record, bin: usize) -> Vec<u32> {
+    let some = |place: u32| (place != 0).then_some(place);
+    let next = |&place: &u32| some(region.get(index(place, NEXT_IN_BIN)).copied()?);
+    std::iter::successors(some(record[HEADS + bin]), next).take(region.len() / HEADER_WORDS as usize).collect()
 }
 
 fn chunks(region: &[u32]) -> Vec<Chunk> {

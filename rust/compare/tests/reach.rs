@@ -1,11 +1,14 @@
 //! The cases reach what they must: every call accepted and refused with every number that it can give, every question
 //! with none, 0 and more where it can tell that, every m, both ways of finding a bin, every source of a small and of a large
-//! need, long chains, damage that the check refuses, every turn of the patrol's rule, and joinings that swallow its place.
+//! need, every spot of a large bin for all that is put there, heaps in which nothing but the order of a list is wrong, long
+//! chains, damage that the check refuses, every turn of the patrol's rule, and joinings that swallow its place.
 
+use compare::broken::COPIES;
 use compare::case::{self, Stage};
 use compare::judge::{Link, Walk, Words};
-use compare::side::{Action, Side};
-use compare::view::{heap_bytes, index, View, BACKWARD, IN_USE, SIZE};
+use compare::puts::{in_order, large_lists, puts, Member, Origin, Spot, ORIGINS, SPOTS};
+use compare::side::{Action, Answers, Side};
+use compare::view::{heap_bytes, index, small_bins, View, BACKWARD, IN_USE, SIZE};
 use kruzhvela::flat::{
     Answer, Record, ANSWER_NONE, ANSWER_OFFSET, ANSWER_REFUSAL, ANSWER_VALUE, BINS, BYTES, CHECK_CHUNKS, PATROL, SIZES,
 };
@@ -27,6 +30,15 @@ struct Tally {
     ways: BTreeMap<Way, u64>,
     /// Counts of new blocks by the call's name, the need's sort and the source.
     sources: BTreeMap<(&'static str, Need, Source), u64>,
+    /// Counts of chunks put into bins outside the small array.
+    puts: BTreeMap<(Origin, Spot), u64>,
+    /// Counts of calls on heaps in which nothing but the order of a list is wrong, by the call's name and the refusal's
+    /// number.
+    unordered: BTreeMap<(&'static str, u32), u64>,
+    /// How often equal members of a list changed places, so that the heap still passes.
+    equals_exchanged: u64,
+    /// The lists of the bins outside the small array, as the last call left them.
+    lists: Vec<Vec<Member>>,
     most_chunks: u32,
     /// Counts of the turns of patrols, and of swallowed places by the call that joined.
     turns: BTreeMap<&'static str, u64>,
@@ -87,12 +99,6 @@ fn name(call: &Call) -> &'static str {
     }
 }
 
-/// m: the greatest number below the bin count up to which the bins have no gap.
-fn small_bins(record: &Record) -> usize {
-    let bins = record[BINS] as usize;
-    (0..bins).take_while(|&i| record[SIZES + i] == LEAST_CHUNK + ALIGNMENT * i as u32).last().unwrap_or(0)
-}
-
 /// What a block of so many bytes needs.
 fn need(bytes: u32) -> u32 {
     (bytes + HEADER_BYTES).next_multiple_of(ALIGNMENT).max(LEAST_CHUNK)
@@ -138,10 +144,27 @@ fn source(before: &View, record: &Record, need: u32, block: u32) -> Source {
 fn bytes_of_new(call: &Call, answer: Answer) -> Option<u32> {
     match *call {
         Call::Allocate { z } => Some(z),
-        Call::AllocateCleared { count, size } => Some(count * size),
+        Call::AllocateCleared { count, size } => Some(count.wrapping_mul(size)),
         Call::Reallocate { block, z } => (block != answer[ANSWER_OFFSET]).then_some(z),
         _ => None,
     }
+}
+
+/// The check passes if this heap answers it.
+fn passes(answers: Answers, side: &Side) -> bool {
+    answers(&Call::Check, &mut side.region.clone(), &mut side.record.clone())[ANSWER_REFUSAL] == 0
+}
+
+/// The heap fails, but would pass if the check did not ask for the order.
+fn order_alone(side: &Side) -> bool {
+    let not_asked = COPIES.iter().find(|(name, _)| *name == "order_not_asked").expect("a copy").1;
+    !passes(second::apply, side) && passes(not_asked, side)
+}
+
+/// Some list has the same members in another order.
+fn exchanged(before: &[Vec<Member>], after: &[Vec<Member>]) -> bool {
+    let same = |one: &[Member], other: &[Member]| one.len() == other.len() && one.iter().all(|m| other.contains(m));
+    before.len() == after.len() && before.iter().zip(after).any(|(one, other)| one != other && same(one, other))
 }
 
 fn link_turn(link: Link) -> &'static str {
@@ -250,6 +273,10 @@ impl Tally {
             setups: BTreeMap::new(),
             ways: BTreeMap::new(),
             sources: BTreeMap::new(),
+            puts: BTreeMap::new(),
+            unordered: BTreeMap::new(),
+            equals_exchanged: 0,
+            lists: Vec::new(),
             most_chunks: 0,
             turns: BTreeMap::new(),
         }
@@ -282,6 +309,23 @@ impl Tally {
         }
     }
 
+    /// `lists`: the large bins before the call. They differ from what the last call left only by damage.
+    fn count_order(&mut self, lists: &[Vec<Member>], unordered: bool, call: &Call, answer: Answer) {
+        if unordered {
+            *self.unordered.entry((name(call), answer[ANSWER_REFUSAL])).or_default() += 1;
+        }
+        let accepted = answer[ANSWER_REFUSAL] == 0 && !matches!(call, Call::Setup { .. });
+        let after = large_lists(&self.side);
+        if accepted {
+            for put in puts(lists, &after, call, answer) {
+                *self.puts.entry(put).or_default() += 1;
+            }
+            // a list that is put back was not in order
+            self.equals_exchanged += u64::from(in_order(&self.lists) && exchanged(&self.lists, lists));
+        }
+        self.lists = after;
+    }
+
     fn count_turns(&mut self, turns: impl IntoIterator<Item = &'static str>) {
         for turn in turns {
             *self.turns.entry(turn).or_default() += 1;
@@ -296,10 +340,13 @@ impl Stage for Tally {
         }
         let place = self.side.record[PATROL];
         let before = case::view(self);
+        let lists = large_lists(&self.side);
+        let unordered = matches!(action, Action::Call(_)) && !in_order(&lists) && order_alone(&self.side);
         let answer = self.side.play(&action);
         if let (Action::Call(call), Some(answer)) = (action, answer) {
             self.count_answer(&call, answer);
             self.count_source(&before, &call, answer);
+            self.count_order(&lists, unordered, &call, answer);
             if place != self.side.record[PATROL] {
                 self.count_turns(swallow_turn(&call, answer));
             }
@@ -381,12 +428,7 @@ const TURNS: [&str; 31] = [
     "the old block of a move swallows the place",
 ];
 
-#[test]
-fn the_cases_reach_every_answer() {
-    let mut tally = Tally::new();
-    for number in 0..2_000 {
-        case::play(number, 1, &mut tally);
-    }
+fn reaches_every_number(tally: &mut Tally) {
     for (name, numbers) in NUMBERS {
         for &number in numbers {
             let times = tally.answers.remove(&(name, number)).unwrap_or(0);
@@ -394,6 +436,9 @@ fn the_cases_reach_every_answer() {
         }
     }
     assert!(tally.answers.is_empty(), "no call may give these: {:?}", tally.answers);
+}
+
+fn reaches_all_that_is_told(tally: &mut Tally) {
     println!("{:#?}", tally.told);
     for (name, question, kinds) in TOLD {
         for &kind in kinds {
@@ -402,12 +447,17 @@ fn the_cases_reach_every_answer() {
         }
     }
     assert!(tally.told.is_empty(), "no question may tell these: {:?}", tally.told);
-    assert_eq!(tally.setups.len(), MOST_BINS, "m from 0 to 31: {:?}", tally.setups);
+}
+
+fn reaches_both_ways(tally: &mut Tally) {
     for way in (0..=5).map(Way::Halving).chain([Way::Division]) {
         let times = tally.ways.remove(&way).unwrap_or(0);
         assert!(times > 50, "{way:?}: only {times} times");
     }
     assert!(tally.ways.is_empty(), "a table is halved five times at most: {:?}", tally.ways);
+}
+
+fn reaches_every_source(tally: &mut Tally) {
     println!("{:#?}", tally.sources);
     for name in ["allocate", "allocate_cleared", "reallocate"] {
         for sort in [Need::Small, Need::Large, Need::LargeOfNoSmall] {
@@ -417,11 +467,53 @@ fn the_cases_reach_every_answer() {
             }
         }
     }
-    assert!(tally.most_chunks > 1_500, "the longest chain has {} chunks", tally.most_chunks);
+}
+
+fn reaches_every_spot(tally: &mut Tally) {
+    println!("{:#?}", tally.puts);
+    for origin in ORIGINS {
+        for spot in SPOTS {
+            let times = tally.puts.remove(&(origin, spot)).unwrap_or(0);
+            assert!(times > 50, "{origin:?}, {spot:?}: only {times} times");
+        }
+    }
+}
+
+fn reaches_unordered_heaps(tally: &mut Tally) {
+    println!("{:#?}, equals exchanged {} times", tally.unordered, tally.equals_exchanged);
+    let asks_no_check = |name: &str| matches!(name, "setup" | "patrol");
+    for (name, _) in NUMBERS {
+        let number = if asks_no_check(name) { 0 } else { Refusal::HeapFails.number() };
+        let times = tally.unordered.remove(&(name, number)).unwrap_or(0);
+        assert!(times > 50, "{name} on an unordered heap: {number} only {times} times");
+    }
+    tally.unordered.retain(|(name, number), _| !asks_no_check(name) || *number == Refusal::HeapFails.number());
+    assert!(tally.unordered.is_empty(), "an unordered heap may not be answered so: {:?}", tally.unordered);
+    assert!(tally.equals_exchanged > 50, "equals exchanged only {} times", tally.equals_exchanged);
+}
+
+fn reaches_every_turn(tally: &mut Tally) {
     println!("{:#?}", tally.turns);
     for turn in TURNS {
         let times = tally.turns.remove(turn).unwrap_or(0);
         assert!(times > 50, "{turn}: only {times} times");
     }
     assert!(tally.turns.is_empty(), "these turns are not listed: {:?}", tally.turns);
+}
+
+#[test]
+fn the_cases_reach_every_answer() {
+    let mut tally = Tally::new();
+    for number in 0..3_000 {
+        case::play(number, 1, &mut tally);
+    }
+    reaches_every_number(&mut tally);
+    reaches_all_that_is_told(&mut tally);
+    assert_eq!(tally.setups.len(), MOST_BINS, "m from 0 to 31: {:?}", tally.setups);
+    reaches_both_ways(&mut tally);
+    reaches_every_source(&mut tally);
+    reaches_every_spot(&mut tally);
+    reaches_unordered_heaps(&mut tally);
+    assert!(tally.most_chunks > 1_500, "the longest chain has {} chunks", tally.most_chunks);
+    reaches_every_turn(&mut tally);
 }

@@ -17,14 +17,23 @@ pub fn leave_bin(heap: &mut Heap, region: &mut [u32], at: usize) {
     }
 }
 
-/// Small bins are last in, first out: the chunk goes to the head. In any other
-/// bin it goes to the tail.
+/// Where a chunk of this size goes in the bin's list. Small bins are last in,
+/// first out: it goes to the head. Any other bin is in order of size: it goes
+/// before the first larger chunk, and so behind those of its own size.
+fn position(heap: &Heap, bin: usize, size: u32) -> usize {
+    let list = &heap.bins[bin];
+    if bin < table::small_bins(&heap.table) {
+        return 0;
+    }
+    let larger = |&place: &u32| heap.find(place).is_some_and(|at| heap.chain[at].size > size);
+    list.iter().position(larger).unwrap_or(list.len())
+}
+
 fn put_in_bin(heap: &mut Heap, region: &mut [u32], at: usize) {
     let chunk = heap.chain[at];
     let bin = table::bin_of(&heap.table, chunk.size);
-    let small = bin < table::small_bins(&heap.table);
+    let position = position(heap, bin, chunk.size);
     let list = &mut heap.bins[bin];
-    let position = if small { 0 } else { list.len() };
     list.insert(position, chunk.place);
     render::seam(list, region, position);
     render::seam(list, region, position + 1);

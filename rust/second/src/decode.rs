@@ -109,12 +109,19 @@ fn decode_bins(heap: &Heap, region: &[u32], record: &[u32; RECORD_WORDS]) -> Opt
             let word = region[index(place, BIN)];
             table::bin_of(&heap.table, size) == bin && word == bin as u32 * BIN_FACTOR
         };
-        if !list.iter().all(fits) {
+        if !list.iter().all(fits) || !in_order(region, &list) {
             return None;
         }
         bins.push(list);
     }
     (!waiting.contains(&true)).then_some(bins)
+}
+
+/// No member is larger than the next one. In a small bin all have one size, so
+/// that the order can be asked of every bin.
+fn in_order(region: &[u32], list: &[u32]) -> bool {
+    let sizes = list.iter().map(|&place| region[index(place, SIZE)]);
+    sizes.is_sorted()
 }
 
 /// One doubly linked list from head to tail; it is empty if both are 0.

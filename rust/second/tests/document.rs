@@ -181,7 +181,7 @@ fn zero_is_a_place_and_a_bin() {
 }
 
 #[test]
-fn put_at_head_in_the_small_array_and_at_tail_elsewhere() {
+fn put_at_head_in_the_small_array_and_behind_equals_elsewhere() {
     for (table, first, last) in [(&[24, 32][..], 104, 8), (&[24][..], 8, 104)] {
         let mut world = six(table, false);
         for block in [16, 64, 112] {
@@ -197,7 +197,7 @@ fn put_at_head_in_the_small_array_and_at_tail_elsewhere() {
 
 #[test]
 fn lower_leaves_first_and_its_link_stays_in_the_upper() {
-    // One bin that is put at the tail, list 8, 56; freeing 32 joins all three.
+    // One bin that is put behind equals, list 8, 56; freeing 32 joins all three.
     let mut world = six(&[24], true);
     world.free(16);
     world.free(64);

@@ -177,16 +177,17 @@ impl Run {
         }
     }
 
-    /// Walks each bin list by the questions, in both directions.
+    /// Walks each bin list by the questions, in both directions: no size is below the one before, nor below the bin's.
     pub fn bins_hold(&mut self) {
         let mut counted = 0;
         for bin in 0..self.world.record[1] {
             let (mut before, mut here) = (None, self.world.bin_tells(2, bin));
-            let mut count = 0;
+            let (mut count, mut size) = (0, self.world.record[6 + bin as usize]);
             while let Some(place) = here {
                 assert_eq!(self.world.tells(7, place), before);
                 assert_eq!(self.world.tells(1, place), Some(bin));
-                assert!(self.world.value(8, place) >= self.world.record[6 + bin as usize]);
+                assert!(self.world.value(8, place) >= size);
+                size = self.world.value(8, place);
                 count += 1;
                 (before, here) = (here, self.world.tells(5, place));
             }
