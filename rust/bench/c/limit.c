@@ -119,7 +119,8 @@ static inline uint32_t number_of(uint32_t place)
 
 /* Goes along the bins' lists. Each member must be marked, so it is an ordinary chunk. No mark is cleared: a chunk that came twice
    would have two members before it, or two bins, but it names one of each. So if there are as many members as ordinary chunks,
-   each of these is in a list. */
+   each of these is in a list. Sizes do not go down along a list, from the bin's own size on; so only the last can be too large
+   for its bin. */
 static bool walk_lists(const uint32_t *words, const uint32_t *record, const uint32_t *marks, uint32_t ordinary)
 {
     const uint32_t *sizes = record + KZ_RECORD_SIZES, *heads = record + KZ_RECORD_HEADS, *tails = record + KZ_RECORD_TAILS;
@@ -127,21 +128,21 @@ static bool walk_lists(const uint32_t *words, const uint32_t *record, const uint
     for (uint32_t bin = 0; bin < bins; bin++) {
         if ((heads[bin] | tails[bin]) == 0)
             continue;
-        uint32_t least = sizes[bin], most = bin + 1 < bins ? sizes[bin + 1] - 1 : UINT32_MAX, before = 0;
+        uint32_t size = sizes[bin], before = 0;
         for (uint32_t at = heads[bin]; at != 0;) {
-            uint32_t number = number_of(at);
+            uint32_t number = number_of(at), least = size;
             if (number >= numbers)
                 return false;
             if ((marks[number / WORD_BITS] >> number % WORD_BITS & 1) == 0)
                 return false;
-            if (word(words, at, PREVIOUS_IN_BIN) != before || word(words, at, BIN) != bin * BIN_FACTOR ||
-                word(words, at, SIZE) - least > most - least)
+            size = word(words, at, SIZE);
+            if (word(words, at, PREVIOUS_IN_BIN) != before || word(words, at, BIN) != bin * BIN_FACTOR || size < least)
                 return false;
             met++;
             before = at;
             at = word(words, at, NEXT_IN_BIN);
         }
-        if (tails[bin] != before)
+        if (tails[bin] != before || (bin + 1 < bins && size >= sizes[bin + 1]))
             return false;
     }
     return met == ordinary;

@@ -3,18 +3,23 @@
 use crate::checks::{by_hand, proved};
 use crate::loads::Random;
 use crate::peers::{Allocator, Kruzhvela};
-use kruzhvela::flat::{self, ANSWER_REFUSAL, BYTES, RECORD_WORDS, TOP};
+use kruzhvela::flat::{self, ANSWER_REFUSAL, BYTES, HEADS, RECORD_WORDS, TAILS, TOP};
 use kruzhvela::limits::{FEWEST_WORDS, HEADER_BYTES, MOST_WORDS, WORD_BYTES};
+use kruzhvela::Refusal;
 
 const HEAPS: usize = 5_000;
 const DAMAGES: usize = 200;
 
-/// The words of a chunk that are set here.
+/// The words of a chunk that are read or set here.
 const FORWARD: u32 = 0;
 const BACKWARD: u32 = 1;
 const SIZE: u32 = 2;
+const NEXT_IN_BIN: u32 = 3;
+const PREVIOUS_IN_BIN: u32 = 4;
+const BIN: u32 = 5;
 
 const IN_USE: u32 = 1;
+const BIN_FACTOR: u32 = 8;
 
 fn index(place: u32, number: u32) -> usize {
     (place / WORD_BYTES + number) as usize
@@ -113,13 +118,63 @@ fn lengthen(heap: &mut Kruzhvela, random: &mut Random) {
     heap.record[BYTES] = bytes.wrapping_add(2 * WORD_BYTES);
 }
 
+/// A word of the heap.
+enum At {
+    Region(usize),
+    Record(usize),
+}
+
+fn store(heap: &mut Kruzhvela, at: &At, value: u32) {
+    let word = match *at {
+        At::Region(index) => heap.region.get_mut(index),
+        At::Record(index) => heap.record.get_mut(index),
+    };
+    if let Some(word) = word {
+        *word = value;
+    }
+}
+
+/// The stores that exchange a member of a list and the next one, with all links, head and tail right. None if there is no next.
+/// If both have one size, the heap still passes.
+fn exchange(heap: &Kruzhvela, one: u32) -> Option<[(At, u32); 6]> {
+    let word = |place: u32, number: u32| heap.region.get(index(place, number)).copied().unwrap_or(0);
+    let bin = (word(one, BIN) / BIN_FACTOR) as usize;
+    let (before, other) = (word(one, PREVIOUS_IN_BIN), word(one, NEXT_IN_BIN));
+    let after = word(other, NEXT_IN_BIN);
+    let link = |place: u32, number: u32| At::Region(index(place, number));
+    let to_first = if before == 0 { At::Record(HEADS + bin) } else { link(before, NEXT_IN_BIN) };
+    let to_last = if after == 0 { At::Record(TAILS + bin) } else { link(after, PREVIOUS_IN_BIN) };
+    (other != 0).then(|| {
+        [
+            (to_first, other),
+            (link(other, PREVIOUS_IN_BIN), before),
+            (link(other, NEXT_IN_BIN), one),
+            (link(one, PREVIOUS_IN_BIN), other),
+            (link(one, NEXT_IN_BIN), after),
+            (to_last, one),
+        ]
+    })
+}
+
+/// Exchanges two neighbours of a list. Now and then it forgets a store.
+fn reorder(heap: &mut Kruzhvela, places: &[u32], random: &mut Random) {
+    let free: Vec<u32> = places.iter().copied().filter(|&place| flags(heap, place) == 0).collect();
+    let one = free.get(random.below(free.len().max(1))).copied().unwrap_or(0);
+    for (at, value) in exchange(heap, one).into_iter().flatten() {
+        if random.below(8) > 0 {
+            store(heap, &at, value);
+        }
+    }
+}
+
 fn damage(heap: &mut Kruzhvela, places: &[u32], random: &mut Random) {
-    match random.below(12) {
+    match random.below(14) {
         0 => move_boundary(heap, places, random),
         1 => swallow(heap, places, random),
         2 => lengthen(heap, random),
         3 => drop(heap.region.pop()),
         4 => heap.record.swap(random.below(RECORD_WORDS), random.below(RECORD_WORDS)),
+        5 | 6 => reorder(heap, places, random),
         _ => change_word(heap, random),
     }
 }
@@ -143,4 +198,34 @@ fn the_check_by_hand_leaves_no_condition_out() {
     }
     let cases = HEAPS * DAMAGES;
     assert!(passed * 10 > cases && passed * 2 < cases, "{passed} of {cases} heaps pass");
+}
+
+/// The places of the chunks in bins that have a next one there.
+fn followed(heap: &Kruzhvela) -> Vec<u32> {
+    let next = |place: u32| heap.region[index(place, NEXT_IN_BIN)];
+    let inner = |&place: &u32| place != 0 && place != heap.record[BYTES] - HEADER_BYTES;
+    places(heap).into_iter().filter(inner).filter(|&place| flags(heap, place) == 0 && next(place) != 0).collect()
+}
+
+#[test]
+fn both_checks_ask_for_the_order_and_for_no_more() {
+    let mut random = Random(2);
+    let (mut refused, mut passed) = (0, 0);
+    for _ in 0..HEAPS {
+        let heap = called(&mut random);
+        for place in followed(&heap) {
+            let mut other = heap.clone();
+            for (at, value) in exchange(&heap, place).into_iter().flatten() {
+                store(&mut other, &at, value);
+            }
+            let size = |place: u32| heap.region[index(place, SIZE)];
+            let equal = size(place) == size(heap.region[index(place, NEXT_IN_BIN)]);
+            let answer = proved(&mut other);
+            assert_eq!(by_hand(&mut other), answer, "{:?}\n{:?}", other.record, other.region);
+            assert_eq!(Refusal::of(answer[ANSWER_REFUSAL]), (!equal).then_some(Refusal::HeapFails));
+            refused += usize::from(!equal);
+            passed += usize::from(equal);
+        }
+    }
+    assert!(refused > 500 && passed > 500, "{refused} heaps are unordered, {passed} pass");
 }

@@ -5,6 +5,7 @@ use crate::calls::{self, KINDS, LIVE};
 use crate::checks::{self, CHUNKS, FILLS};
 use crate::clock::ROUNDS;
 use crate::instructions::{self, Cost};
+use crate::order;
 use crate::patrols::{self, Way, WAYS};
 use crate::room;
 use std::fmt::Write;
@@ -16,9 +17,10 @@ pub const PATROL: &str = "## The patrol, relative to the same loop by hand";
 pub const CALLS: &str = "## The calls, relative to other allocators";
 pub const BINS: &str = "## A step outside the check, by the number of bins";
 pub const ROOM: &str = "## How often there is no room";
+pub const ORDER: &str = "## A bin in order of size, by the number of its chunks";
 
 const METHOD: &str = "\
-`cd rust && cargo run --release -p bench` (after `bash tools/archive`) writes this page, and with the word `check`, `instructions`, `patrol`, `calls`, `bins` or `room` that part of it. Each ratio is to a peer measured in the same run. \
+`cd rust && cargo run --release -p bench` (after `bash tools/archive`) writes this page, and with the word `check`, `instructions`, `patrol`, `calls`, `bins`, `room` or `order` that part of it. Each ratio is to a peer measured in the same run. \
 Times are medians of interleaved runs: a round runs every work once, and a first round, which warms the caches, is not counted. \
 The heap, the record and the peers' arenas stay in the processor's first two caches. The proved heap is called through `kruzhvela::flat`, the functions of C: \
 each call but the check and the patrol unpacks the record from its `KZ_RECORD_WORDS` words and, the questions apart, packs it again.
@@ -204,4 +206,35 @@ pub fn room(rows: &[room::Row]) -> String {
         let _ = writeln!(text, "| {name} | {} | {} | {} | {refused} |", row.live, row.bytes, row.requests);
     }
     text
+}
+
+/// A line of times: for each number of chunks in the bin, the same for each chunk, and the exponent of growth.
+fn order_line(name: &str, rows: &[order::Row], time: fn(&order::Row) -> f64) -> String {
+    let cell = |row: &order::Row| format!("{:.0} ns ({:.2})", time(row), time(row) / row.members as f64);
+    let cells: Vec<String> = rows.iter().map(cell).collect();
+    let (less, more) = (&rows[1], &rows[2]);
+    let growth = (time(more) / time(less)).ln() / (more.members as f64 / less.members as f64).ln();
+    // a difference of two times may be below 0
+    let growth = if growth.is_finite() { format!("{growth:.2}") } else { String::new() };
+    format!("| {name} | {} | {growth} |\n", cells.join(" | "))
+}
+
+/// The check and the calls on one large bin, for each number of chunks in it.
+pub fn order(rows: &[order::Row]) -> String {
+    let ratios: Vec<String> = rows.iter().map(|row| format!("{:.2}", row.check / row.by_hand)).collect();
+    let mut text = format!(
+        "{}\n\nThe largest heap, with merging off and one bin outside the small array, whose free chunks have six sizes (40 to 80 bytes) and stand in ascending order. \
+         A block that is freed goes before all of them, behind half or behind all. Allocate + free takes the first chunk of 56 bytes, a third down the list, and puts it behind half. \
+         Each call finds the same heap: the words that it changed are put back, and the time of that is taken off. Every call has its check in it. \
+         In parentheses the time for each chunk in the bin. The last column is the exponent of growth from 100 to 1,000 (1 is linear).\n\n\
+         | Call | 10 chunks | 100 chunks | 1,000 chunks | growth |\n|---|---|---|---|---|\n",
+        measured()
+    );
+    text += &order_line("the check", rows, |row| row.check);
+    let _ = writeln!(text, "| the check, to the one by hand | {} | |", ratios.join(" | "));
+    text += &order_line("free, put at the head", rows, |row| row.head);
+    text += &order_line("free, put in the middle", rows, |row| row.middle);
+    text += &order_line("free, put at the tail", rows, |row| row.tail);
+    text += &order_line("put at the tail less put at the head", rows, |row| row.tail - row.head);
+    text + &order_line("allocate + free", rows, |row| row.allocate_free)
 }
