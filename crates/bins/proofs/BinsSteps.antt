@@ -1,7 +1,8 @@
 -- Leaving and putting call by call, over plain variables, and the two searches turn by turn, as the code's loops go. Assumes nothing.
 use mathlib.Core.Path.{_≡_, refl, ap}
+use mathlib.Core.Bool.{true, false}
 use mathlib.Core.List.{List}
-use Prim.Native.Nat.{ℕ, zero, suc, _+_, _*_, _-_, _/_, _%_, _≤_, _<_}
+use Prim.Native.Nat.{ℕ, zero, suc, _+_, _*_, _-_, _/_, _%_, _^_, _≤_, _<_}
 use native.Mathlib.Omega.{arith}
 use native.Mathlib.Numerals.{add-one, sub-one}
 use lib.ListN.{getD}
@@ -9,7 +10,7 @@ use borrow.Author.Tests.{eq-eqb, ne-eqb, le-leb, lt-leb}
 use Rattle.region.specs.Words.{word, store, size, nextInBin, previousInBin, bin}
 use Rattle.books.specs.Books.{Books, books}
 use Rattle.bins.specs.declared.Slot.{Slot}
-use Rattle.bins.specs.Bins.{Side, side, linkM, leaveM, putM, firstFitM, someEnd}
+use Rattle.bins.specs.Bins.{Side, side, linkM, leaveM, slot, putM, steps, firstFitM, memberBeforeM, slotM, someEnd}
 
 words-of : {ws ends : List ℕ} {s : Side} → side ws ends ≡ s → ws ≡ s .words
 words-of e = ap (λ (s : Side). s .words) e
@@ -36,6 +37,17 @@ module _ (b : Books) {ws₁ heads₁ : List ℕ} where
       → books ws₅ heads₁ tails₁ ≡ putM b s c
   unfolding putM
   put-steps s c front e₂ e₃ back en e₅ = rw (e₅, en, words-of back, ends-of back, e₃, e₂, words-of front, ends-of front)
+
+-- the place of a chunk of s bytes: the head is read; outside the small array the first larger member is sought, and the one before it read
+module _ (b : Books) (i s : ℕ) {head : ℕ} (eh : head ≡ getD (b .heads) i 0) where
+  pub slot-at-head : slot i 0 head ≡ slotM b true i s
+  unfolding slotM
+  slot-at-head = rw eh
+
+  pub slot-in-order : {need larger before : ℕ} → need ≡ (s + 1) % 2 ^ 32 → larger ≡ firstFitM steps (b .words) need head
+      → before ≡ memberBeforeM (b .words) (b .tails) i larger → slot i before larger ≡ slotM b false i s
+  unfolding slotM
+  slot-in-order en el eb = rw (eb, el, en, eh)
 
 module _ (ws : List ℕ) (need c : ℕ) where
   pub fit-spent : (left : ℕ) → left ≤ 0 → firstFitM left ws need c ≡ 0

@@ -108,12 +108,12 @@ donorCases =
     ∷ given 64 (opening ∷ Allocate 112 ∷ []) (Allocate 33) (Refuses 7 ∷ [])
     ∷ []
 
--- The order in bin 2, which is outside the small array (document 02, request Five), with merging off: a freed chunk of 40 bytes goes before one of
--- 48, and behind one of 40; the rest of a cut and the tail of a resize, 48 bytes each, go before a chunk of 104. The small bin 1 is last in, first out
+-- The order in bin 2, which is outside the small array (document 02, request Five), with merging off: a freed chunk of 40 bytes goes behind one of
+-- 40, and before one of 48; the rest of a cut and the tail of a resize, 48 bytes each, go before a chunk of 104. The small bin 1 is last in, first out
 abbrev pub orderCases : List Case
 orderCases =
-    given 64 (opening ∷ Allocate 40 ∷ Allocate 32 ∷ SetMerge false ∷ Free 80 ∷ []) (Free 128) (Bin 2 (120 ∷ 72 ∷ []) ∷ Sound ∷ [])
-    ∷ given 64 (opening ∷ Allocate 32 ∷ Allocate 32 ∷ SetMerge false ∷ Free 80 ∷ []) (Free 120) (Bin 2 (72 ∷ 112 ∷ []) ∷ Sound ∷ [])
+    given 64 (opening ∷ Allocate 32 ∷ Allocate 32 ∷ SetMerge false ∷ Free 80 ∷ []) (Free 120) (Bin 2 (72 ∷ 112 ∷ []) ∷ Sound ∷ [])
+    ∷ given 64 (opening ∷ Allocate 40 ∷ Allocate 32 ∷ SetMerge false ∷ Free 80 ∷ []) (Free 128) (Bin 2 (120 ∷ 72 ∷ []) ∷ Sound ∷ [])
     ∷ given 128 (opening ∷ Allocate 96 ∷ Allocate 96 ∷ SetMerge false ∷ Free 80 ∷ Free 184 ∷ []) (Allocate 48)
     (Chunk 128 48 Ordinary ∷ Bin 2 (128 ∷ 176 ∷ []) ∷ Sound ∷ [])
     ∷ given 128 (opening ∷ Allocate 96 ∷ Allocate 96 ∷ SetMerge false ∷ Free 184 ∷ []) (Reallocate 80 48)
