@@ -49,16 +49,14 @@ pub record Asks (table : List ℕ) (i : ℕ) (sizes : Sizes) : Type 0 where
   pub word : sizes .word ≡ sizesM table i .word
   pub most : sizes .most ≡ sizesM table i .most
   pub from : sizesM table i .least ≤ sizes .least
-  pub some : sizes .least ≤ sizes .most
 
 -- of the first member it asks for its own size or more
-pub asks-begin : {table : List ℕ} {i : ℕ} {sizes : Sizes} → sizes ≡ sizesM table i → sizes .least ≤ sizes .most → Asks table i sizes
-asks-begin e some =
+pub asks-begin : {table : List ℕ} {i : ℕ} {sizes : Sizes} → sizes ≡ sizesM table i → Asks table i sizes
+asks-begin e =
     record {
       word = ap (λ (z : Sizes). z .word) e;
       most = ap (λ (z : Sizes). z .most) e;
       from = let q = ap (λ (z : Sizes). z .least) e in omega arith;
-      some = some;
     }
 
 -- behind a member that passed, its size is the least
@@ -67,10 +65,10 @@ pub asks-on : (ws : List ℕ) {table : List ℕ} {i : ℕ} (p c : ℕ) {sizes : 
     → Asks table i (record { word = sizes .word; least = word ws c size; most = sizes .most })
 unfolding saysListedM
 asks-on ws p c {sizes} {t} asks et ht =
-    let (((_, _), low), high) =
+    let (((_, _), low), _) =
     both (both (both (number-is (word ws c bin) (sizes .word)) (number-is (word ws c previousInBin) p)) (at-most (sizes .least) (word ws c size)))
     (at-most (word ws c size) (sizes .most)) .0 (sym et ∙ not-false t ht) in
-    record { word = asks .word; most = asks .most; from = omega (arith, asks .from); some = high }
+    record { word = asks .word; most = asks .most; from = omega (arith, asks .from) }
 
 -- so the two comparisons are the test for the bin and that for the order
 takes-from : (table : List ℕ) (i s : ℕ) (sizes : Sizes) → Asks table i sizes → ValidTable table → i < length table → s < 2 ^ 32
@@ -82,14 +80,6 @@ takes-from table i s sizes asks valid inside small =
     (both (at-most (sizes .least) s) (at-most s (sizes .most)))
     (λ ((own, top), least). (least, omega (arith, asks .most)))
     (λ (least, top). ((omega (arith, asks .from), omega (arith, asks .most)), least)))
-
--- the code's one comparison makes both: r is the wrapped difference of a size and the least one
-pub bounds-tested : (least most s r : ℕ) → least ≤ most → most < 2 ^ 32 → r < 2 ^ 32 → (r + least) % 2 ^ 32 ≡ s
-    → leb r (most - least) ≡ (leb least s && leb s most)
-bounds-tested least most s r some fits small e =
-    same-test (at-most r (most - least)) (both (at-most least s) (at-most s most))
-    (λ l. (omega arith, omega arith))
-    (λ (low, high). omega arith)
 
 -- what the test of a member comes to. It is a record, so that the checker finds by itself what is tested
 pub record Tested (ws table : List ℕ) (i bytes : ℕ) (ms : List ℕ) (p s c : ℕ) (t : Bool) : Type 0 where

@@ -38,7 +38,6 @@ fn sizes_of(table: &[u32], bin: usize) -> Sizes
     requires { ⌜ ValidTable (now table) ⌝ }
     requires { ⌜ bin < length (now table) ⌝ }
     ensures { λ r. ⌜ r ≡ sizesM (now (table .entry)) bin ⌝ }
-    ensures { λ r. ⌜ r .least ≤ r .most ⌝ }
 {
     let next = bin + 1;
     Sizes {
@@ -61,11 +60,9 @@ fn is_placed(number: u32, bytes: u32) -> bool
     number < bytes / ALIGNMENT - BELOW_END
 }
 
-// The words of a member: its bin word, its backward bin link and its size are right. A size below `least` wraps to a difference above that of
-// `most`, so that one comparison tests both bounds: the size is one of the bin's, and the order is kept.
+// The words of a member: its bin word, its backward bin link and its size are right. The lower bound asks for the order as well.
 fn is_listed(region: &[u32], sizes: Sizes, before: u32, chunk: Chunk) -> bool
     requires { ⌜ chunk .0 / 4 + bin < length (now region) ⌝ }
-    requires { ⌜ sizes .least ≤ sizes .most ⌝ }
     ensures { λ r. ⌜ r ≡ saysListedM (now (region .entry)) sizes before (chunk .0) ⌝ }
     ensures { λ _. ⌜ word (now (region .entry)) (chunk .0) size < 2 ^ 32 ⌝ }
 {
@@ -77,7 +74,10 @@ fn is_listed(region: &[u32], sizes: Sizes, before: u32, chunk: Chunk) -> bool
     if region[i + PREVIOUS_IN_BIN as usize] != before {
         return false;
     }
-    std::num::wrapping_sub_u32(size, sizes.least) <= sizes.most - sizes.least
+    if size < sizes.least {
+        return false;
+    }
+    size <= sizes.most
 }
 
 pub enum Swept {

@@ -2,15 +2,14 @@
 use Prim.Native.Nat.{_+_, _/_, _^_, _<_}
 use native.Mathlib.Omega.{arith}
 use borrow.Author.Needs.{needs}
-use borrow.Author.Tests.{eq-eqb, ne-eqb}
+use borrow.Author.Tests.{eq-eqb, ne-eqb, le-leb, lt-leb}
 use lib.ListN.{getD}
 use Rattle.region.specs.Words.{word, size}
 use Rattle.sweep.specs.Sweep.{saysListedM}
-use Rattle.sweep.proofs.SweepLaws.{bounds-tested}
 use Rattle.sweep.proofs.is_listed.Statement.{statement}
 use Rattle.sweep.proofs.is_listed.Tie as tie
 
--- behind the read of the size: the call began. The size is a word of the region, so it is below 2 ^ 32
+-- behind the read of the size: it is a word of the region, so it is below 2 ^ 32
 module _ (read : tie.After-shared-slice-known2) where
   abbrev start : tie.Start
   start = read .before .before .before
@@ -20,31 +19,34 @@ module _ (read : tie.After-shared-slice-known2) where
 
 -- behind the test of the bin word: the size is read
 abbrev size-read : tie.Else1 → tie.After-shared-slice-known2
-size-read same-bin = same-bin .before .before .before
+size-read same-bin = same-bin .before .before
 
 returns : tie.Need-returns
 unfolding saysListedM word
-returns c = (rw (ne-eqb _ _ (c .if1 .taken)), is-word (c .before .before .before))
+returns c = (rw (ne-eqb _ _ (c .if1 .taken)), is-word (c .before .before))
 
 returns-2 : tie.Need-returns-2
 unfolding saysListedM word
 returns-2 c =
-    let same-bin = c .before .before in (
-      rw (eq-eqb _ _ (same-bin .if1 .left), ne-eqb _ _ (c .if2 .taken)),
-      is-word (size-read same-bin),
-    )
+    let same-bin = c .before .before in
+    (rw (eq-eqb _ _ (same-bin .if1 .left), ne-eqb _ _ (c .if2 .taken)), is-word (size-read same-bin))
 
 returns-3 : tie.Need-returns-3
 unfolding saysListedM word
 returns-3 c =
     let same-before = c .before .before in
     let same-bin = same-before .before .before in
-    let sizes = start (size-read same-bin) .args .sizes in (
-      rw (eq-eqb _ _ (same-bin .if1 .left), eq-eqb _ _ (same-before .if2 .left))
-          (bounds-tested (sizes .least) (sizes .most) _ _ (start (size-read same-bin) .pre .1) (search needs) (search needs)
-          (c .before .wrapping-sub-u32 .ensures)),
-      is-word (size-read same-bin),
-    )
+    (rw (eq-eqb _ _ (same-bin .if1 .left), eq-eqb _ _ (same-before .if2 .left), lt-leb _ _ (c .if3 .taken)), is-word (size-read same-bin))
+
+returns-4 : tie.Need-returns-4
+unfolding saysListedM word
+returns-4 c =
+    let in-order = c .before in
+    let same-before = in-order .before .before in
+    let same-bin = same-before .before .before in
+    let a = start (size-read same-bin) .args in
+    let rises = le-leb (a .sizes .least) (getD (a .region .now) (a .chunk .0 / 4 + size) 0) (omega arith) in
+    (rw (eq-eqb _ _ (same-bin .if1 .left), eq-eqb _ _ (same-before .if2 .left), rises), is-word (size-read same-bin))
 
 pub is-listed-spec : {M : Type 1} → statement M
 is-listed-spec =
@@ -65,6 +67,5 @@ is-listed-spec =
     (λ c. search needs)
     (λ c. search needs)
     returns-2
-    (λ c κs. search needs)
-    (λ c. search needs)
-    returns-3)
+    returns-3
+    returns-4)

@@ -75,7 +75,7 @@ module _ (told : tie.After-is-listed Inv-loop μ-loop) where
       (is-known .if3 .left) (start here .pre .1 .1 .0) (start here .pre .1 .1 .1) (here .before .loop .inv .1) (told .is-listed .ensures)
 
 loop-holds : tie.Need-loop-holds Inv-loop μ-loop
-loop-holds c = let (is, some) = c .sizes-of .ensures in (combing-begins (ap (λ (z : Sizes). z .least) is), asks-begin is some)
+loop-holds c = let is = c .sizes-of .ensures in (combing-begins (ap (λ (z : Sizes). z .least) is), asks-begin is)
 
 returns : tie.Need-returns Inv-loop μ-loop
 returns c = torn-long (c .before .before .loop .inv .0) (c .if1 .taken) (c .before .loop-test .taken)
@@ -103,7 +103,7 @@ returns-3 c =
     (not-marked (place-tested (tested placed)) (placed .if2 .left) (mark-read (c .before)) (c .if3 .taken)) refl
 
 header : tie.Need-is-listed-requires Inv-loop μ-loop
-header c κs = (in-words (placed c), turn (tested (placed c)) .before .loop .inv .1 .some)
+header c κs = in-words (placed c)
 
 returns-4 : tie.Need-returns-4 Inv-loop μ-loop
 returns-4 c =
