@@ -5,7 +5,8 @@ use mathlib.Core.Bool.{Bool, true, false, cond, _&&_, _||_, false≢true}
 use mathlib.Core.List.{List, [], _∷_, _++_, List·Memᴰ·head, List·Memᴰ·tail, List·Memᴰ·not-nil, List·Memᴰ·append-cases, Memᴰ·append-left, Memᴰ·append-right}
 use Prim.Native.Nat.{ℕ, _≤_}
 use native.Mathlib.Omega.{arith}
-use lib.Dec.{eqb}
+use lib.Dec.{eqb, leb}
+use borrow.Author.Tests.{leb-false}
 use Rattle.lists.specs.Lists.{Mem, headOr, any, keep, Before, Ascending, ascending, upTo, onFrom}
 use Rattle.lists.proofs.ListsLaws.{Decides, number-is, at-most, both, or-else, for-each, is-member}
 
@@ -94,6 +95,17 @@ module _ {A : Type 0} where
     pub before-ascending : (zs : List A) → ((x y : A) → Before x y zs → f x ≤ f y) → Ascending f zs
     before-ascending [] g = tt
     before-ascending (z ∷ zs) g = (λ y m. g z y (inl (refl, m)), before-ascending zs (λ x y b. g x y (inr b)))
+
+    -- the first member that has n or more has the least of those that do
+    pub first-least : (n : ℕ) (d : A) (xs : List A) → Ascending f xs → (y : A) → Mem y xs → n ≤ f y → f (headOr d (keep (λ x. leb n (f x)) xs)) ≤ f y
+    first-least n d (x ∷ xs) (first, rest) y m l = go (leb n (f x)) refl m (λ k. first-least n d xs rest y k l)
+      where
+        go : (t : Bool) → leb n (f x) ≡ t → Mem y (x ∷ xs) → (Mem y xs → f (headOr d (keep (λ z. leb n (f z)) xs)) ≤ f y)
+            → f (headOr d (cond t (x ∷ keep (λ z. leb n (f z)) xs) (keep (λ z. leb n (f z)) xs))) ≤ f y
+        go true e (List·Memᴰ·head q) others = rw q (omega arith)
+        go true e (List·Memᴰ·tail k) others = first y k
+        go false e (List·Memᴰ·head q) others = let s = leb-false n (f x) e in let r = ap f q in absurd (omega arith)
+        go false e (List·Memᴰ·tail k) others = others k
 
   -- another number that is the same for all members
   pub ascending-same : {f g : A → ℕ} (xs : List A) → ((x : A) → Mem x xs → f x ≡ g x) → Ascending f xs → Ascending g xs

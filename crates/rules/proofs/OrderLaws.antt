@@ -7,9 +7,10 @@ use mathlib.Core.List.{List}
 use Prim.Native.Nat.{ℕ, _+_, _*_, _%_, _≤_, _<_}
 use native.Mathlib.Decide.{decLe}
 use native.Mathlib.Omega.{arith}
+use lib.Dec.{leb}
 use borrow.Author.Tests.{eqb-true}
 use Rattle.lists.specs.Lists.{Mem, headOr, keep, upTo, past, any, Ascending}
-use Rattle.lists.proofs.AscendingLaws.{before-ascending, before-members}
+use Rattle.lists.proofs.AscendingLaws.{before-ascending, before-members, first-least}
 use Rattle.lists.proofs.ListsLaws.{number-is, for-some}
 use Rattle.lists.proofs.SplitLaws.{first-splits, in-split}
 use Rattle.record.specs.declared.heap.Heap.{Heap}
@@ -54,3 +55,9 @@ lists-in-order ws h p i l =
     (λ c m. let (e, k, (q, b)) = p .bins i l .chunks c m in rw (size-on ws h p c e k q) (b .1))
     (λ c m. let (e, k, (q, b)) = p .bins i l .chunks c m in rw (size-on ws h p c e k q) (inside ws h p e k .size)) .0
     (p .bins i l .order)
+
+-- so the first chunk of a bin that has n bytes, which first fit finds, is the smallest there that does
+pub first-fit-smallest : (ws : List ℕ) (h : Heap) → Passes ws h → (i : ℕ) → i < h .bins → (n d : ℕ) → Mem d (binList ws h i)
+    → let es = shape ws (h .bytes) in
+    n ≤ sizeOn es d → sizeOn es (headOr 0 (keep (λ c. leb n (sizeOn es c)) (binList ws h i))) ≤ sizeOn es d
+first-fit-smallest ws h p i l n d m fits = first-least (sizeOn (shape ws (h .bytes))) n 0 (binList ws h i) (lists-in-order ws h p i l) d m fits
