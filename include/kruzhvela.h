@@ -90,7 +90,9 @@ uint32_t kz_setup(uint32_t *region, size_t words, const uint32_t *table, size_t 
 
 /* Allocates a block of z bytes, 1 to 65,488, and answers its offset in bytes from the region's first word. It comes from the bin of
    its size, a larger bin, the top or the donor, tried in this order; a small request tries the donor before the larger bins.
-   Donor and top serve only if 24 bytes of them remain. KZ_NO_ROOM means that no chunk of the heap can serve.
+   Of the bin of its size it takes the first chunk that fits; the bins outside the run of the table (see kz_setup) are kept in
+   order of size, so that this is the smallest there. Donor and top serve only if 24 bytes of them remain. KZ_NO_ROOM means that
+   no chunk of the heap can serve.
    The block's words stay as found. */
 uint32_t kz_allocate(uint32_t *region, size_t words, uint32_t *record, uint32_t z, uint32_t *answer);
 
@@ -109,7 +111,9 @@ uint32_t kz_reallocate(uint32_t *region, size_t words, uint32_t *record, uint32_
 /* Turns coalescing on or off for the calls that follow. */
 uint32_t kz_set_merge(uint32_t *region, size_t words, uint32_t *record, bool on, uint32_t *answer);
 
-/* Checks the whole heap and counts its chunks and bytes. Every other call but setup and the patrol makes the same check first. */
+/* Checks the whole heap and counts its chunks and bytes. Every other call but setup and the patrol makes the same check first.
+   It asks that the bins be in order of size. A heap that older firmware filled may have a bin that is not: it is refused with
+   KZ_HEAP_FAILS, and only setup makes the region usable again. */
 uint32_t kz_check(uint32_t *region, size_t words, uint32_t *record, uint32_t *answer);
 
 /* Answers a question about the chunk, or the live block, at a place. Changes nothing. KZ_NOT_THERE if there is no such chunk, block

@@ -169,7 +169,8 @@ impl<W: AsRef<[u32]> + AsMut<[u32]>> Heap<W> {
     /// Allocates a block of `bytes` bytes, 1 to [`MOST_BYTES`](crate::limits::MOST_BYTES). Its words stay as found.
     ///
     /// It comes from the bin of its size, a larger bin, the top or the donor, tried in this order; a small request tries
-    /// the donor before the larger bins. Donor and top serve only if 24 bytes of them remain.
+    /// the donor before the larger bins. Of the bin of its size it takes the smallest chunk that fits. Donor and top serve
+    /// only if 24 bytes of them remain.
     ///
     /// ```
     /// use kruzhvela::{Heap, Refusal};

@@ -13,7 +13,8 @@ pub enum Refusal {
     BadTable = 2,
     /// Setup: the donor's size is not 0 and is under 24, no multiple of 8, or over the heap bytes less 40.
     DonorSize = 3,
-    /// The heap fails the check: something else has written its headers or its record. The patrol gives this only if
+    /// The heap fails the check: something else has written its headers or its record, or older firmware has left a
+    /// bin that is not in order of size. The patrol gives this only if
     /// the region's length is not permitted, the recorded heap bytes are not those of that length, or the patrol's place
     /// is no multiple of 8 from 0 to the end chunk.
     HeapFails = 4,
