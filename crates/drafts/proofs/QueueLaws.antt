@@ -1,14 +1,14 @@
 -- The order in the bins outside the small array during a call: by size, and among chunks of equal size those that came late behind the
 -- others. Which chunks came late is a parameter: `late` is 1 for them and 0 for the others. So one invariant says both that lists are in order of
 -- size and that a chunk that is put stands behind those of equal size. Assumes nothing.
-use mathlib.Core.Path.{_≡_, sym, ap, _∙_}
+use mathlib.Core.Path.{_≡_, ap}
 use mathlib.Core.Logic.{_≢_, _⊎_, inl, inr}
 use mathlib.Core.Bool.{Bool, true}
 use mathlib.Core.List.{List, _∷_, _++_, List·Memᴰ·head, List·Memᴰ·tail}
 use Prim.Native.Nat.{ℕ, _+_, _*_, _≤_, _<_}
 use native.Mathlib.Omega.{arith}
-use Rattle.lists.specs.Lists.{Mem, Before, Ascending}
-use Rattle.lists.proofs.AscendingLaws.{before-members, before-with, before-without, ascending-before, before-ascending}
+use Rattle.lists.specs.Lists.{Mem, Before}
+use Rattle.lists.proofs.AscendingLaws.{before-members, before-with, before-without, ascending-before}
 use Rattle.record.specs.declared.heap.Heap.{Heap}
 use Rattle.record.specs.Heap.{tableOf}
 use Rattle.record.specs.Table.{smallBins}

@@ -4,9 +4,8 @@
 use mathlib.Core.Path.{_≡_, refl, sym, ap, subst, _∙_}
 use mathlib.Core.Logic.{_≢_, _⊎_, inl, inr}
 use mathlib.Core.Bool.{Bool, true, false, not, cond, _&&_, false≢true}
-use mathlib.Core.List.{List, [], _∷_, _++_, List·Memᴰ·eq-of-singleton, List·Memᴰ·not-nil}
+use mathlib.Core.List.{List, [], _∷_, List·Memᴰ·not-nil}
 use Prim.Native.Nat.{ℕ, _+_, _*_, _≤_, _<_}
-use native.Mathlib.Nat.{add-zero}
 use native.Mathlib.Omega.{arith}
 use lib.Dec.{eqb, ltb}
 use lib.ListN.{length}
@@ -14,7 +13,6 @@ use borrow.Author.Tests.{lt-ltb, not-false}
 use Rattle.lists.specs.Lists.{Mem, any, Before}
 use Rattle.lists.proofs.AscendingLaws.{one-before}
 use Rattle.lists.proofs.ListsLaws.{Decides, number-is, both, for-some, meaning, not-so, zero-at}
-use Rattle.lists.proofs.SplitLaws.{among, outer-in}
 use Rattle.record.specs.declared.answers.Answer.{Answer}
 use Rattle.record.specs.declared.answers.Answer.the-variants.{Done, Refused}
 use Rattle.record.specs.declared.answers.Refusal.{Refusal}
@@ -22,17 +20,16 @@ use Rattle.record.specs.declared.answers.Refusal.the-variants.{RegionLength, Ba
 use Rattle.record.specs.declared.heap.Heap.{Heap}
 use Rattle.record.specs.Heap.{empty, withMerge, withPatrol}
 use Rattle.region.specs.Words.{Store, written}
-use Rattle.drafts.proofs.QueueLaws.{QueuedIn, Lateness, all-late, queued-same}
-use Rattle.drafts.proofs.PictureLaws.{StaysQueued}
+use Rattle.drafts.proofs.QueueLaws.{QueuedIn, Lateness, all-late}
 use Rattle.drafts.proofs.SourceLaws.{Grantable, need-grantable}
 use Rattle.drafts.proofs.GrantKept.{theGrant, grant-queued, sourceChunk, can, granted-place, granted-new, others-there}
-use Rattle.drafts.proofs.GrantedChunk.{grantedHeap, grantedWords, granted-pictured, filledWords, granted-filled, new-there, new-live}
+use Rattle.drafts.proofs.GrantedChunk.{grantedHeap, granted-pictured, filledWords, granted-filled, new-there, new-live}
 use Rattle.drafts.proofs.FillLaws.{Within}
 use Rattle.drafts.proofs.ReleaseKept.{free-kept, free-queued, others-stay}
 use Rattle.drafts.proofs.ShrinkKept.{shrink-kept, shrink-queued}
 use Rattle.drafts.proofs.WantedLaws.{block-moves, block-shrinks}
 use Rattle.drafts.proofs.MovedLaws.{Moving, copies, copies-within, copiedWords, copiedHeap, copied-passes, still-live, moved-reread, moved-words}
-use Rattle.rules.specs.Shape.{Entry, entry, shape, binList, members, heapBytes}
+use Rattle.rules.specs.Shape.{Entry, entry, shape, members, heapBytes}
 use Rattle.rules.specs.Kinds.{ordinary, overhead, blockOf}
 use Rattle.rules.specs.Check.{Passes}
 use Rattle.rules.specs.Draft.{Draft, Spot, asRead}
@@ -44,7 +41,6 @@ use Rattle.rules.specs.Free.{isLive, blockSpot, freeBlock, free, freeRefusals, 
 use Rattle.rules.specs.Reallocate.{shrunk, moved, resized, resize, reallocate, resizeRefusals, resizedTo}
 use Rattle.rules.specs.Merge.{setMerge, checked, check}
 use Rattle.rules.specs.Ask.{askChunk, askBin, chunkAnswers, askedSpot, isThere, binAnswers, answerTo, askRefusals, asked}
-use Rattle.rules.specs.Patrol.{patrol}
 use Rattle.rules.specs.Calls.{Call, Setup, Allocate, AllocateCleared, Free, Reallocate, SetMerge, Check, AskChunk, AskBin, Patrol, State, step}
 use Rattle.rules.proofs.KindsLaws.{live-used}
 use Rattle.rules.proofs.OrderLaws.{lists-in-order}
@@ -54,7 +50,7 @@ use Rattle.rules.proofs.ShapeLaws.{read-none}
 use Rattle.rules.proofs.SpotLaws.{one-chunk}
 use Rattle.promises.specs.Ways.{Way, ours}
 use Rattle.promises.specs.Kept.{Passing, after}
-use Rattle.promises.specs.Order.{listOf, InOrder, On, InBin, Behind, Order, OrderAt}
+use Rattle.promises.specs.Order.{listOf, InOrder, On, Behind, Order, OrderAt}
 use Rattle.promises.specs.Refusing.{asksCheck, Because, setupLength, setupTable, setupDonor, fails, patrolNone, orderOf, Refusing}
 use Rattle.promises.specs.Runs.{ThroughRuns}
 use Rattle.promises.proofs.ResizedLaws.{resized-so}
@@ -137,7 +133,7 @@ filled-queued room ss w late t i l large =
     let f = granted-filled room ss w in
     rw (f .chain, f .lists i) (grant-queued room late t i l large)
 
--- a block moves: late are the chunks that are on the chain after the grant and were before, and no others
+-- a block moves: late are all chunks but those that are on the chain after the grant and were on it before
 module _ {ws : List ℕ} {h : Heap} (p : Passes ws h) {n : ℕ} {e : Entry} (moves : Moving ws h n e) where
   abbrev first : List Entry
   first = shape ws (h .bytes)

@@ -2,14 +2,13 @@
 -- so that to ask for it of every bin is the same (`every-bin-iff`). Assumes nothing.
 use mathlib.Core.Path.{_≡_, sym, ap, _∙_}
 use mathlib.Core.Logic.{_↔_}
-use mathlib.Core.Bool.{true}
 use mathlib.Core.List.{List}
 use Prim.Native.Nat.{ℕ, _+_, _*_, _%_, _≤_, _<_}
 use native.Mathlib.Decide.{decLe}
 use native.Mathlib.Omega.{arith}
 use lib.Dec.{leb}
 use borrow.Author.Tests.{eqb-true}
-use Rattle.lists.specs.Lists.{Mem, headOr, keep, upTo, past, any, Ascending}
+use Rattle.lists.specs.Lists.{Mem, headOr, keep, upTo, past, Ascending}
 use Rattle.lists.proofs.AscendingLaws.{before-ascending, before-members, first-least}
 use Rattle.lists.proofs.ListsLaws.{number-is, for-some}
 use Rattle.lists.proofs.SplitLaws.{first-splits, in-split}

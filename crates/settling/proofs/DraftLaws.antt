@@ -19,7 +19,7 @@ use Rattle.record.specs.Heap.{tableOf, summaryOf, withSummary, withEnds}
 use Rattle.record.specs.Table.{smallBins, binOf}
 use Rattle.record.proofs.TableLaws.{bin-from}
 use Rattle.region.specs.Words.{Store, put, written, backward, forward, size}
-use Rattle.region.proofs.WordsLaws.{length-written, written-append}
+use Rattle.region.proofs.WordsLaws.{written-append}
 use Rattle.headers.specs.Headers.{aboveWords, freeWords}
 use Rattle.rules.specs.Shape.{Entry, entry, binList}
 use Rattle.rules.specs.Kinds.{unused, outside}
@@ -76,7 +76,6 @@ follows-begins ws h p =
 pub record LeavesBin (ws : List ℕ) (h : Heap) (d : Draft) (e : Entry) (after : Draft) : Type 0 where
   pub is : leaveM (booksOf ws d) (e .place) ≡ booksOf ws after
   pub follows : Follows ws h after
-  pub stays : (j c : ℕ) → j < h .bins → Mem c (after .lists j) → Mem c (d .lists j)
   pub keeps : (j c : ℕ) → c ≢ e .place → Mem c (d .lists j) → Mem c (after .lists j)
   pub far : (j c : ℕ) → j < h .bins → Mem c (after .lists j) → Far (e .place) c
 
@@ -108,7 +107,6 @@ module _ (ws : List ℕ) (h : Heap) (d : Draft) (f : Follows ws h d) where
                 table = f .table;
                 heap = rw (f .heap);
               };
-          stays = λ j c lj k. way-stays (booksOf ws d) (d .lists) (h .bins) (f .way) i (e .place) l m j k;
           keeps = λ j c ne k. way-remains (booksOf ws d) (d .lists) (h .bins) (f .way) i (e .place) l m j ne k;
           far = λ j c lj k. way-left-far (booksOf ws d) (d .lists) (h .bins) (f .way) i (e .place) l m j c lj k;
         })
