@@ -20,7 +20,7 @@ use Rattle.region.specs.Words.{word, size, nextInBin, previousInBin, bin}
 use Rattle.rules.specs.Check.{Linked}
 use Rattle.rules.specs.Shape.{membersFrom}
 use Rattle.rules.proofs.ShapeLaws.{read-head, read-on}
-use Rattle.sweep.specs.Sweep.{isListedM, combed, beyond, listAt, wholeBin, allWhole}
+use Rattle.sweep.specs.Sweep.{standsM, isListedM, combed, beyond, listAt, wholeBin, allWhole}
 
 -- members that have been passed, the last one first: 0 is none of them, each one's backward bin link names the next, and the last one's 0
 abbrev Trail : List ℕ → List ℕ → Type 0
@@ -147,14 +147,14 @@ module _ (ws table : List ℕ) (valid : ValidTable table) (all heads tails : Lis
     -- the tests of a member decide that it is one, that it names the one before it, and that it is no smaller
     listed-iff : (p s c : ℕ)
         → Decides (isListedM ws table i bytes ms p s c) (MemberFacts ws table valid all i c × (word ws c previousInBin ≡ p) × (s ≤ word ws c size))
-    unfolding isListedM
+    unfolding isListedM standsM
     listed-iff p s c =
         meaning
-        (both (both (both (both-if (both (number-is (c % 8) 0) (less (c + 16) bytes)) (λ (eight, below). marks c eight))
+        (both (both (both (both (both-if (both (number-is (c % 8) 0) (less (c + 16) bytes)) (λ (eight, below). marks c eight))
         (number-is (word ws c bin) (i % 32 * 8)))
-        (number-is (word ws c previousInBin) p)) (both (takes-iff table valid i (word ws c size)) (at-most s (word ws c size))))
-        (λ (((((eight, below), known), bins), back), (takes, up)). (record { known = known; bins = bins; takes = takes }, back, up))
-        (λ (m, back, up). (((((eights c (m .known), bounded c (m .known) .1), m .known), m .bins), back), (m .takes, up)))
+        (number-is (word ws c previousInBin) p)) (at-most s (word ws c size))) (takes-iff table valid i (word ws c size)))
+        (λ ((((((eight, below), known), bins), back), up), takes). (record { known = known; bins = bins; takes = takes }, back, up))
+        (λ (m, back, up). ((((((eights c (m .known), bounded c (m .known) .1), m .known), m .bins), back), up), m .takes))
 
     combed-iff : (cs : List ℕ) (p s : ℕ) → Decides (combed ws table i bytes ms p s cs) (CombedIs ws table valid all i p s cs)
     combed-iff [] p s = (λ h. tt, λ h. refl)

@@ -1,6 +1,6 @@
 -- The walk of the bins' lists, step by step: what is left and what is done always come to the whole. Assumes nothing.
 use mathlib.Core.Path.{_≡_, refl, sym, _∙_, ap, subst}
-use mathlib.Core.Bool.{Bool, true, false, not, cond, _&&_, _||_, and-assoc}
+use mathlib.Core.Bool.{Bool, true, false, not, cond, _&&_, _||_, and-true, and-false}
 use mathlib.Core.List.{List, [], _∷_}
 use Prim.Native.Nat.{ℕ, zero, suc, _+_, _-_, _*_, _/_, _%_, _^_, _≤_, _<_}
 use native.Mathlib.Decide.{ℕ-discrete, decLt, decLe}
@@ -23,14 +23,14 @@ use Rattle.sweep.specs.declared.Sizes.{Sizes}
 use Rattle.sweep.specs.declared.Sweep.the-variants.{Clean, Dirty}
 use Rattle.sweep.specs.declared.Swept.{Swept}
 use Rattle.sweep.specs.declared.Swept.the-variants.{Whole, Torn}
-use Rattle.sweep.specs.Sweep.{sizesM, saysListedM, isPlacedM, isListedM, combed, beyond, wholeList, WholeIs, SweptIs, NextListed, listAt, allWhole, SweepIs}
+use Rattle.sweep.specs.Sweep.{sizesM, saysListedM, isPlacedM, standsM, isListedM, combed, beyond, wholeList, WholeIs, SweptIs, NextListed, listAt, allWhole, SweepIs}
 
 -- a size is below a bound exactly if it is at most one less
 below-most : (above s : ℕ) → 0 < above → ltb s above ≡ leb s (above - 1)
 below-most above s h =
     same-test (less s above) (at-most s (above - 1)) (λ l. omega arith) (λ l. omega arith)
 
--- the two comparisons of a size with what its bin asks are the test for the bin
+-- two comparisons of a size are the test for the bin
 takes-sizes : (table : List ℕ) (i s : ℕ) → ValidTable table → i < length table → s < 2 ^ 32
     → takesBin table i s ≡ (leb (sizesM table i .least) s && leb s (sizesM table i .most))
 unfolding takesBin
@@ -59,57 +59,42 @@ asks-begin e =
       from = let q = ap (λ (z : Sizes). z .least) e in omega arith;
     }
 
--- behind a member that passed, its size is the least
-pub asks-on : (ws : List ℕ) {table : List ℕ} {i : ℕ} (p c : ℕ) {sizes : Sizes} {t : Bool}
-    → Asks table i sizes → t ≡ saysListedM ws sizes p c → not t ≡ false
-    → Asks table i (record { word = sizes .word; least = word ws c size; most = sizes .most })
+-- a member that passed is not smaller than the one before
+pub rises : (ws : List ℕ) (sizes : Sizes) (p c : ℕ) {t : Bool} → t ≡ saysListedM ws sizes p c → not t ≡ false → sizes .least ≤ word ws c size
 unfolding saysListedM
-asks-on ws p c {sizes} {t} asks et ht =
-    let (((_, _), low), _) =
-    both (both (both (number-is (word ws c bin) (sizes .word)) (number-is (word ws c previousInBin) p)) (at-most (sizes .least) (word ws c size)))
-    (at-most (word ws c size) (sizes .most)) .0 (sym et ∙ not-false t ht) in
-    record { word = asks .word; most = asks .most; from = omega (arith, asks .from) }
+rises ws sizes p c {t} et ht =
+    both (both (number-is (word ws c bin) (sizes .word)) (number-is (word ws c previousInBin) p)) (at-most (sizes .least) (word ws c size))
+    .0 (sym et ∙ not-false t ht) .1
 
--- so the two comparisons are the test for the bin and that for the order
-takes-from : (table : List ℕ) (i s : ℕ) (sizes : Sizes) → Asks table i sizes → ValidTable table → i < length table → s < 2 ^ 32
-    → (takesBin table i s && leb (sizes .least) s) ≡ (leb (sizes .least) s && leb s (sizes .most))
-takes-from table i s sizes asks valid inside small =
-    rw (takes-sizes table i s valid inside small)
-    (same-test
-    (both (both (at-most (sizesM table i .least) s) (at-most s (sizesM table i .most))) (at-most (sizes .least) s))
-    (both (at-most (sizes .least) s) (at-most s (sizes .most)))
-    (λ ((own, top), least). (least, omega (arith, asks .most)))
-    (λ (least, top). ((omega (arith, asks .from), omega (arith, asks .most)), least)))
+-- behind it its size is the least
+pub asks-on : {table : List ℕ} {i : ℕ} {sizes : Sizes} → Asks table i sizes → (s : ℕ) → sizes .least ≤ s
+    → Asks table i (record { word = sizes .word; least = s; most = sizes .most })
+asks-on asks s up = record { word = asks .word; most = asks .most; from = omega (arith, asks .from) }
+
+-- of a size that is not below the bin's one comparison is the test for the bin
+takes-most : (table : List ℕ) (i s : ℕ) → ValidTable table → i < length table → s < 2 ^ 32 → sizesM table i .least ≤ s
+    → takesBin table i s ≡ leb s (sizesM table i .most)
+takes-most table i s valid inside small low = rw (takes-sizes table i s valid inside small, le-leb (sizesM table i .least) s low)
 
 -- what the test of a member comes to. It is a record, so that the checker finds by itself what is tested
 pub record Tested (ws table : List ℕ) (i bytes : ℕ) (ms : List ℕ) (p s c : ℕ) (t : Bool) : Type 0 where
-  pub is : t ≡ isListedM ws table i bytes ms p s c
+  pub is : t ≡ standsM ws table i bytes ms p s c
 
 -- the tests of a member, in the code's order: its place, its mark, its words
 module _ {ws table : List ℕ} {i bytes : ℕ} {ms : List ℕ} {p c : ℕ} {t : Bool} (et : t ≡ isPlacedM bytes c) where
   pub not-placed : {s : ℕ} → not t ≡ true → Tested ws table i bytes ms p s c false
-  unfolding isListedM
+  unfolding standsM
   not-placed h = record { is = rw (sym et ∙ not-true t h) }
 
   module _ (ht : not t ≡ false) {m : Bool} (em : m ≡ marked ms c) where
     pub not-marked : {s : ℕ} → not m ≡ true → Tested ws table i bytes ms p s c false
-    unfolding isListedM
+    unfolding standsM
     not-marked h = record { is = rw (sym et ∙ not-false t ht, sym em ∙ not-true m h) }
 
-    pub by-words : not m ≡ false → ValidTable table → i < length table → {sizes : Sizes} → Asks table i sizes
-        → {w : Bool} → (w ≡ saysListedM ws sizes p c) × (word ws c size < 2 ^ 32) → Tested ws table i bytes ms p (sizes .least) c w
-    unfolding isListedM saysListedM
-    by-words hm valid inside {sizes} asks (ew, small) =
-        record {
-          is =
-              rw (
-                sym et ∙ not-false t ht,
-                sym em ∙ not-false m hm,
-                takes-from table i (word ws c size) sizes asks valid inside small,
-                ← and-assoc,
-              )
-              (rw (asks .word) at ew);
-        }
+    pub by-words : not m ≡ false → {sizes : Sizes} → Asks table i sizes → {w : Bool} → w ≡ saysListedM ws sizes p c
+        → Tested ws table i bytes ms p (sizes .least) c w
+    unfolding standsM saysListedM
+    by-words hm asks ew = record { is = rw (sym et ∙ not-false t ht, sym em ∙ not-false m hm) (rw (asks .word) at ew) }
 
 -- one comparison of its number tests the place of a member
 module _ {ws : List ℕ} {bytes : ℕ} (lent : Lent ws bytes) (c : ℕ) where
@@ -141,21 +126,30 @@ module _ {ws : List ℕ} {bytes : ℕ} (lent : Lent ws bytes) (c : ℕ) {t : Boo
     pub own-mark : (ms : List ℕ) {m : Bool} → m ≡ marked ms (8 * k) → m ≡ marked ms c
     own-mark ms em = let (eight, below) = placed in let same : 8 * k ≡ c = omega arith in em ∙ ap (marked ms) same
 
--- where the walk of one list stands, at c behind p of size s, with `left` steps left
+-- where the walk of one list stands, at c behind p of size s, with `left` steps left. Whether a size is too large for the bin is asked of s, the
+-- greatest so far, and of none before
 module _ (ws table : List ℕ) (i bytes : ℕ) (ms : List ℕ) (first : ℕ) where
   pub record Combing (c p s left : ℕ) : Type 0 where
     pub combs :
-        combed ws table i bytes ms p s (membersFrom left ws c)
+        (leb s (sizesM table i .most) && combed ws table i bytes ms p s (membersFrom left ws c))
         ≡ combed ws table i bytes ms 0 (sizeAt table i) (membersFrom bytes ws first)
     pub ends : beyond ws c (membersFrom left ws c) ≡ beyond ws first (membersFrom bytes ws first)
     pub count : bytes + length (membersFrom left ws c) ≡ left + length (membersFrom bytes ws first)
     pub lasts : lastOr p (membersFrom left ws c) ≡ lastOr 0 (membersFrom bytes ws first)
     pub within : left ≤ bytes
 
+-- what bounds the larger of two sizes bounds the smaller
+smaller-bound : (s z most : ℕ) → s ≤ z → (rest : Bool) → (leb s most && (leb z most && rest)) ≡ (leb z most && rest)
+smaller-bound s z most up rest = go (decLe z most)
+  where
+    go : Dec (z ≤ most) → (leb s most && (leb z most && rest)) ≡ (leb z most && rest)
+    go (yes l) = rw (le-leb s most (omega arith), le-leb z most l)
+    go (no n) = rw (lt-leb z most (omega arith)) (and-false (leb s most))
+
 module _ {ws table : List ℕ} {i bytes : ℕ} {ms : List ℕ} {first : ℕ} where
-  pub combing-begins : {s : ℕ} → s ≡ sizeAt table i → Combing ws table i bytes ms first first 0 s bytes
-  combing-begins e =
-      rw e (record { combs = refl; ends = refl; count = refl; lasts = refl; within = omega arith })
+  pub combing-begins : {s : ℕ} → s ≡ sizeAt table i → sizeAt table i ≤ sizesM table i .most → Combing ws table i bytes ms first first 0 s bytes
+  combing-begins e l =
+      rw e (record { combs = rw (le-leb (sizeAt table i) (sizesM table i .most) l); ends = refl; count = refl; lasts = refl; within = omega arith })
 
   module _ {c p s left : ℕ} (o : Combing ws table i bytes ms first c p s left) where
     -- no list is longer than its steps
@@ -164,34 +158,50 @@ module _ {ws table : List ℕ} {i bytes : ℕ} {ms : List ℕ} {first : ℕ} whe
     torn-long e n =
         let r = read-spent ws left c e in
         let q : beyond ws first (membersFrom bytes ws first) ≡ c = sym (o .ends) ∙ ap (beyond ws c) r in
-        rw (sym (o .combs) ∙ ap (combed ws table i bytes ms p s) r, q, ne-eqb c 0 n)
+        rw (q, ne-eqb c 0 n) (and-false (combed ws table i bytes ms 0 (sizeAt table i) (membersFrom bytes ws first)))
 
-    pub whole-list : c ≡ 0 → SweptIs ws table i bytes ms first (Whole (bytes - left) p)
-    unfolding SweptIs
-    whole-list e =
-        let r : membersFrom left ws c ≡ [] = ap (membersFrom left ws) e ∙ read-none ws left in
-        let q : beyond ws first (membersFrom bytes ws first) ≡ c = sym (o .ends) ∙ ap (beyond ws c) r in
-        let l : bytes + 0 ≡ left + length (membersFrom bytes ws first) = rw r at (o .count) in
-        record {
-          whole = rw (sym (o .combs) ∙ ap (combed ws table i bytes ms p s) r, q, eq-eqb c 0 e);
-          count = omega arith;
-          ends = sym (ap (lastOr p) r) ∙ o .lasts;
-        }
+    -- the list has been read: the last size, which is the greatest, decides
+    module _ (e : c ≡ 0) where
+      none-left : membersFrom left ws c ≡ []
+      none-left = ap (membersFrom left ws) e ∙ read-none ws left
+
+      by-last : combed ws table i bytes ms 0 (sizeAt table i) (membersFrom bytes ws first) ≡ leb s (sizesM table i .most)
+      by-last = sym (o .combs) ∙ rw none-left (and-true (leb s (sizesM table i .most)))
+
+      pub torn-large : sizesM table i .most < s → SweptIs ws table i bytes ms first Torn
+      unfolding SweptIs
+      torn-large l = rw (by-last, lt-leb s (sizesM table i .most) l)
+
+      pub whole-list : s ≤ sizesM table i .most → SweptIs ws table i bytes ms first (Whole (bytes - left) p)
+      unfolding SweptIs
+      whole-list l =
+          let q : beyond ws first (membersFrom bytes ws first) ≡ c = sym (o .ends) ∙ ap (beyond ws c) none-left in
+          let k : bytes + 0 ≡ left + length (membersFrom bytes ws first) = rw none-left at (o .count) in
+          record {
+            whole = rw (by-last, le-leb s (sizesM table i .most) l, q, eq-eqb c 0 e);
+            count = omega arith;
+            ends = sym (ap (lastOr p) none-left) ∙ o .lasts;
+          }
 
     module _ (n : c ≡ 0 → ⊥) (h : 0 < left) {t : Bool} (test : Tested ws table i bytes ms p s c t) where
       pub torn-here : not t ≡ true → SweptIs ws table i bytes ms first Torn
-      unfolding SweptIs
+      unfolding SweptIs isListedM
       torn-here ht =
           let r = read-more ws left c n h in
-          rw (sym (o .combs) ∙ ap (combed ws table i bytes ms p s) r, sym (test .is) ∙ not-true t ht)
+          rw (sym (o .combs), r, sym (test .is) ∙ not-true t ht, and-false)
 
-      pub combing-goes : not t ≡ false → {z : ℕ} → z ≡ word ws c size → {d : ℕ} → d ≡ word ws c nextInBin
-          → Combing ws table i bytes ms first d c z (left - 1)
-      combing-goes ht ez ed =
+      pub combing-goes : not t ≡ false → ValidTable table → i < length table → sizeAt table i ≤ s → s ≤ word ws c size → word ws c size < 2 ^ 32
+          → {z : ℕ} → z ≡ word ws c size → {d : ℕ} → d ≡ word ws c nextInBin → Combing ws table i bytes ms first d c z (left - 1)
+      unfolding isListedM
+      combing-goes ht valid inside low up small ez ed =
           let r = read-more ws left c n h in
+          let most = sizesM table i .most in
+          let rest = combed ws table i bytes ms c (word ws c size) (membersFrom (left - 1) ws (word ws c nextInBin)) in
+          let q : (leb s most && (leb (word ws c size) most && rest)) ≡ combed ws table i bytes ms 0 (sizeAt table i) (membersFrom bytes ws first) =
+          rw (r, sym (test .is) ∙ not-false t ht, takes-most table i (word ws c size) valid inside small (omega arith)) at (o .combs) in
           rw (ed, ez)
           (record {
-            combs = rw (r, sym (test .is) ∙ not-false t ht) at (o .combs);
+            combs = sym (smaller-bound s (word ws c size) most up rest) ∙ q;
             ends = rw r at (o .ends);
             count = count r;
             lasts = rw r at (o .lasts);

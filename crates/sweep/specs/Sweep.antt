@@ -27,11 +27,9 @@ sizesM table i =
       most = cond (leb (length table) (suc i)) (2 ^ 32 - 1) (sizeAt table (suc i) - 1);
     }
 
--- the words of the chunk at c are right for a member behind one at p, where these sizes are asked for
+-- the words of the chunk at c are right for a member behind one at p, where these sizes are asked for; whether it is too large is not asked here
 unfoldable pub saysListedM : List ℕ → Sizes → ℕ → ℕ → Bool
-saysListedM ws s p c =
-    eqb (word ws c bin) (s .word) && eqb (word ws c previousInBin) p && leb (s .least) (word ws c size)
-    && leb (word ws c size) (s .most)
+saysListedM ws s p c = eqb (word ws c bin) (s .word) && eqb (word ws c previousInBin) p && leb (s .least) (word ws c size)
 
 -- c is a multiple of 8, and the six words of a header are inside the heap bytes, which are a multiple of 8 too
 abbrev pub isPlacedM : ℕ → ℕ → Bool
@@ -39,11 +37,14 @@ isPlacedM bytes c = eqb (c % 8) 0 && ltb (c + 16) bytes
 
 -- the words, the table, a bin of it, and the heap bytes
 module _ (ws table : List ℕ) (i bytes : ℕ) where
-  -- the chunk at c is a member of bin i behind one at p of size s, and is no smaller
+  -- the chunk at c stands in the list of bin i behind one at p of size s, and is no smaller
+  unfoldable pub standsM : List ℕ → ℕ → ℕ → ℕ → Bool
+  standsM ms p s c =
+      isPlacedM bytes c && marked ms c && eqb (word ws c bin) (i % 32 * 8) && eqb (word ws c previousInBin) p && leb s (word ws c size)
+
+  -- and the bin takes its size
   unfoldable pub isListedM : List ℕ → ℕ → ℕ → ℕ → Bool
-  isListedM ms p s c =
-      isPlacedM bytes c && marked ms c && eqb (word ws c bin) (i % 32 * 8) && eqb (word ws c previousInBin) p
-      && (takesBin table i (word ws c size) && leb s (word ws c size))
+  isListedM ms p s c = standsM ms p s c && takesBin table i (word ws c size)
 
   -- all of a list are, one behind the other
   abbrev pub combed : List ℕ → ℕ → ℕ → List ℕ → Bool

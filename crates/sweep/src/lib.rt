@@ -24,8 +24,8 @@ use region::SIZE;
 const BELOW_END: u32 = LEAST / ALIGNMENT - 1;
 
 // What a bin asks of the words of a member: its bin word, and a size from `least` to `most`. Along a list `least` is the size of the member
-// before, so that no member is smaller than that one. The rules ask for this order outside the small array only; the members of a small bin
-// have one size, so that they are in order anyway.
+// before, so that no member is smaller than that one. So `most` is compared with the last size alone: it is the greatest. The rules ask for
+// this order outside the small array only; the members of a small bin have one size, so that they are in order anyway.
 pub struct Sizes {
     pub word: u32,
     pub least: u32,
@@ -38,6 +38,7 @@ fn sizes_of(table: &[u32], bin: usize) -> Sizes
     requires { ⌜ ValidTable (now table) ⌝ }
     requires { ⌜ bin < length (now table) ⌝ }
     ensures { λ r. ⌜ r ≡ sizesM (now (table .entry)) bin ⌝ }
+    ensures { λ r. ⌜ r .least ≤ r .most ⌝ }
 {
     let next = bin + 1;
     Sizes {
@@ -60,7 +61,7 @@ fn is_placed(number: u32, bytes: u32) -> bool
     number < bytes / ALIGNMENT - BELOW_END
 }
 
-// The words of a member: its bin word, its backward bin link and its size are right. The lower bound asks for the order as well.
+// The words of a member: its bin word and its backward bin link are right, and it is not smaller than the member before.
 fn is_listed(region: &[u32], sizes: Sizes, before: u32, chunk: Chunk) -> bool
     requires { ⌜ chunk .0 / 4 + bin < length (now region) ⌝ }
     ensures { λ r. ⌜ r ≡ saysListedM (now (region .entry)) sizes before (chunk .0) ⌝ }
@@ -74,10 +75,7 @@ fn is_listed(region: &[u32], sizes: Sizes, before: u32, chunk: Chunk) -> bool
     if region[i + PREVIOUS_IN_BIN as usize] != before {
         return false;
     }
-    if size < sizes.least {
-        return false;
-    }
-    size <= sizes.most
+    sizes.least <= size
 }
 
 pub enum Swept {
@@ -125,6 +123,9 @@ pub fn sweep_list(
         before = at;
         at = region[i + NEXT_IN_BIN as usize];
         left -= 1;
+    }
+    if sizes.least > sizes.most {
+        return Swept::Torn;
     }
     Swept::Whole(bytes - left, before)
 }

@@ -2,7 +2,7 @@
 use Prim.Native.Nat.{_+_, _/_, _^_, _<_}
 use native.Mathlib.Omega.{arith}
 use borrow.Author.Needs.{needs}
-use borrow.Author.Tests.{eq-eqb, ne-eqb, le-leb, lt-leb}
+use borrow.Author.Tests.{eq-eqb, ne-eqb}
 use lib.ListN.{getD}
 use Rattle.region.specs.Words.{word, size}
 use Rattle.sweep.specs.Sweep.{saysListedM}
@@ -34,19 +34,9 @@ returns-2 c =
 returns-3 : tie.Need-returns-3
 unfolding saysListedM word
 returns-3 c =
-    let same-before = c .before .before in
+    let same-before = c .before in
     let same-bin = same-before .before .before in
-    (rw (eq-eqb _ _ (same-bin .if1 .left), eq-eqb _ _ (same-before .if2 .left), lt-leb _ _ (c .if3 .taken)), is-word (size-read same-bin))
-
-returns-4 : tie.Need-returns-4
-unfolding saysListedM word
-returns-4 c =
-    let in-order = c .before in
-    let same-before = in-order .before .before in
-    let same-bin = same-before .before .before in
-    let a = start (size-read same-bin) .args in
-    let rises = le-leb (a .sizes .least) (getD (a .region .now) (a .chunk .0 / 4 + size) 0) (omega arith) in
-    (rw (eq-eqb _ _ (same-bin .if1 .left), eq-eqb _ _ (same-before .if2 .left), rises), is-word (size-read same-bin))
+    (rw (eq-eqb _ _ (same-bin .if1 .left), eq-eqb _ _ (same-before .if2 .left)), is-word (size-read same-bin))
 
 pub is-listed-spec : {M : Type 1} → statement M
 is-listed-spec =
@@ -67,5 +57,4 @@ is-listed-spec =
     (λ c. search needs)
     (λ c. search needs)
     returns-2
-    returns-3
-    returns-4)
+    returns-3)

@@ -17,10 +17,16 @@ module _ (read : tie.After-shared-slice-known3) where
   ascends = rw add-one (start .pre .0 .ascends (start .args .bin) (rw add-one at (read .before .if1 .taken)))
 
 returns : tie.Need-returns
-returns c = rw (c .before .before .before .bin-word .ensures, lt-leb _ _ (rw add-one at (c .before .if1 .taken)), add-one)
+returns c = (
+  rw (c .before .before .before .bin-word .ensures, lt-leb _ _ (rw add-one at (c .before .if1 .taken)), add-one),
+  omega (arith, ascends c),
+)
 
 returns-2 : tie.Need-returns-2
-returns-2 c = rw (c .before .before .bin-word .ensures, le-leb _ _ (rw add-one at (c .if1 .left)))
+returns-2 c = (
+  rw (c .before .before .bin-word .ensures, le-leb _ _ (rw add-one at (c .if1 .left))),
+  omega (arith, c .before .shared-slice-known2 .given (c .before .before .before .before .args .bin)),
+)
 
 pub sizes-of-spec : {M : Type 1} → statement M
 sizes-of-spec =

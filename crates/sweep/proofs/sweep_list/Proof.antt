@@ -1,5 +1,5 @@
--- `sweep::sweep_list` combs one list. The invariant: what is done and what is left come to the whole list, and the bin asks for its own sizes,
--- from that of the member before on; the measure: the steps left. Assumes nothing.
+-- `sweep::sweep_list` combs one list. The invariant: what is done and what is left come to the whole list, but for the test that the last size
+-- is not too large; and the bin asks for its own sizes, from that of the member before on. The measure: the steps left. Assumes nothing.
 use native.Mathlib.Omega.{arith}
 use mathlib.Core.Path.{_≡_, refl, ap}
 use Prim.Native.Nat.{_+_, _/_, _<_}
@@ -9,7 +9,7 @@ use Rattle.marks.specs.Marks.{marked}
 use Rattle.region.specs.Words.{word, bin}
 use Rattle.sweep.specs.declared.Sizes.{Sizes}
 use Rattle.sweep.specs.Sweep.{isPlacedM}
-use Rattle.sweep.proofs.SweepLaws.{Tested, not-placed, not-marked, by-words, by-number, header-inside, mark-inside, number-inside, own-mark, Asks, asks-begin, asks-on, Combing, combing-begins, combing-goes, torn-long, torn-here, whole-list}
+use Rattle.sweep.proofs.SweepLaws.{Tested, not-placed, not-marked, by-words, by-number, header-inside, mark-inside, number-inside, own-mark, Asks, asks-begin, asks-on, rises, Combing, combing-begins, combing-goes, torn-long, torn-here, torn-large, whole-list}
 use Rattle.sweep.proofs.sweep_list.Statement.{statement}
 use Rattle.sweep.proofs.sweep_list.Tie as tie
 
@@ -72,10 +72,12 @@ module _ (told : tie.After-is-listed Inv-loop μ-loop) where
       (start here .args .marks .now) (here .before .loop .before) (here .before .loop .sizes .least) (here .before .loop .at) (told .is-listed .result)
   member-tested =
       by-words (place-tested (tested (placed is-known))) (placed is-known .if2 .left) (mark-read (is-known .before))
-      (is-known .if3 .left) (start here .pre .1 .1 .0) (start here .pre .1 .1 .1) (here .before .loop .inv .1) (told .is-listed .ensures)
+      (is-known .if3 .left) (here .before .loop .inv .1) (told .is-listed .ensures .0)
 
 loop-holds : tie.Need-loop-holds Inv-loop μ-loop
-loop-holds c = let is = c .sizes-of .ensures in (combing-begins (ap (λ (z : Sizes). z .least) is), asks-begin is)
+loop-holds c =
+    let (is, bounded) = c .sizes-of .ensures in
+    (combing-begins (ap (λ (z : Sizes). z .least) is) (rw is at bounded), asks-begin is)
 
 returns : tie.Need-returns Inv-loop μ-loop
 returns c = torn-long (c .before .before .loop .inv .0) (c .if1 .taken) (c .before .loop-test .taken)
@@ -126,16 +128,29 @@ unfolding word
 loop-again c =
     let listed = c .before .before in
     let told = listed .before in
-    let turn = here told in (
-      combing-goes (turn .before .loop .inv .0) (turn .loop-test .taken) (omega arith) (member-tested told) (listed .if4 .left) refl refl,
-      asks-on _ _ _ (turn .before .loop .inv .1) (told .is-listed .ensures .0) (listed .if4 .left),
+    let turn = here told in
+    let (combs, asks) = turn .before .loop .inv in
+    let (says, small) = told .is-listed .ensures in
+    let up = rises _ _ _ _ says (listed .if4 .left) in (
+      combing-goes combs (turn .loop-test .taken) (omega arith) (member-tested told) (listed .if4 .left)
+          (start turn .pre .1 .1 .0) (start turn .pre .1 .1 .1) (asks .from) up small refl refl,
+      asks-on asks _ up,
     )
 
-within : tie.Need-sub-t23 Inv-loop μ-loop
-within c = c .before .loop .inv .0 .within
-
 returns-5 : tie.Need-returns-5 Inv-loop μ-loop
-returns-5 c = whole-list (c .before .loop .inv .0) (c .loop-test .left)
+returns-5 c =
+    let read = c .before .before in
+    let (combs, asks) = read .before .loop .inv in
+    torn-large combs (read .loop-test .left) (omega (arith, asks .most))
+
+within : tie.Need-sub-t24 Inv-loop μ-loop
+within c = c .before .before .before .loop .inv .0 .within
+
+returns-6 : tie.Need-returns-6 Inv-loop μ-loop
+returns-6 c =
+    let read = c .before .before in
+    let (combs, asks) = read .before .loop .inv in
+    whole-list combs (read .loop-test .left) (omega (arith, asks .most))
 
 pub sweep-list-spec : {M : Type 1} → statement M
 sweep-list-spec =
@@ -165,5 +180,6 @@ sweep-list-spec =
     (λ c. omega arith)
     (λ c. omega arith)
     loop-again
+    returns-5
     within
-    returns-5)
+    returns-6)
