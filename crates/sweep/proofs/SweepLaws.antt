@@ -126,8 +126,8 @@ module _ {ws : List ℕ} {bytes : ℕ} (lent : Lent ws bytes) (c : ℕ) {t : Boo
     pub own-mark : (ms : List ℕ) {m : Bool} → m ≡ marked ms (8 * k) → m ≡ marked ms c
     own-mark ms em = let (eight, below) = placed in let same : 8 * k ≡ c = omega arith in em ∙ ap (marked ms) same
 
--- where the walk of one list stands, at c behind p of size s, with `left` steps left. Whether a size is too large for the bin is asked of s, the
--- greatest so far, and of none before
+-- where the walk of one list stands, at c behind p of size s, with `left` steps left. Sizes do not go down along a list, so s is the greatest so
+-- far: if it is not too large for the bin, none before it is
 module _ (ws table : List ℕ) (i bytes : ℕ) (ms : List ℕ) (first : ℕ) where
   pub record Combing (c p s left : ℕ) : Type 0 where
     pub combs :

@@ -42,7 +42,7 @@ module _ (ws table : List ℕ) (i bytes : ℕ) where
   standsM ms p s c =
       isPlacedM bytes c && marked ms c && eqb (word ws c bin) (i % 32 * 8) && eqb (word ws c previousInBin) p && leb s (word ws c size)
 
-  -- and the bin takes its size
+  -- it does, and the bin takes its size
   unfoldable pub isListedM : List ℕ → ℕ → ℕ → ℕ → Bool
   isListedM ms p s c = standsM ms p s c && takesBin table i (word ws c size)
 

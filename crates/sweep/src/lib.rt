@@ -24,7 +24,7 @@ use region::SIZE;
 const BELOW_END: u32 = LEAST / ALIGNMENT - 1;
 
 // What a bin asks of the words of a member: its bin word, and a size from `least` to `most`. Along a list `least` is the size of the member
-// before, so that no member is smaller than that one. So `most` is compared with the last size alone: it is the greatest. The rules ask for
+// before, so that no member is smaller than that one. So the last size is the greatest, and it alone is compared with `most`. The rules ask for
 // this order outside the small array only; the members of a small bin have one size, so that they are in order anyway.
 pub struct Sizes {
     pub word: u32,
