@@ -96,6 +96,23 @@ module _ {A : Type 0} where
     before-ascending [] g = tt
     before-ascending (z ∷ zs) g = (λ y m. g z y (inl (refl, m)), before-ascending zs (λ x y b. g x y (inr b)))
 
+    -- one list in order behind another, if no member of the first has more than one of the second
+    pub ascending-joined : (xs ys : List A) → Ascending f xs → Ascending f ys → ((x y : A) → Mem x xs → Mem y ys → f x ≤ f y) → Ascending f (xs ++ ys)
+    ascending-joined [] ys r s g = s
+    ascending-joined (x ∷ xs) ys (first, rest) s g = (
+      λ y m. go y (List·Memᴰ·append-cases xs m),
+      ascending-joined xs ys rest s (λ z y m k. g z y (List·Memᴰ·tail m) k),
+    )
+      where
+        go : (y : A) → Mem y xs ⊎ Mem y ys → f x ≤ f y
+        go y (inl m) = first y m
+        go y (inr k) = g x y (List·Memᴰ·head refl) k
+
+    -- the first member has the least
+    pub head-least : (d : A) (xs : List A) → Ascending f xs → (y : A) → Mem y xs → f (headOr d xs) ≤ f y
+    head-least d (x ∷ xs) (first, rest) y (List·Memᴰ·head q) = rw q (omega arith)
+    head-least d (x ∷ xs) (first, rest) y (List·Memᴰ·tail k) = first y k
+
     -- the first member that has n or more has the least of those that do
     pub first-least : (n : ℕ) (d : A) (xs : List A) → Ascending f xs → (y : A) → Mem y xs → n ≤ f y → f (headOr d (keep (λ x. leb n (f x)) xs)) ≤ f y
     first-least n d (x ∷ xs) (first, rest) y m l = go (leb n (f x)) refl m (λ k. first-least n d xs rest y k l)

@@ -8,10 +8,11 @@ use native.Mathlib.Decide.{ℕ-discrete}
 use native.Mathlib.Omega.{arith}
 use lib.Dec.{eqb}
 use lib.ListN.{length, length-append}
-use Rattle.lists.specs.Lists.{Mem, total, upTo, past, numbersFrom, gathered, Distinct}
+use Rattle.lists.specs.Lists.{Mem, total, upTo, past, numbersFrom, gathered, Ascending, Distinct}
 use Rattle.lists.proofs.ListsLaws.{decided, is-member}
 use Rattle.lists.proofs.MembersLaws.{member-without, distinct-joined}
 use Rattle.lists.proofs.SplitLaws.{split-at-member}
+use Rattle.lists.proofs.AscendingLaws.{ascending-joined}
 
 pub member? : (c : ℕ) (xs : List ℕ) → Dec (Mem c xs)
 member? c xs = decided (is-member c xs)
@@ -45,7 +46,7 @@ distinct-covers xs ys u h l y m = go (member? y xs)
     go (yes k) = k
     go (no n) = let r = distinct-fits (y ∷ xs) ys (n, u) (with-y n) in absurd (omega arith)
 
--- lists appended in order: their length, their members, and when no member occurs twice
+-- lists appended in order: their length, their members, when no member occurs twice, and when all are in order of f
 module _ (lists : ℕ → List ℕ) where
   pub gathered-length : (is : List ℕ) → length (gathered lists is) ≡ total (λ i. length (lists i)) is
   gathered-length [] = refl
@@ -82,3 +83,13 @@ module _ (lists : ℕ → List ℕ) where
         right = gathered-once n (suc b) (λ i lo hi. u i (omega arith) (omega arith)) (λ i j lo l hi. a i j (omega arith) l (omega arith));
         none = λ c m k. let (i, (lo, hi), l) = gathered-from n (suc b) k in a b i (omega arith) (omega arith) (omega arith) c m l;
       })
+
+  pub gathered-ascending : (f : ℕ → ℕ) (n b : ℕ) → ((i : ℕ) → b ≤ i → i < b + n → Ascending f (lists i))
+      → ((i j : ℕ) → b ≤ i → i < j → j < b + n → (x y : ℕ) → Mem x (lists i) → Mem y (lists j) → f x ≤ f y)
+      → Ascending f (gathered lists (numbersFrom b n))
+  gathered-ascending f zero b r a = tt
+  gathered-ascending f (suc n) b r a =
+      ascending-joined f (lists b) (gathered lists (numbersFrom (suc b) n))
+      (r b (omega arith) (omega arith))
+      (gathered-ascending f n (suc b) (λ i lo hi. r i (omega arith) (omega arith)) (λ i j lo l hi. a i j (omega arith) l (omega arith)))
+      (λ x y m k. let (i, (lo, hi), l) = gathered-from n (suc b) k in a b i (omega arith) (omega arith) (omega arith) x y m l)

@@ -8,15 +8,16 @@ use native.Mathlib.Decide.{decLe}
 use native.Mathlib.Omega.{arith}
 use lib.Dec.{leb}
 use borrow.Author.Tests.{eqb-true}
-use Rattle.lists.specs.Lists.{Mem, headOr, keep, upTo, past, Ascending}
+use Rattle.lists.specs.Lists.{Mem, headOr, keep, upTo, past, numbersFrom, gathered, Ascending}
 use Rattle.lists.proofs.AscendingLaws.{before-ascending, before-members, first-least}
+use Rattle.lists.proofs.CountLaws.{gathered-ascending}
 use Rattle.lists.proofs.ListsLaws.{number-is, for-some}
 use Rattle.lists.proofs.SplitLaws.{first-splits, in-split}
 use Rattle.record.specs.declared.heap.Heap.{Heap}
 use Rattle.record.specs.declared.table.Binned.the-variants.{Bin}
 use Rattle.record.specs.Heap.{tableOf}
 use Rattle.record.specs.Table.{ValidTable, binOf, smallBins}
-use Rattle.record.proofs.TableLaws.{bin-takes, one-size}
+use Rattle.record.proofs.TableLaws.{bin-takes, sizes-grow, one-size}
 use Rattle.rules.specs.Shape.{Entry, shape, binList}
 use Rattle.rules.specs.Kinds.{isAt, outside, sizeOn}
 use Rattle.rules.specs.Check.{Passes}
@@ -54,6 +55,20 @@ lists-in-order ws h p i l =
     (λ c m. let (e, k, (q, b)) = p .bins i l .chunks c m in rw (size-on ws h p c e k q) (b .1))
     (λ c m. let (e, k, (q, b)) = p .bins i l .chunks c m in rw (size-on ws h p c e k q) (inside ws h p e k .size)) .0
     (p .bins i l .order)
+
+-- the k bins from i on, one after the other, are one list in order: the chunks of a larger bin are larger
+pub bins-in-order : (ws : List ℕ) (h : Heap) → Passes ws h → (i k : ℕ) → i + k ≤ h .bins
+    → Ascending (sizeOn (shape ws (h .bytes))) (gathered (binList ws h) (numbersFrom i k))
+bins-in-order ws h p i k l =
+    gathered-ascending (binList ws h) (sizeOn (shape ws (h .bytes))) k i
+    (λ j lo hi. lists-in-order ws h p j (omega arith))
+    (λ j o lo less hi c d m n.
+    let (x, on, (at, bin)) = p .bins j (omega arith) .chunks c m in
+    let (y, too, (there, other)) = p .bins o (omega arith) .chunks d n in
+    let grows = sizes-grow (tableOf h) (bin-takes (tableOf h) (bin .1)) (bin-takes (tableOf h) (other .1)) less in
+    let s = size-on ws h p c x on at in
+    let t = size-on ws h p d y too there in
+    omega arith)
 
 -- so the first chunk of a bin that has n bytes, which first fit finds, is the smallest there that does
 pub first-fit-smallest : (ws : List ℕ) (h : Heap) → Passes ws h → (i : ℕ) → i < h .bins → (n d : ℕ) → Mem d (binList ws h i)

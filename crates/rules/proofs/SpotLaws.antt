@@ -5,6 +5,7 @@ use mathlib.Core.Logic.{_⊎_, inl, inr}
 use mathlib.Core.Bool.{Bool, true, false}
 use mathlib.Core.List.{List, [], _∷_, _++_, List·Memᴰ·not-nil}
 use Prim.Native.Nat.{ℕ, _+_, _*_, _-_, _%_, _≤_, _<_}
+use native.Mathlib.Decide.{ℕ-discrete}
 use native.Mathlib.Omega.{arith}
 use lib.ListN.{length, drop}
 use borrow.Author.Tests.{eqb-true, eq-eqb, ne-eqb}
@@ -145,6 +146,18 @@ module _ (ws : List ℕ) (h : Heap) (p : Passes ws h) where
 
   pub chunks-apart : (d e : Entry) → Mem d es → Mem e es → (d .place ≡ e .place → ⊥) → (chunkEnd d ≤ e .place) ⊎ (chunkEnd e ≤ d .place)
   chunks-apart d e m k n = tiled-apart 0 (h .bytes) es tiled m k n
+
+  -- a place lies in one chunk at most
+  pub one-around : (b : ℕ) (d e : Entry) → Mem d es → Mem e es → (d .place ≤ b) × (b < chunkEnd d) → (e .place ≤ b) × (b < chunkEnd e) → d ≡ e
+  one-around b d e m k (low, high) (lower, upper) = go (ℕ-discrete (d .place) (e .place))
+    where
+      never : (chunkEnd d ≤ e .place) ⊎ (chunkEnd e ≤ d .place) → ⊥
+      never (inl l) = omega arith
+      never (inr l) = omega arith
+
+      go : Dec (d .place ≡ e .place) → d ≡ e
+      go (yes q) = one-chunk d e m k q
+      go (no n) = absurd (never (chunks-apart d e m k n))
 
   pub tiled-at : (low : List Entry) (e : Entry) (high : List Entry) → es ≡ low ++ e ∷ high → TiledAt (h .bytes) low e high
   tiled-at low e high split =
