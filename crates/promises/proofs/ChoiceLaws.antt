@@ -1,24 +1,20 @@
 -- The rules keep the promise `Choice` (`choice`): a block is granted from a chunk of the lowest rank that can serve; for any way, what that says
--- of the donor follows (`donor-last`, `donor-before-larger`). It holds in each state of every run (`choice-through`). Assumes nothing.
+-- of the donor follows (`donor-last`, `donor-before-larger`). Assumes nothing.
 use mathlib.Core.Path.{_≡_, refl, sym, ap, subst, _∙_}
 use mathlib.Core.Logic.{_⊎_, inl, inr}
 use mathlib.Core.Bool.{Bool, true, false, not, cond, _&&_, false≢true}
 use mathlib.Core.List.{List}
-use Prim.Native.Nat.{ℕ, suc, _+_, _*_, _-_, _≤_}
-use native.Mathlib.Decide.{ℕ-discrete}
+use Prim.Native.Nat.{ℕ, suc, _+_, _-_, _≤_}
 use native.Mathlib.Omega.{arith}
 use lib.Dec.{eqb, leb}
 use lib.ListN.{length-take}
-use lib.IntN.{ℤ}
 use borrow.Author.Tests.{eq-eqb}
 use Rattle.books.proofs.HeapBooks.{member-entry}
-use Rattle.drafts.proofs.FillLaws.{Within}
-use Rattle.drafts.proofs.GrantKept.{sourceChunk, can, theGrant}
+use Rattle.drafts.proofs.GrantKept.{sourceChunk, can}
 use Rattle.drafts.proofs.SourceLaws.{CanGrant, Fails, Good, Grantable, in-order-good, from-bin-good, if-good}
 use Rattle.lists.specs.Lists.{Mem, keep, numbersFrom, gathered}
 use Rattle.lists.proofs.ListsLaws.{number-is, itself, not-so}
 use Rattle.lists.proofs.MembersLaws.{kept-from}
-use Rattle.record.specs.declared.answers.Answer.the-variants.{Granted}
 use Rattle.record.specs.declared.heap.Heap.{Heap}
 use Rattle.record.specs.declared.kinds.Kind.{Kind}
 use Rattle.record.specs.declared.kinds.Kind.the-variants.{Start, InUse, Ordinary, Donor, Top, End}
@@ -29,26 +25,18 @@ use Rattle.record.specs.declared.table.Binned.the-variants.{Bin, NoBin}
 use Rattle.record.specs.Heap.{tableOf}
 use Rattle.record.specs.Table.{small, binOf}
 use Rattle.record.proofs.TableLaws.{bin-from}
-use Rattle.region.specs.declared.Block.{Block}
-use Rattle.region.specs.Words.{Store}
-use Rattle.rules.specs.Shape.{Entry, shape, binList, chunkEnd}
-use Rattle.rules.specs.Kinds.{kindOf, overhead, blockOf, sizeOn}
+use Rattle.rules.specs.Shape.{Entry, shape, binList}
+use Rattle.rules.specs.Kinds.{kindOf, sizeOn}
 use Rattle.rules.specs.Check.{Passes}
 use Rattle.rules.specs.Draft.{asRead}
-use Rattle.rules.specs.Serve.{need, ownBin, largerBin, chosen}
-use Rattle.rules.specs.Allocate.{sourceOf, asFound, cleared, allocateWith, allocate, allocateCleared}
-use Rattle.rules.specs.Reallocate.{reallocate}
-use Rattle.rules.specs.Calls.{step}
-use Rattle.rules.proofs.SpotLaws.{chunks-apart, one-chunk}
+use Rattle.rules.specs.Serve.{ownBin, largerBin, chosen}
+use Rattle.rules.specs.Allocate.{sourceOf}
+use Rattle.rules.proofs.SpotLaws.{one-chunk, one-around}
 use Rattle.promises.specs.Ways.{ours}
 use Rattle.promises.specs.Room.{OnChain}
-use Rattle.promises.specs.Runs.{ThroughRuns}
-use Rattle.promises.specs.Choice.{LiesIn, sameBin, inOwnBin, rankAs, rank, LowestRank, DonorLast, DonorBeforeLarger, InTurn, ChoiceAt, Choice}
+use Rattle.promises.specs.Choice.{LiesIn, sameBin, inOwnBin, rankAs, rank, LowestRank, DonorLast, DonorBeforeLarger, InTurn, Choice}
 use Rattle.promises.proofs.ServeLaws as serve
-use Rattle.promises.proofs.GrantedLaws.{cut-from, cleared-within}
-use Rattle.promises.proofs.ApartLaws.{grantable, block-is, moving, moved-block}
-use Rattle.promises.proofs.KeptLaws.{kept}
-use Rattle.promises.proofs.RunsLaws.{through}
+use Rattle.promises.proofs.GrantsLaws.{grantedBlock, lies-in-source, each-grant}
 
 -- one bin for both sizes
 same-bin : (a b : Binned) → sameBin a b ≡ true → a ≡ b
@@ -183,44 +171,18 @@ module _ (ws : List ℕ) (h : Heap) (n b : ℕ) (lowest : LowestRank ws h n b) w
 
 -- n bytes are granted
 module _ {ws : List ℕ} {h : Heap} {n : ℕ} (room : Grantable ws h n) where
-  abbrev block : ℕ
-  block = blockOf (theGrant room .granted)
-
   -- no chunk but the source has the block
-  lies-in-source : (from : Entry) → OnChain ws h from → LiesIn block from → from ≡ sourceChunk room
-  lies-in-source from m lies = go (ℕ-discrete (from .place) (sourceChunk room .place))
-    where
-      apart : (chunkEnd from ≤ sourceChunk room .place) ⊎ (chunkEnd (sourceChunk room) ≤ from .place) → ⊥
-      apart (inl l) = let c = cut-from room in omega (arith, c .starts)
-      apart (inr l) = let c = cut-from room in omega (arith, c .ends, c .enough, room .large)
+  source-alone : (from : Entry) → OnChain ws h from → LiesIn (grantedBlock room) from → from ≡ sourceChunk room
+  source-alone from m (low, high) =
+      let (lower, upper) = lies-in-source room in
+      one-around ws h (room .well) (grantedBlock room) from (sourceChunk room) m (can room .member) (omega arith, high) (omega arith, upper)
 
-      go : Dec (from .place ≡ sourceChunk room .place) → from ≡ sourceChunk room
-      go (yes q) = one-chunk ws h (room .well) from (sourceChunk room) m (can room .member) q
-      go (no d) = absurd (apart (chunks-apart ws h (room .well) from (sourceChunk room) m (can room .member) d))
-
-  granted-lowest : LowestRank ws h n block
+  granted-lowest : LowestRank ws h n (grantedBlock room)
   granted-lowest from m lies =
-      rw (lies-in-source from m lies) (chosen-lowest ws h (room .well) n (room .large) (room .some) (sourceChunk room) (can room))
+      rw (source-alone from m lies) (chosen-lowest ws h (room .well) n (room .large) (room .some) (sourceChunk room) (can room))
 
-  granted-in-turn : InTurn ws h n block
-  granted-in-turn = in-turn ws h n block granted-lowest
-
--- a new block; `fill` is written into it
-module _ {ws : List ℕ} {h : Heap} (p : Passes ws h) {block : Block} {change : ℤ} (fill : Entry → List Store) (within : (e : Entry) → Within e (fill e)) where
-  new-in-turn : (z : ℕ) → allocateWith fill ws h z .answer ≡ Granted block change → InTurn ws h (need overhead z) (block .0)
-  new-in-turn z q = subst (InTurn ws h (need overhead z)) (block-is p fill within z q) (granted-in-turn (grantable p fill within z q))
+  granted-in-turn : InTurn ws h n (grantedBlock room)
+  granted-in-turn = in-turn ws h n (grantedBlock room) granted-lowest
 
 pub choice : Choice ours
-unfolding ours step allocate allocateCleared reallocate
-choice ws h p =
-    record {
-      allocate = λ z block change q. new-in-turn p asFound (λ e. tt) z q;
-      cleared = λ count size block change q. new-in-turn p cleared cleared-within (count * size) q;
-      noBlock = λ z block change q. new-in-turn p asFound (λ e. tt) z q;
-      moved = λ b z block change e k less q.
-          subst (InTurn ws h (need overhead z)) (moved-block p k z q less) (granted-in-turn (moving p k z q less .room));
-    }
-
--- it holds in each state of every run
-pub choice-through : ThroughRuns ours (λ s. ChoiceAt ours (s .words) (s .heap))
-choice-through = through ours kept _ (λ s p. choice (s .words) (s .heap) p)
+choice = each-grant InTurn (λ ws h n room. granted-in-turn room)

@@ -18,9 +18,11 @@ pub mod FreshLaws
 pub mod KeptLaws
 pub mod ApartLaws
 pub mod NeverNineLaws
-pub mod RunsLaws
+pub mod GrantsLaws
 pub mod ChoiceLaws
+pub mod BestFitLaws
 pub mod OrderLaws
+pub mod RunsLaws
 pub mod PatrolLaws
 pub mod FullPatrolLaws
 pub mod RoundsLaws
@@ -34,4 +36,5 @@ pub mod WrongPatrolLaws
 pub mod WrongToldLaws
 pub mod WrongChoiceLaws
 pub mod WrongOrderLaws
+pub mod WrongBestFitLaws
 pub mod SignLaws

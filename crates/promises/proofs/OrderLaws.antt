@@ -1,6 +1,5 @@
--- The bins' lists are in order in every heap that passes, and what a call puts stands behind its equals (`order`): so in each state of every run
--- (`order-through`). A chunk is late if it was not on the chain before the call; late chunks stand behind the others of equal size (`QueueLaws` of
--- `drafts`). Assumes nothing.
+-- The bins' lists are in order in every heap that passes, and what a call puts stands behind its equals (`order`). A chunk is late if it was not
+-- on the chain before the call; late chunks stand behind the others of equal size (`QueueLaws` of `drafts`). Assumes nothing.
 use mathlib.Core.Path.{_≡_, refl, sym, ap, subst, _∙_}
 use mathlib.Core.Logic.{_≢_, _⊎_, inl, inr}
 use mathlib.Core.Bool.{Bool, true, false, not, cond, _&&_, false≢true}
@@ -52,11 +51,9 @@ use Rattle.promises.specs.Ways.{Way, ours}
 use Rattle.promises.specs.Kept.{Passing, after}
 use Rattle.promises.specs.Order.{listOf, InOrder, On, Behind, Order, OrderAt}
 use Rattle.promises.specs.Refusing.{asksCheck, Because, setupLength, setupTable, setupDonor, fails, patrolNone, orderOf, Refusing}
-use Rattle.promises.specs.Runs.{ThroughRuns}
 use Rattle.promises.proofs.ResizedLaws.{resized-so}
 use Rattle.promises.proofs.GrantedLaws.{cleared-within}
 use Rattle.promises.proofs.KeptLaws.{stateLeft, same-record, kept}
-use Rattle.promises.proofs.RunsLaws.{through}
 
 pub in-order : (s : State) → Passing s → InOrder s
 in-order s p i l = lists-in-order (s .words) (s .heap) p i l
@@ -358,10 +355,6 @@ order s p =
       left = λ call. in-order (after ours call s) (kept .calls call s p);
       behind = step-behind (s .words) (s .heap) p;
     }
-
--- it holds in each state of every run
-pub order-through : ThroughRuns ours (OrderAt ours)
-order-through = through ours kept _ order
 
 -- A heap with a list that is not in order, as older firmware left them, is refused 4 by every call that asks the check: by every way that gives
 -- refusals for their reasons

@@ -4,14 +4,20 @@ use mathlib.Core.List.{List, [], _∷_}
 use Rattle.rules.specs.Calls.{State}
 use Rattle.promises.specs.Ways.{Way, ours}
 use Rattle.promises.specs.Room.{Room}
+use Rattle.promises.specs.Choice.{Choice}
+use Rattle.promises.specs.BestFit.{BestFit}
 use Rattle.promises.specs.Apart.{Apart}
 use Rattle.promises.specs.Refusing.{Refusing}
 use Rattle.promises.specs.Kept.{Passing, Kept}
+use Rattle.promises.specs.Order.{Order}
 use Rattle.promises.specs.Runs.{Step, Calls, Writes, afterStep, MayStep, IsRun, Along, Begins, ThroughRuns, Runs}
 use Rattle.promises.proofs.KeptLaws.{kept}
 use Rattle.promises.proofs.RefusingLaws.{refusing}
 use Rattle.promises.proofs.RoomLaws.{room}
 use Rattle.promises.proofs.ApartLaws.{apart}
+use Rattle.promises.proofs.ChoiceLaws.{choice}
+use Rattle.promises.proofs.BestFitLaws.{best-fit}
+use Rattle.promises.proofs.OrderLaws.{order}
 
 module _ (way : Way) (keeps : Kept way) where
   step-keeps : (x : Step) (s : State) → MayStep x s → Passing s → Passing (afterStep way x s)
@@ -32,14 +38,17 @@ module _ (way : Way) (keeps : Kept way) where
     through s b xs r = along xs s r (begins-passing s b)
 
 -- the promises about single calls hold in each state
-pub keeping-running : (way : Way) → Kept way → Refusing way → Room way → Apart way → Runs way
-keeping-running way keeps refuses room apart =
+pub keeping-running : (way : Way) → Kept way → Refusing way → Room way → Apart way → Choice way → BestFit way → Order way → Runs way
+keeping-running way keeps refuses room apart choice fit order =
     record {
       passes = through way keeps _ (λ s p. p);
       refused = through way keeps _ (λ s p call r. refuses .exactly call (s .words) (s .heap) r);
       room = through way keeps _ (λ s p. room (s .words) (s .heap) p);
       apart = through way keeps _ (λ s p. apart (s .words) (s .heap) p);
+      choice = through way keeps _ (λ s p. choice (s .words) (s .heap) p);
+      bestFit = through way keeps _ (λ s p. fit (s .words) (s .heap) p);
+      order = through way keeps _ order;
     }
 
 pub runs : Runs ours
-runs = keeping-running ours kept refusing room apart
+runs = keeping-running ours kept refusing room apart choice best-fit order

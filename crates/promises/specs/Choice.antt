@@ -4,10 +4,8 @@ use mathlib.Core.Path.{_≡_}
 use mathlib.Core.Logic.{_⊎_}
 use mathlib.Core.Bool.{Bool, true, false, cond}
 use mathlib.Core.List.{List}
-use Prim.Native.Nat.{ℕ, _*_, _≤_, _<_}
+use Prim.Native.Nat.{ℕ, _≤_, _<_}
 use lib.Dec.{eqb}
-use lib.IntN.{ℤ}
-use Rattle.record.specs.declared.answers.Answer.the-variants.{Granted}
 use Rattle.record.specs.declared.heap.Heap.{Heap}
 use Rattle.record.specs.declared.kinds.Kind.{Kind}
 use Rattle.record.specs.declared.kinds.Kind.the-variants.{Start, InUse, Ordinary, Donor, Top, End}
@@ -15,14 +13,13 @@ use Rattle.record.specs.declared.table.Binned.{Binned}
 use Rattle.record.specs.declared.table.Binned.the-variants.{Bin, NoBin}
 use Rattle.record.specs.Heap.{tableOf}
 use Rattle.record.specs.Table.{small, binOf}
-use Rattle.region.specs.declared.Block.{Block}
 use Rattle.rules.specs.Shape.{Entry, chunkEnd}
-use Rattle.rules.specs.Kinds.{kindOf, overhead}
+use Rattle.rules.specs.Kinds.{kindOf}
 use Rattle.rules.specs.Check.{Passes}
-use Rattle.rules.specs.Serve.{need, serves}
-use Rattle.rules.specs.Calls.{Allocate, AllocateCleared, Reallocate}
+use Rattle.rules.specs.Serve.{serves}
 use Rattle.promises.specs.Ways.{Way}
-use Rattle.promises.specs.Room.{OnChain, HoldsBlock}
+use Rattle.promises.specs.Room.{OnChain}
+use Rattle.promises.specs.Grants.{EachGrant}
 
 -- the block at b lies in the chunk e
 abbrev pub LiesIn : ℕ → Entry → Type 0
@@ -52,7 +49,7 @@ abbrev pub rank : Heap → ℕ → Entry → ℕ
 rank h n e = rankAs (inOwnBin h n e) (small (tableOf h) n) (kindOf h e)
 
 -- the chunk e can serve n
-abbrev can : Heap → ℕ → Entry → Bool
+abbrev pub can : Heap → ℕ → Entry → Bool
 can h n e = serves (tableOf h) (h .donor .0) (h .top .0) n e
 
 -- of a block at b that was granted for n: no chunk that can serve has a lower rank than the chunk `from` in which it lies
@@ -82,17 +79,8 @@ pub record InTurn (ws : List ℕ) (h : Heap) (n b : ℕ) : Type 0 where
   pub donorBeforeLarger : DonorBeforeLarger ws h n b
 
 -- the promise on one heap, for each call that grants a new block
-pub record ChoiceAt (way : Way) (ws : List ℕ) (h : Heap) : Type 0 where
-  pub allocate : (z : ℕ) (block : Block) (change : ℤ)
-      → way (Allocate z) ws h .answer ≡ Granted block change → InTurn ws h (need overhead z) (block .0)
-  pub cleared : (count size : ℕ) (block : Block) (change : ℤ)
-      → way (AllocateCleared count size) ws h .answer ≡ Granted block change → InTurn ws h (need overhead (count * size)) (block .0)
-  pub noBlock : (z : ℕ) (block : Block) (change : ℤ)
-      → way (Reallocate 0 z) ws h .answer ≡ Granted block change → InTurn ws h (need overhead z) (block .0)
-  -- a block that outgrows its chunk moves to another chunk, chosen while the old one is in use
-  pub moved : (b z : ℕ) (block : Block) (change : ℤ)
-      → (e : Entry) → HoldsBlock ws h b e → e .size < need overhead z
-      → way (Reallocate b z) ws h .answer ≡ Granted block change → InTurn ws h (need overhead z) (block .0)
+abbrev pub ChoiceAt : Way → List ℕ → Heap → Type 0
+ChoiceAt = EachGrant InTurn
 
 -- the promise, on every heap that passes
 abbrev pub Choice : Way → Type 0

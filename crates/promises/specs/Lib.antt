@@ -1,6 +1,8 @@
 pub mod Ways
 pub mod Room
+pub mod Grants
 pub mod Choice
+pub mod BestFit
 pub mod Counting
 pub mod Telling
 pub mod Zero
@@ -10,8 +12,8 @@ pub mod NeverNine
 pub mod Odd
 pub mod Kept
 pub mod Apart
-pub mod Runs
 pub mod Order
+pub mod Runs
 pub mod Rounds
 pub mod FullPatrol
 pub mod Mended

@@ -11,9 +11,12 @@ use Rattle.region.specs.Words.{Store}
 use Rattle.rules.specs.Calls.{Call, Setup, State}
 use Rattle.promises.specs.Ways.{Way}
 use Rattle.promises.specs.Room.{RoomAt}
+use Rattle.promises.specs.Choice.{ChoiceAt}
+use Rattle.promises.specs.BestFit.{BestFitAt}
 use Rattle.promises.specs.Apart.{ApartAt}
 use Rattle.promises.specs.Refusing.{First}
 use Rattle.promises.specs.Kept.{Passing, Accepted, after, OnLiveBlocks, afterStores}
+use Rattle.promises.specs.Order.{OrderAt}
 
 -- a step of a run: a call, or writes by the owners of blocks between two calls
 pub data Step : Type 0 where
@@ -65,3 +68,9 @@ pub record Runs (way : Way) : Type 0 where
   pub room : ThroughRuns way (λ s. RoomAt way (s .words) (s .heap))
   -- live blocks stay apart and keep their words (`Apart`)
   pub apart : ThroughRuns way (λ s. ApartAt way (s .words) (s .heap))
+  -- a block comes from the chunk that is first in turn (`Choice`)
+  pub choice : ThroughRuns way (λ s. ChoiceAt way (s .words) (s .heap))
+  -- a block from a bin comes from a smallest ordinary chunk that can serve (`BestFit`)
+  pub bestFit : ThroughRuns way (λ s. BestFitAt way (s .words) (s .heap))
+  -- the lists of the bins are in order of size (`Order`)
+  pub order : ThroughRuns way (OrderAt way)

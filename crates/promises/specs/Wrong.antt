@@ -1,18 +1,19 @@
--- Wrong programs (document 01, "How far each statement reaches"; document 02, requests One, Two, Four and Five): seventeen ways of answering that
+-- Wrong programs (document 01, "How far each statement reaches"; document 02, requests One, Two, Four, Five and Six): twenty ways of answering that
 -- the promises must rule out. Each answers one call, or the questions, wrongly and the other calls by the rules.
 use mathlib.Core.Bool.{Bool, true, false, not, cond}
 use mathlib.Core.List.{List, [], _∷_}
 use mathlib.Core.Option.{Option, some, none}
-use Prim.Native.Nat.{ℕ, _-_}
+use Prim.Native.Nat.{ℕ, suc, _-_}
 use lib.Dec.{eqb, leb, ltb}
 use lib.IntN.{pos}
 use Rattle.record.specs.declared.answers.Answer.{Answer}
 use Rattle.record.specs.declared.answers.Answer.the-variants.{Done, Granted, Returned, Told, ToldNone, Counted, Refused}
 use Rattle.record.specs.declared.answers.Refusal.the-variants.{BlockSize, NoRoom}
-use Rattle.lists.specs.Lists.{upTo, onFrom}
+use Rattle.lists.specs.Lists.{lastOr, keep, upTo, onFrom, numbersFrom, gathered}
 use Rattle.record.specs.declared.heap.Heap.{Heap}
 use Rattle.record.specs.declared.kinds.Kind.{Kind}
 use Rattle.record.specs.declared.sources.Source.{Source}
+use Rattle.record.specs.declared.sources.Source.the-variants.{Nowhere}
 use Rattle.record.specs.declared.table.Binned.{Binned}
 use Rattle.record.specs.declared.table.Binned.the-variants.{Bin, NoBin}
 use Rattle.record.specs.Heap.{tableOf}
@@ -23,7 +24,7 @@ use Rattle.rules.specs.Shape.{Entry, shape}
 use Rattle.rules.specs.Kinds.{overhead, ordinaryKind, sizeOn}
 use Rattle.rules.specs.Check.{countsOf}
 use Rattle.rules.specs.Draft.{Draft, asRead, nowUses, putBetween, putInto, relink, settle}
-use Rattle.rules.specs.Serve.{need, permitted, ownBin, largerBin, tryDonor, tryTop, inOrder, firstOf, nowhere}
+use Rattle.rules.specs.Serve.{need, permitted, fromBin, ownBin, largerBin, tryDonor, tryTop, inOrder, firstOf, nowhere}
 use Rattle.rules.specs.Cut.{grantFrom}
 use Rattle.rules.specs.Join.{joining, leaveBins, swallowing}
 use Rattle.rules.specs.Free.{blockSpot, freeRefusals, freed}
@@ -191,29 +192,40 @@ noneForZero = butTold noneIfZero
 abbrev pub alwaysZero : Way
 alwaysZero = butTold (λ v. Told 0)
 
--- allocate with the tries in another order, or with fewer of them: `order` is told whether the need is small, and what the own bin, the larger
+-- Allocate with the tries in another order, or with fewer of them: `order` is told whether the need is small, and what the own bin, the larger
 -- bins, the donor and the top have. It is refused for lack of room where these tries find nothing
 abbrev pub Ordering : Type 0
 Ordering = Bool → Source → Source → Source → Source → List Source
 
-abbrev tried : Ordering → ℕ → Draft → Source
-tried order n d =
-    let h = d .heap in
-    let own = binOf (tableOf h) n in
-    firstOf
-    (order (small (tableOf h) n) (ownBin (d .chain) (d .lists) n own) (largerBin h (d .lists) own) (tryDonor h (d .chain) n)
-    (tryTop h (d .chain) n))
+-- what bins have for n, whose own bin is given
+abbrev pub OfBins : Type 0
+OfBins = ℕ → Draft → Binned → Source
 
-abbrev pub butOrder : Ordering → Way
-butOrder order =
+abbrev firstOfOwn : OfBins
+firstOfOwn n d own = ownBin (d .chain) (d .lists) n own
+
+abbrev firstOfLarger : OfBins
+firstOfLarger n d own = largerBin (d .heap) (d .lists) own
+
+abbrev tried : OfBins → OfBins → Ordering → ℕ → Draft → Source
+tried own larger order n d =
+    let h = d .heap in
+    let bin = binOf (tableOf h) n in
+    firstOf (order (small (tableOf h) n) (own n d bin) (larger n d bin) (tryDonor h (d .chain) n) (tryTop h (d .chain) n))
+
+abbrev pub butTries : OfBins → OfBins → Ordering → Way
+butTries own larger order =
     butAllocate
     (λ z ws h.
     let before = asRead ws h in
     let n = need overhead z in
-    let source = tried order n before in
+    let source = tried own larger order n before in
     let g = grantFrom source n before in
     leftBy ws
     (judged h (heapFails ws h ∷ (not (permitted z), BlockSize) ∷ (nowhere source, NoRoom) ∷ []) (made (grants 0 (g .granted)) (g .draft))))
+
+abbrev pub butOrder : Ordering → Way
+butOrder = butTries firstOfOwn firstOfLarger
 
 -- 13: for a need that is not small the donor is tried before the top
 abbrev pub donorBeforeTop : Way
@@ -265,3 +277,23 @@ beforeEquals = butPut (λ es e c. leb (e .size) (sizeOn es c))
 -- 17: a chunk is put at the tail, as document 01 had it
 abbrev pub atTheTail : Way
 atTheTail = butPut (λ es e c. false)
+
+-- 18: of the own bin the last chunk that fits is taken
+abbrev pub lastOfOwn : OfBins
+lastOfOwn n d (Bin i) = fromBin (lastOr 0 (keep (λ c. leb n (sizeOn (d .chain) c)) (d .lists i)))
+lastOfOwn n d NoBin = Nowhere
+
+abbrev pub lastThatFits : Way
+lastThatFits = butTries lastOfOwn firstOfLarger inOrder
+
+-- 19: the larger bins are tried before the own bin
+abbrev pub largerBeforeOwn : Way
+largerBeforeOwn = butOrder (λ little own larger donor top. larger ∷ inOrder little own larger donor top)
+
+-- 20: of the larger bins the last chunk is taken, which is the largest of all
+abbrev pub lastOfLarger : OfBins
+lastOfLarger n d (Bin i) = fromBin (lastOr 0 (gathered (d .lists) (numbersFrom (suc i) (d .heap .bins - suc i))))
+lastOfLarger n d NoBin = Nowhere
+
+abbrev pub largestOfLarger : Way
+largestOfLarger = butTries firstOfOwn lastOfLarger inOrder

@@ -1,0 +1,84 @@
+-- Each of the three wrong programs of request Six breaks the promise `BestFit`, shown on heaps of the demonstration's setup with merging off: bins
+-- of 24, 32, 40 and 128, so that bin 2 is outside the small array. Assumes nothing.
+use mathlib.Core.Path.{_≡_, refl, ap}
+use mathlib.Core.Bool.{true, false, not, _&&_, _||_}
+use mathlib.Core.List.{List, [], _∷_, _++_}
+use Prim.Native.Nat.{ℕ}
+use native.Mathlib.Omega.{arith}
+use lib.Dec.{leb, ltb}
+use lib.IntN.{pos}
+use Rattle.lists.specs.Lists.{every, any}
+use Rattle.lists.proofs.ListsLaws.{Decides, at-most, less, both, if-then, itself, for-each, for-some}
+use Rattle.record.specs.declared.answers.Answer.the-variants.{Granted}
+use Rattle.record.specs.declared.heap.Heap.{Heap}
+use Rattle.record.specs.declared.kinds.Kind.the-variants.{Ordinary}
+use Rattle.rules.specs.Shape.{Entry, shape, chunkEnd}
+use Rattle.rules.specs.Kinds.{ordinaryKind, kindOf, overhead, ordinary}
+use Rattle.rules.specs.Check.{passes}
+use Rattle.rules.specs.Serve.{need, serves}
+use Rattle.rules.specs.Calls.{Call, Allocate, Free, SetMerge, State}
+use Rattle.rules.proofs.CasesLaws.{computes}
+use Rattle.rules.proofs.KindsLaws.{ordinary-kind}
+use Rattle.promises.specs.Ways.{Way}
+use Rattle.promises.specs.Choice.{can}
+use Rattle.promises.specs.BestFit.{BestFit}
+use Rattle.promises.specs.Wrong.{lastThatFits, largerBeforeOwn, largestOfLarger}
+use Rattle.promises.proofs.WrongLaws.{heapAfter, passing}
+
+-- The chunk of the block at b is ordinary and has more than `smaller` bytes, although an ordinary chunk that can serve has no more: shown by tests
+-- of all chunks
+record TooLarge (way : Way) (s : State) (z b size smaller : ℕ) : Type 0 where
+  passes : passes (s .words) (s .heap) ≡ true
+  answer : way (Allocate z) (s .words) (s .heap) .answer ≡ Granted (record { 0 = b }) (pos size)
+  lies : every (λ e. not (ltb (e .place) b && ltb b (chunkEnd e)) || (ordinary (s .heap) e && ltb smaller (e .size))) (shape (s .words) (s .heap .bytes)) ≡ true
+  serves : any (λ e. ordinary (s .heap) e && can (s .heap) (need overhead z) e && leb (e .size) smaller) (shape (s .words) (s .heap .bytes)) ≡ true
+
+is-ordinary : (h : Heap) (e : Entry) → Decides (ordinary h e) (kindOf h e ≡ Ordinary)
+is-ordinary h e = (ordinary-kind (kindOf h e), ap ordinaryKind)
+
+-- no way that keeps `BestFit` does that
+kept-fit : (way : Way) → BestFit way → (s : State) (z b size smaller : ℕ) → TooLarge way s z b size smaller → ⊥
+kept-fit way promised s z b size smaller t =
+    let chain = shape (s .words) (s .heap .bytes) in
+    let fit = promised (s .words) (s .heap) (passing s (t .passes)) .allocate z (record { 0 = b }) (pos size) (t .answer) in
+    let (from-bin, larger) =
+    for-each (λ e. if-then (both (less (e .place) b) (less b (chunkEnd e))) (both (is-ordinary (s .heap) e) (less smaller (e .size)))) chain .0
+    (t .lies) (fit .from) (fit .member) (fit .lies) in
+    let (e, on-chain, ((ordinary, serves), small)) =
+    for-some (λ e. both (both (is-ordinary (s .heap) e) (itself (can (s .heap) (need overhead z) e))) (at-most (e .size) smaller)) chain .0 (t .serves) in
+    let l = fit .best from-bin .least e (record { member = on-chain; ordinary = ordinary; serves = serves }) in
+    omega arith
+
+-- 24 bytes are granted from the donor, at 8, which keeps 40; 48 and 40 from the top, at 72 and at 120. The last two are freed: both are in bin 2
+abbrev calls : List Call
+calls = Allocate 16 ∷ Allocate 40 ∷ Allocate 32 ∷ SetMerge false ∷ Free 80 ∷ Free 128 ∷ []
+
+abbrev two : State
+two = heapAfter calls
+
+-- 18: for 40 bytes the chunk of 48 is taken
+last-in-bin : TooLarge lastThatFits two 32 80 48 40
+unfolding computes serves
+last-in-bin = record { passes = refl; answer = refl; lies = refl; serves = refl }
+
+pub best-fit-refutes-last : BestFit lastThatFits → ⊥
+best-fit-refutes-last promised = kept-fit lastThatFits promised two 32 80 48 40 last-in-bin
+
+-- 19: the 24 bytes at 8 are freed too: a chunk in bin 0. For 24 bytes the chunk of 40 is taken, whole
+abbrev three : State
+three = heapAfter (calls ++ (Free 16 ∷ []))
+
+own-passed-over : TooLarge largerBeforeOwn three 16 128 40 24
+unfolding computes serves
+own-passed-over = record { passes = refl; answer = refl; lies = refl; serves = refl }
+
+pub best-fit-refutes-larger-before-own : BestFit largerBeforeOwn → ⊥
+best-fit-refutes-larger-before-own promised = kept-fit largerBeforeOwn promised three 16 128 40 24 own-passed-over
+
+-- 20: neither bin 0 nor the donor can serve 24 bytes; of bin 2 the chunk of 48 is taken
+largest-taken : TooLarge largestOfLarger two 16 80 24 40
+unfolding computes serves
+largest-taken = record { passes = refl; answer = refl; lies = refl; serves = refl }
+
+pub best-fit-refutes-largest : BestFit largestOfLarger → ⊥
+best-fit-refutes-largest promised = kept-fit largestOfLarger promised two 16 80 24 40 largest-taken
