@@ -20,7 +20,7 @@ use Rattle.rules.specs.Merge.{setMerge, checked, check}
 use Rattle.rules.specs.Ask.{askChunk, askBin}
 use Rattle.rules.specs.Patrol.{skips, broken, nextOf, mends, patrolRun, patrol}
 use Rattle.rules.specs.Calls.{step, next}
-use Rattle.rules.specs.Cases.{cases, donorCases, orderCases, caseHolds}
+use Rattle.rules.specs.Cases.{cases, donorCases, orderCases, fitCases, caseHolds}
 
 -- `unfolding computes` opens every definition by which a call's outcome is computed
 unfoldable pub computes : ℕ
@@ -38,3 +38,7 @@ donor-cases = refl
 pub order-cases : every caseHolds orderCases ≡ true
 unfolding computes caseHolds
 order-cases = refl
+
+pub fit-cases : every caseHolds fitCases ≡ true
+unfolding computes caseHolds
+fit-cases = refl

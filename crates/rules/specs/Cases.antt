@@ -1,5 +1,6 @@
 -- The fourteen proved cases (document 01, "The demonstration" and "Both sides") as one table:
--- the region, the calls before, the call, and every fact that the document states of it. Then cases of our own for the donor and for the order in bins.
+-- the region, the calls before, the call, and every fact that the document states of it. Then cases of our own for the donor, for the order in bins and for
+-- the fit.
 use mathlib.Core.Bool.{Bool, true, false, cond, _&&_}
 use mathlib.Core.List.{List, [], _∷_}
 use Prim.Native.Nat.{ℕ, _-_}
@@ -119,6 +120,18 @@ orderCases =
     ∷ given 128 (opening ∷ Allocate 96 ∷ Allocate 96 ∷ SetMerge false ∷ Free 184 ∷ []) (Reallocate 80 48)
     (Chunk 128 48 Ordinary ∷ Bin 2 (128 ∷ 176 ∷ []) ∷ Sound ∷ [])
     ∷ given 64 (opening ∷ Allocate 24 ∷ Allocate 24 ∷ SetMerge false ∷ Free 16 ∷ []) (Free 80) (Bin 1 (72 ∷ 8 ∷ []) ∷ Sound ∷ [])
+    ∷ []
+
+-- The fit (document 02, request Six), with merging off and chunks of 48 and 40 bytes, at 72 and 120, in bin 2. For 40 bytes the one of 40 is taken; so
+-- it is, whole, for 24 bytes that neither bin 0 nor the donor can serve. A chunk of 24 bytes in bin 0 is taken before one of bin 2
+abbrev pub fitCases : List Case
+fitCases =
+    given 64 (opening ∷ Allocate 40 ∷ Allocate 32 ∷ SetMerge false ∷ Free 80 ∷ Free 128 ∷ []) (Allocate 32)
+    (Gives 128 (pos 40) ∷ Bin 2 (72 ∷ []) ∷ Sound ∷ [])
+    ∷ given 64 (opening ∷ Allocate 16 ∷ Allocate 40 ∷ Allocate 32 ∷ SetMerge false ∷ Free 80 ∷ Free 128 ∷ []) (Allocate 16)
+    (Gives 128 (pos 40) ∷ Chunk 32 40 Donor ∷ Bin 2 (72 ∷ []) ∷ Sound ∷ [])
+    ∷ given 64 (opening ∷ Allocate 16 ∷ Allocate 40 ∷ SetMerge false ∷ Free 16 ∷ Free 80 ∷ []) (Allocate 16)
+    (Gives 16 (pos 24) ∷ Bin 0 [] ∷ Bin 2 (72 ∷ []) ∷ Sound ∷ [])
     ∷ []
 
 -- Tests of facts.
