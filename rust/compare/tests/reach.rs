@@ -1,7 +1,8 @@
 //! The cases reach what they must: every call accepted and refused with every number that it can give, every question
 //! with none, 0 and more where it can tell that, every m, both ways of finding a bin, every source of a small and of a large
-//! need, every spot of a large bin for all that is put there, heaps in which nothing but the order of a list is wrong, long
-//! chains, damage that the check refuses, every turn of the patrol's rule, and joinings that swallow its place.
+//! need, grants from a bin where chunks of several sizes can serve, every spot of a large bin for all that is put there, heaps
+//! in which nothing but the order of a list is wrong, long chains, damage that the check refuses, every turn of the patrol's
+//! rule, and joinings that swallow its place.
 
 use compare::broken::COPIES;
 use compare::case::{self, Stage};
@@ -30,6 +31,8 @@ struct Tally {
     ways: BTreeMap<Way, u64>,
     /// Counts of new blocks by the call's name, the need's sort and the source.
     sources: BTreeMap<(&'static str, Need, Source), u64>,
+    /// Counts of new blocks from a bin by the call's name, the source and the fit.
+    fits: BTreeMap<(&'static str, Source, Fit), u64>,
     /// Counts of chunks put into bins outside the small array.
     puts: BTreeMap<(Origin, Spot), u64>,
     /// Counts of calls on heaps in which nothing but the order of a list is wrong, by the call's name and the refusal's
@@ -66,6 +69,16 @@ enum Source {
     LargerBin,
     Donor,
     Top,
+}
+
+/// The chunk of a bin from which a block comes, among the ordinary chunks that can serve.
+#[derive(Clone, Copy, Debug, PartialEq, Eq, PartialOrd, Ord)]
+enum Fit {
+    /// None has another size.
+    OneSize,
+    /// Some are larger, none is smaller.
+    Smallest,
+    NotSmallest,
 }
 
 /// What a question tells.
@@ -137,6 +150,17 @@ fn source(before: &View, record: &Record, need: u32, block: u32) -> Source {
         place if place == before.top => Source::Top,
         place if bin(record, before.size_at(place)) == bin(record, need) => Source::OwnBin,
         _ => Source::LargerBin,
+    }
+}
+
+/// How the chunk that the block lies in fits, by the chain before the call.
+fn fit(before: &View, need: u32, block: u32) -> Fit {
+    let taken = before.chunks.iter().find(|c| c.place < block && block < c.place + c.size).expect("a chunk");
+    let serving: Vec<u32> = before.ordinary().iter().map(|c| c.size).filter(|&size| size >= need).collect();
+    match (serving.iter().any(|&size| size < taken.size), serving.iter().any(|&size| size > taken.size)) {
+        (true, _) => Fit::NotSmallest,
+        (_, true) => Fit::Smallest,
+        _ => Fit::OneSize,
     }
 }
 
@@ -273,6 +297,7 @@ impl Tally {
             setups: BTreeMap::new(),
             ways: BTreeMap::new(),
             sources: BTreeMap::new(),
+            fits: BTreeMap::new(),
             puts: BTreeMap::new(),
             unordered: BTreeMap::new(),
             equals_exchanged: 0,
@@ -306,6 +331,10 @@ impl Tally {
             let (record, need) = (&self.side.record, need(bytes));
             let source = source(before, record, need, answer[ANSWER_OFFSET]);
             *self.sources.entry((name(call), sort(record, need), source)).or_default() += 1;
+            if matches!(source, Source::OwnBin | Source::LargerBin) {
+                let fit = fit(before, need, answer[ANSWER_OFFSET]);
+                *self.fits.entry((name(call), source, fit)).or_default() += 1;
+            }
         }
     }
 
@@ -469,6 +498,19 @@ fn reaches_every_source(tally: &mut Tally) {
     }
 }
 
+fn reaches_the_smallest_of_several(tally: &mut Tally) {
+    println!("{:#?}", tally.fits);
+    for name in ["allocate", "allocate_cleared", "reallocate"] {
+        for source in [Source::OwnBin, Source::LargerBin] {
+            for fit in [Fit::OneSize, Fit::Smallest] {
+                let times = tally.fits.remove(&(name, source, fit)).unwrap_or(0);
+                assert!(times > 50, "{name}, {source:?}, {fit:?}: only {times} times");
+            }
+        }
+    }
+    assert!(tally.fits.is_empty(), "a smaller chunk could serve: {:?}", tally.fits);
+}
+
 fn reaches_every_spot(tally: &mut Tally) {
     println!("{:#?}", tally.puts);
     for origin in ORIGINS {
@@ -512,6 +554,7 @@ fn the_cases_reach_every_answer() {
     assert_eq!(tally.setups.len(), MOST_BINS, "m from 0 to 31: {:?}", tally.setups);
     reaches_both_ways(&mut tally);
     reaches_every_source(&mut tally);
+    reaches_the_smallest_of_several(&mut tally);
     reaches_every_spot(&mut tally);
     reaches_unordered_heaps(&mut tally);
     assert!(tally.most_chunks > 1_500, "the longest chain has {} chunks", tally.most_chunks);
