@@ -1,6 +1,6 @@
 -- The rules keep the promise `BestFit` (`best-fit`). The bins, one after the other, are one list in order of size (`bins-in-order`); a block from a
--- bin comes from the first chunk of the list that has n bytes. For any way, a need that is not small is granted from a bin if any
--- ordinary chunk can serve it, by `Choice` (`best-of-any`). Assumes nothing.
+-- bin comes from the first chunk of that list that has n bytes. Any way that keeps `Choice` too takes a smallest chunk wherever bins come first
+-- (`best-of-any`). Assumes nothing.
 use mathlib.Core.Path.{_≡_, refl, sym, ap, subst, _∙_}
 use mathlib.Core.Logic.{_⊎_, inl, inr}
 use mathlib.Core.Bool.{Bool, true, false, not, cond, _&&_, true≢false}
@@ -34,13 +34,15 @@ use Rattle.rules.specs.Check.{Passes}
 use Rattle.rules.specs.Draft.{asRead}
 use Rattle.rules.specs.Serve.{ownBin, largerBin, chosen}
 use Rattle.rules.specs.Allocate.{sourceOf}
+use Rattle.rules.proofs.NamedLaws.{is-ordinary}
 use Rattle.rules.proofs.OrderLaws.{bins-in-order, first-fit-smallest}
 use Rattle.rules.proofs.SpotLaws.{size-on}
 use Rattle.promises.specs.Ways.{Way, ours}
-use Rattle.promises.specs.Choice.{inOwnBin, rank, InTurn, Choice}
+use Rattle.promises.specs.Choice.{inOwnBin, rankAs, rank, InTurn, Choice}
 use Rattle.promises.specs.BestFit.{OrdinaryServes, Smallest, Fitted, BestFit, FromSmallest, BestOfAny}
 use Rattle.promises.proofs.ServeLaws as serve
 use Rattle.promises.proofs.GrantedLaws.{cut-from}
+use Rattle.promises.proofs.ChoiceLaws.{own-bin}
 use Rattle.promises.proofs.GrantsLaws.{grantedBlock, lies-in-source, each-grant, grants-both}
 
 module _ (ws : List ℕ) (h : Heap) (p : Passes ws h) (n : ℕ) (large : 24 ≤ n) where
@@ -150,26 +152,45 @@ granted-fitted {ws} {h} {n} room =
 pub best-fit : BestFit ours
 best-fit = each-grant Fitted (λ ws h n room. granted-fitted room)
 
--- a need that is not small comes from donor or top only if no ordinary chunk can serve it
-from-smallest : (ws : List ℕ) (h : Heap) (n b : ℕ) → Fitted ws h n b → InTurn ws h n b → FromSmallest ws h n b
-from-smallest ws h n b fit turn large e o =
-    let lower = turn .lowest (fit .from) (fit .member) (fit .lies) e (o .member) (o .serves) in
-    (fit .from, fit .lies, fit .best (go (kindOf h (fit .from)) refl (omega (arith, in-bin))))
-  where
-    low : (own : Bool) → cond own 0 2 ≤ 2
-    low true = omega arith
-    low false = omega arith
+-- what follows of a block of any way for which both promises hold
+module _ (ws : List ℕ) (h : Heap) (p : Passes ws h) (n b : ℕ) (fit : Fitted ws h n b) (turn : InTurn ws h n b) where
+  abbrev little : Bool
+  little = small (tableOf h) n
 
-    in-bin : rank h n e ≤ 2
-    in-bin = rw (o .ordinary) (low (inOwnBin h n e))
+  -- where its chunk has a lower rank than donor and top, it is ordinary
+  before-donor : (r : ℕ) → r ≤ 2 → r < cond little 1 4 → rank h n (fit .from) ≤ r → kindOf h (fit .from) ≡ Ordinary
+  before-donor r low lower l = go (kindOf h (fit .from)) refl l
+    where
+      go : (k : Kind) → kindOf h (fit .from) ≡ k → rankAs (inOwnBin h n (fit .from)) little k ≤ r → kindOf h (fit .from) ≡ Ordinary
+      go Ordinary q m = q
+      go Donor q m = absurd (omega arith)
+      go Top q m = absurd (omega arith)
+      go Start q m = absurd (omega arith)
+      go InUse q m = absurd (omega arith)
+      go End q m = absurd (omega arith)
 
-    go : (k : Kind) → kindOf h (fit .from) ≡ k → rank h n (fit .from) ≤ 2 → kindOf h (fit .from) ≡ Ordinary
-    go Ordinary q l = q
-    go Donor q l = let m : 4 ≤ 2 = rw (q, large) at l in absurd (omega arith)
-    go Top q l = let m : 3 ≤ 2 = rw q at l in absurd (omega arith)
-    go Start q l = let m : 5 ≤ 2 = rw q at l in absurd (omega arith)
-    go InUse q l = let m : 5 ≤ 2 = rw q at l in absurd (omega arith)
-    go End q l = let m : 5 ≤ 2 = rw q at l in absurd (omega arith)
+  from-smallest : FromSmallest ws h n b
+  from-smallest e o why = (fit .from, fit .lies, fit .best (go why))
+    where
+      lower : rank h n (fit .from) ≤ rank h n e
+      lower = turn .lowest (fit .from) (fit .member) (fit .lies) e (o .member) (o .serves)
+
+      in-bin : (own : Bool) → cond own 0 2 ≤ 2
+      in-bin true = omega arith
+      in-bin false = omega arith
+
+      exact : (t : Bool) → 0 < cond t 1 4
+      exact true = omega arith
+      exact false = omega arith
+
+      go : (e .size ≡ n) ⊎ (little ≡ false) → kindOf h (fit .from) ≡ Ordinary
+      go (inl q) =
+          let room = is-ordinary ws h p e (o .member) (ap ordinaryKind (o .ordinary)) .free .between in
+          let large : 24 ≤ n = omega arith in
+          before-donor 0 (omega arith) (exact little) (rw (o .ordinary, own-bin ws h p n large e (ap (binOf (tableOf h)) q)) at lower)
+      go (inr q) =
+          let l = in-bin (inOwnBin h n e) in
+          before-donor 2 (omega arith) (rw q (omega arith)) (omega (arith, rw (o .ordinary) at lower))
 
 pub best-of-any : (way : Way) → BestFit way → Choice way → BestOfAny way
-best-of-any way fit choice ws h p = grants-both from-smallest (fit ws h p) (choice ws h p)
+best-of-any way fit choice ws h p = grants-both (from-smallest ws h p) (fit ws h p) (choice ws h p)

@@ -70,7 +70,7 @@ module _ (ws : List ℕ) (h : Heap) (p : Passes ws h) (n : ℕ) (large : 24 ≤ 
   top = serve.top ws h p n
 
   -- a chunk of the same bin as n is found to be so
-  own-bin : (e : Entry) → binOf (tableOf h) (e .size) ≡ binOf (tableOf h) n → inOwnBin h n e ≡ true
+  pub own-bin : (e : Entry) → binOf (tableOf h) (e .size) ≡ binOf (tableOf h) n → inOwnBin h n e ≡ true
   own-bin e q = let (i, is, takes) = bin-from (tableOf h) (p .table .valid) n large in rw (q, is) (eq-eqb i i refl)
 
   -- every chunk that can serve has at least rank r

@@ -53,11 +53,11 @@ module _ (P : List ℕ → Heap → ℕ → ℕ → Type 0) (holds : (ws : List 
 
 -- what follows from two predicates that hold of each new block holds of each
 pub grants-both : {P Q R : List ℕ → Heap → ℕ → ℕ → Type 0} {way : Way} {ws : List ℕ} {h : Heap}
-    → ((ws : List ℕ) (h : Heap) (n b : ℕ) → P ws h n b → Q ws h n b → R ws h n b) → EachGrant P way ws h → EachGrant Q way ws h → EachGrant R way ws h
-grants-both {ws = ws} {h = h} f p q =
+    → ((n b : ℕ) → P ws h n b → Q ws h n b → R ws h n b) → EachGrant P way ws h → EachGrant Q way ws h → EachGrant R way ws h
+grants-both f p q =
     record {
-      allocate = λ z block change a. f ws h _ _ (p .allocate z block change a) (q .allocate z block change a);
-      cleared = λ count size block change a. f ws h _ _ (p .cleared count size block change a) (q .cleared count size block change a);
-      noBlock = λ z block change a. f ws h _ _ (p .noBlock z block change a) (q .noBlock z block change a);
-      moved = λ b z block change e k l a. f ws h _ _ (p .moved b z block change e k l a) (q .moved b z block change e k l a);
+      allocate = λ z block change a. f _ _ (p .allocate z block change a) (q .allocate z block change a);
+      cleared = λ count size block change a. f _ _ (p .cleared count size block change a) (q .cleared count size block change a);
+      noBlock = λ z block change a. f _ _ (p .noBlock z block change a) (q .noBlock z block change a);
+      moved = λ b z block change e k l a. f _ _ (p .moved b z block change e k l a) (q .moved b z block change e k l a);
     }

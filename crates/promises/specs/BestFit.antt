@@ -1,6 +1,7 @@
 -- BestFit (document 02, request Six): on a heap that passes, a block that is granted from a bin comes from a smallest ordinary chunk that can
 -- serve its need. Said of the chain alone: the lists of the bins do not occur.
 use mathlib.Core.Path.{_≡_}
+use mathlib.Core.Logic.{_⊎_}
 use mathlib.Core.Bool.{true, false}
 use mathlib.Core.List.{List}
 use Prim.Native.Nat.{ℕ, _≤_}
@@ -43,11 +44,11 @@ BestFitAt = EachGrant Fitted
 abbrev pub BestFit : Way → Type 0
 BestFit way = (ws : List ℕ) (h : Heap) → Passes ws h → BestFitAt way ws h
 
--- What follows with `Choice` for a need that is not small: whenever some ordinary chunk can serve it, the block comes from a smallest one. (A small
--- need may come from the donor although an ordinary chunk of a larger bin can serve it)
+-- What follows with `Choice`: if an ordinary chunk can serve n, and has exactly n bytes or n is not small, the block comes from a smallest one. (For
+-- a small n the donor is tried before the larger bins)
 abbrev pub FromSmallest : List ℕ → Heap → ℕ → ℕ → Type 0
 FromSmallest ws h n b =
-    small (tableOf h) n ≡ false → (e : Entry) → OrdinaryServes ws h n e → (from : Entry) × LiesIn b from × Smallest ws h n from
+    (e : Entry) → OrdinaryServes ws h n e → (e .size ≡ n) ⊎ (small (tableOf h) n ≡ false) → (from : Entry) × LiesIn b from × Smallest ws h n from
 
 abbrev pub BestOfAny : Way → Type 0
 BestOfAny way = (ws : List ℕ) (h : Heap) → Passes ws h → EachGrant FromSmallest way ws h
