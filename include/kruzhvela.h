@@ -89,11 +89,15 @@ uint32_t kz_setup(uint32_t *region, size_t words, const uint32_t *table, size_t 
                   uint32_t *record, uint32_t *answer);
 
 /* Allocates a block of z bytes, 1 to 65,488, and answers its offset in bytes from the region's first word. It comes from the bin of
-   its size, a larger bin, the top or the donor, tried in this order; a small request tries the donor before the larger bins.
-   Of the bin of its size it takes the first chunk that fits; the bins outside the run of the table (see kz_setup) are kept in
-   order of size, so that this is the smallest there. Donor and top serve only if 24 bytes of them remain. KZ_NO_ROOM means that
-   no chunk of the heap can serve.
-   The block's words stay as found. */
+   its size, a larger bin, the top or the donor, tried in this order; a small request (see kz_setup) tries the donor before the
+   larger bins. Donor and top serve only if 24 bytes of them remain. KZ_NO_ROOM means that no chunk of the heap can serve.
+   The block's words stay as found.
+
+   Best fit: a block from a bin is cut from a smallest chunk of all bins that is large enough. If a chunk in a bin has exactly the
+   size that the request needs, or the request is not small and some chunk in a bin is large enough, the block does come from a
+   bin. The same holds of kz_allocate_cleared, and of kz_reallocate where the block moves.
+   Not promised: a fit of donor and top. They are taken however large they are, the donor by a small request even where a larger
+   bin could serve. Nor which of several smallest chunks is taken, nor that later requests find more room because of the fit. */
 uint32_t kz_allocate(uint32_t *region, size_t words, uint32_t *record, uint32_t z, uint32_t *answer);
 
 /* Allocates a block of count times size bytes and sets every word of it to 0. */

@@ -169,8 +169,10 @@ impl<W: AsRef<[u32]> + AsMut<[u32]>> Heap<W> {
     /// Allocates a block of `bytes` bytes, 1 to [`MOST_BYTES`](crate::limits::MOST_BYTES). Its words stay as found.
     ///
     /// It comes from the bin of its size, a larger bin, the top or the donor, tried in this order; a small request tries
-    /// the donor before the larger bins. Of the bin of its size it takes the smallest chunk that fits. Donor and top serve
-    /// only if 24 bytes of them remain.
+    /// the donor before the larger bins. Donor and top serve only if 24 bytes of them remain.
+    ///
+    /// Best fit: a block from a bin is cut from a smallest chunk of all bins that is large enough; so are a cleared block
+    /// and one that moves. Donor and top are taken however large they are.
     ///
     /// ```
     /// use kruzhvela::{Heap, Refusal};
@@ -182,6 +184,12 @@ impl<W: AsRef<[u32]> + AsMut<[u32]>> Heap<W> {
     /// let mut heap = Heap::setup(vec![0; 64], &[24, 32, 40, 128], 64, true)?;
     /// assert_eq!(heap.allocate(112)?.block.offset(), 80); // from the top, which keeps 56 bytes
     /// assert_eq!(heap.allocate(32)?.block.offset(), 16); // a large request, from the donor
+    ///
+    /// let mut heap = Heap::setup(vec![0; 64], &[24, 32, 40, 128], 0, false)?; // without merging: freed chunks stay
+    /// let (longer, shorter) = (heap.allocate(40)?.block, heap.allocate(32)?.block);
+    /// heap.free(longer)?;
+    /// heap.free(shorter)?;
+    /// assert_eq!(heap.allocate(32)?.block, shorter); // the smaller chunk of the two
     /// # Ok::<(), kruzhvela::Refusal>(())
     /// ```
     pub fn allocate(&mut self, bytes: u32) -> Result<Granted, Refusal> {
