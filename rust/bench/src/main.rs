@@ -1,6 +1,6 @@
 //! Measures the proved heap against its peers, prints the tables and writes docs/BENCHMARKS.md.
-//! `bench check`, `bench instructions`, `bench patrol`, `bench calls`, `bench bins`, `bench room` or `bench order` measures one part
-//! and leaves the others as they stand in the page. For a profiler that counts instructions, `bench steps WHO N` only plays N steps,
+//! `bench check`, `bench instructions`, `bench patrol`, `bench calls`, `bench bins`, `bench room`, `bench fit` or `bench order`
+//! measures one part and leaves the others as they stand in the page. For a profiler that counts instructions, `bench steps WHO N` only plays N steps,
 //! `bench checks WHO FILL CHUNKS N` only makes N checks (WHO: kruzhvela or limit, FILL: free or used), and `bench bins SIZES N HOW`
 //! only plays N steps with a table of so many sizes (HOW: plain, or checked for a check before each call).
 
@@ -10,6 +10,7 @@ mod bins;
 mod calls;
 mod checks;
 mod clock;
+mod fit;
 mod instructions;
 mod loads;
 mod order;
@@ -17,6 +18,7 @@ mod patrols;
 mod peers;
 mod report;
 mod room;
+mod stations;
 
 use std::path::Path;
 use std::{env, fs};
@@ -24,13 +26,14 @@ use std::{env, fs};
 /// A part of the page: its word, its heading, and the function that measures and writes it, if it can be measured here.
 type Part = (&'static str, &'static str, fn() -> Option<String>);
 
-const PARTS: [Part; 7] = [
+const PARTS: [Part; 8] = [
     ("check", report::CHECK, || Some(report::checks(&checks::rows()))),
     ("instructions", report::INSTRUCTIONS, || Some(report::instructions(&instructions::rows()?))),
     ("patrol", report::PATROL, || Some(report::patrols(&patrols::rows()))),
     ("calls", report::CALLS, || Some(report::calls(&calls::rows()))),
     ("bins", report::BINS, || Some(report::bins(&bins::rows()))),
     ("room", report::ROOM, || Some(report::room(&room::rows()))),
+    ("fit", report::FIT, || Some(report::fit(&fit::rows()))),
     ("order", report::ORDER, || Some(report::order(&order::rows()))),
 ];
 

@@ -4,10 +4,12 @@ use crate::bins;
 use crate::calls::{self, KINDS, LIVE};
 use crate::checks::{self, CHUNKS, FILLS};
 use crate::clock::ROUNDS;
+use crate::fit;
 use crate::instructions::{self, Cost};
 use crate::order;
 use crate::patrols::{self, Way, WAYS};
 use crate::room;
+use crate::stations::kind_name;
 use std::fmt::Write;
 use std::process::Command;
 
@@ -17,10 +19,11 @@ pub const PATROL: &str = "## The patrol, relative to the same loop by hand";
 pub const CALLS: &str = "## The calls, relative to other allocators";
 pub const BINS: &str = "## A step outside the check, by the number of bins";
 pub const ROOM: &str = "## How often there is no room";
+pub const FIT: &str = "## How well blocks from bins fit";
 pub const ORDER: &str = "## A bin in order of size, by the number of its chunks";
 
 const METHOD: &str = "\
-`cd rust && cargo run --release -p bench` (after `bash tools/archive`) writes this page, and with the word `check`, `instructions`, `patrol`, `calls`, `bins`, `room` or `order` that part of it. Each ratio is to a peer measured in the same run. \
+`cd rust && cargo run --release -p bench` (after `bash tools/archive`) writes this page, and with the word `check`, `instructions`, `patrol`, `calls`, `bins`, `room`, `fit` or `order` that part of it. Each ratio is to a peer measured in the same run. \
 Times are medians of interleaved runs: a round runs every work once, and a first round, which warms the caches, is not counted. \
 The heap, the record and the peers' arenas stay in the processor's first two caches. The proved heap is called through `kruzhvela::flat`, the functions of C: \
 each call but the check and the patrol unpacks the record from its `KZ_RECORD_WORDS` words and, the questions apart, packs it again.
@@ -201,10 +204,31 @@ pub fn room(rows: &[room::Row]) -> String {
          | Load | live | heap bytes | requests | refused with 7, no donor | donor of an eighth | donor of a quarter |\n|---|---|---|---|---|---|---|\n",
     );
     for row in rows {
-        let name = room::KINDS.iter().find(|(kind, _)| *kind == row.kind).map_or("", |(_, name)| name);
         let refused = row.refused.map(|count| count.to_string()).join(" | ");
-        let _ = writeln!(text, "| {name} | {} | {} | {} | {refused} |", row.live, row.bytes, row.requests);
+        let _ =
+            writeln!(text, "| {} | {} | {} | {} | {refused} |", kind_name(row.kind), row.live, row.bytes, row.requests);
     }
+    text
+}
+
+pub fn fit(rows: &[fit::Row]) -> String {
+    let mut text = String::from(
+        "The loads of the part above in the same heaps and in the largest heap, without a donor. Of the new blocks, those that come from a bin: \
+         the bytes of their chunks beyond the need, in all; the bytes beyond the need of the chunks that they were cut from, in all; \
+         and for how many a smaller ordinary chunk could serve, which the promise `BestFit` says is none. What is cut off goes back to a bin if it has 24 bytes. \
+         The figures are the same in every run.\n\n\
+         | Load | live | heap bytes | new blocks | from a bin | bytes granted beyond the need | bytes of the chunk beyond the need | a smaller one could serve |\n\
+         |---|---|---|---|---|---|---|---|\n",
+    );
+    let mut all = [0; 5];
+    for row in rows {
+        let fit = &row.fit;
+        let figures = [fit.granted, fit.from_bins, fit.beyond, fit.taken_beyond, fit.not_smallest];
+        let cells = figures.map(|figure| figure.to_string()).join(" | ");
+        let _ = writeln!(text, "| {} | {} | {} | {cells} |", kind_name(row.kind), row.live, row.bytes);
+        all = std::array::from_fn(|at| all[at] + figures[at]);
+    }
+    let _ = writeln!(text, "| all | | | {} |", all.map(|figure: usize| figure.to_string()).join(" | "));
     text
 }
 
