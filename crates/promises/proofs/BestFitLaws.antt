@@ -39,7 +39,7 @@ use Rattle.rules.proofs.OrderLaws.{bins-in-order, first-fit-smallest}
 use Rattle.rules.proofs.SpotLaws.{size-on}
 use Rattle.promises.specs.Ways.{Way, ours}
 use Rattle.promises.specs.Choice.{inOwnBin, rankAs, rank, InTurn, Choice}
-use Rattle.promises.specs.BestFit.{OrdinaryServes, Smallest, Fitted, BestFit, FromSmallest, BestOfAny}
+use Rattle.promises.specs.BestFit.{OrdinaryServes, Fitted, BestFit, FromSmallest, BestOfAny}
 use Rattle.promises.proofs.ServeLaws as serve
 use Rattle.promises.proofs.GrantedLaws.{cut-from}
 use Rattle.promises.proofs.ChoiceLaws.{own-bin}

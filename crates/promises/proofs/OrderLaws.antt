@@ -49,7 +49,7 @@ use Rattle.rules.proofs.ShapeLaws.{read-none}
 use Rattle.rules.proofs.SpotLaws.{one-chunk}
 use Rattle.promises.specs.Ways.{Way, ours}
 use Rattle.promises.specs.Kept.{Passing, after}
-use Rattle.promises.specs.Order.{listOf, InOrder, On, Behind, Order, OrderAt}
+use Rattle.promises.specs.Order.{listOf, InOrder, On, Behind, Order}
 use Rattle.promises.specs.Refusing.{asksCheck, Because, setupLength, setupTable, setupDonor, fails, patrolNone, orderOf, Refusing}
 use Rattle.promises.proofs.ResizedLaws.{resized-so}
 use Rattle.promises.proofs.GrantedLaws.{cleared-within}

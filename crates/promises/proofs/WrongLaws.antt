@@ -1,5 +1,5 @@
--- Each of the first five wrong programs breaks a promise, shown on the demonstration's heap. Those of the patrol are in
--- `WrongPatrolLaws`, those of the questions in `WrongToldLaws`. Assumes nothing.
+-- Each of the first five wrong programs breaks a promise, shown on the demonstration's heap. Those of document 02 are in `WrongPatrolLaws`,
+-- `WrongToldLaws`, `WrongChoiceLaws`, `WrongOrderLaws` and `WrongBestFitLaws`. Assumes nothing.
 use mathlib.Core.Path.{_≡_, refl, sym, ap, _∙_}
 use mathlib.Core.Logic.{_⊎_, inl, inr}
 use mathlib.Core.Bool.{true, not, _||_, false≢true}

@@ -1,4 +1,4 @@
--- The fourteen proved cases of the document hold, and those of the donor and of the order in bins: the checker computes them. Assumes nothing.
+-- The fourteen proved cases of the document hold, and those of the donor, of the order in bins and of the fit: the checker computes them. Assumes nothing.
 use mathlib.Core.Path.{_≡_, refl}
 use mathlib.Core.Bool.{true}
 use Prim.Native.Nat.{ℕ}
