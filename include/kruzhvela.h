@@ -93,9 +93,9 @@ uint32_t kz_setup(uint32_t *region, size_t words, const uint32_t *table, size_t 
    larger bins. Donor and top serve only if 24 bytes of them remain. KZ_NO_ROOM means that no chunk of the heap can serve.
    The block's words stay as found.
 
-   Best fit: a block from a bin is cut from a smallest chunk of all bins that is large enough. If a chunk in a bin has exactly the
-   size that the request needs, or the request is not small and some chunk in a bin is large enough, the block does come from a
-   bin. The same holds of kz_allocate_cleared, and of kz_reallocate where the block moves.
+   Best fit: a block from a bin is cut from a chunk that is large enough, and no chunk in any bin that is large enough is smaller.
+   If a chunk in a bin has exactly the size that the request needs, or the request is not small and some chunk in a bin is large
+   enough, the block does come from a bin. The same holds of kz_allocate_cleared, and of kz_reallocate where the block moves.
    Not promised: a fit of donor and top. They are taken however large they are, the donor by a small request even where a larger
    bin could serve. Nor which of several smallest chunks is taken, nor that later requests find more room because of the fit. */
 uint32_t kz_allocate(uint32_t *region, size_t words, uint32_t *record, uint32_t z, uint32_t *answer);

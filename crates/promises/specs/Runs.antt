@@ -68,7 +68,7 @@ pub record Runs (way : Way) : Type 0 where
   pub room : ThroughRuns way (λ s. RoomAt way (s .words) (s .heap))
   -- live blocks stay apart and keep their words (`Apart`)
   pub apart : ThroughRuns way (λ s. ApartAt way (s .words) (s .heap))
-  -- a block comes from the chunk that is first in turn (`Choice`)
+  -- a block comes from a chunk that is tried first among those that can serve (`Choice`)
   pub choice : ThroughRuns way (λ s. ChoiceAt way (s .words) (s .heap))
   -- a block from a bin comes from a smallest ordinary chunk that can serve (`BestFit`)
   pub bestFit : ThroughRuns way (λ s. BestFitAt way (s .words) (s .heap))

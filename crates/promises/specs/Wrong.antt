@@ -197,7 +197,7 @@ alwaysZero = butTold (λ v. Told 0)
 abbrev pub Ordering : Type 0
 Ordering = Bool → Source → Source → Source → Source → List Source
 
--- what bins have for n, whose own bin is given
+-- what is found in bins for the need n, given its own bin
 abbrev pub OfBins : Type 0
 OfBins = ℕ → Draft → Binned → Source
 
@@ -290,7 +290,7 @@ lastThatFits = butTries lastOfOwn firstOfLarger inOrder
 abbrev pub largerBeforeOwn : Way
 largerBeforeOwn = butOrder (λ little own larger donor top. larger ∷ inOrder little own larger donor top)
 
--- 20: of the larger bins the last chunk is taken, which is the largest of all
+-- 20: of the larger bins the last chunk is taken, the largest there
 abbrev pub lastOfLarger : OfBins
 lastOfLarger n d (Bin i) = fromBin (lastOr 0 (gathered (d .lists) (numbersFrom (suc i) (d .heap .bins - suc i))))
 lastOfLarger n d NoBin = Nowhere

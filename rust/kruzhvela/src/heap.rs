@@ -171,8 +171,8 @@ impl<W: AsRef<[u32]> + AsMut<[u32]>> Heap<W> {
     /// It comes from the bin of its size, a larger bin, the top or the donor, tried in this order; a small request tries
     /// the donor before the larger bins. Donor and top serve only if 24 bytes of them remain.
     ///
-    /// Best fit: a block from a bin is cut from a smallest chunk of all bins that is large enough; so are a cleared block
-    /// and one that moves. Donor and top are taken however large they are.
+    /// Best fit: a block from a bin is cut from a chunk that is large enough, and no chunk in any bin that is large enough
+    /// is smaller. The same holds of a cleared block and of one that moves. Donor and top are taken however large they are.
     ///
     /// ```
     /// use kruzhvela::{Heap, Refusal};
