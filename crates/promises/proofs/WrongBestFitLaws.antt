@@ -1,14 +1,15 @@
--- Each of the three wrong programs of request Six breaks the promise `BestFit`, shown on heaps of the demonstration's setup with merging off: bins
--- of 24, 32, 40 and 128, so that bin 2 is outside the small array. Assumes nothing.
+-- Each of the four wrong programs of request Six breaks a promise, the first three `BestFit` and the last `BestOfAny`, shown on heaps of the
+-- demonstration's setup with merging off: bins of 24, 32, 40 and 128, so that bin 2 is outside the small array. Assumes nothing.
 use mathlib.Core.Path.{_≡_, refl, ap}
+use mathlib.Core.Logic.{inl}
 use mathlib.Core.Bool.{true, false, not, _&&_, _||_}
 use mathlib.Core.List.{List, [], _∷_, _++_}
 use Prim.Native.Nat.{ℕ}
 use native.Mathlib.Omega.{arith}
-use lib.Dec.{leb, ltb}
+use lib.Dec.{eqb, leb, ltb}
 use lib.IntN.{pos}
 use Rattle.lists.specs.Lists.{every, any}
-use Rattle.lists.proofs.ListsLaws.{Decides, at-most, less, both, if-then, itself, for-each, for-some}
+use Rattle.lists.proofs.ListsLaws.{Decides, number-is, at-most, less, both, if-then, denied, itself, for-each, for-some}
 use Rattle.record.specs.declared.answers.Answer.the-variants.{Granted}
 use Rattle.record.specs.declared.heap.Heap.{Heap}
 use Rattle.record.specs.declared.kinds.Kind.the-variants.{Ordinary}
@@ -21,8 +22,8 @@ use Rattle.rules.proofs.CasesLaws.{computes}
 use Rattle.rules.proofs.KindsLaws.{ordinary-kind}
 use Rattle.promises.specs.Ways.{Way}
 use Rattle.promises.specs.Choice.{can}
-use Rattle.promises.specs.BestFit.{BestFit}
-use Rattle.promises.specs.Wrong.{lastThatFits, largerBeforeOwn, largestOfLarger}
+use Rattle.promises.specs.BestFit.{BestFit, BestOfAny}
+use Rattle.promises.specs.Wrong.{lastThatFits, largerBeforeOwn, largestOfLarger, topBeforeBins}
 use Rattle.promises.proofs.WrongLaws.{heapAfter, passing}
 
 -- The chunk of the block at b is ordinary and has more than `smaller` bytes, although an ordinary chunk that can serve has no more: shown by tests
@@ -82,3 +83,31 @@ largest-taken = record { passes = refl; answer = refl; lies = refl; serves = ref
 
 pub best-fit-refutes-largest : BestFit largestOfLarger → ⊥
 best-fit-refutes-largest promised = kept-fit largestOfLarger promised two 16 80 24 40 largest-taken
+
+-- The chunk of the block at b is not ordinary, although an ordinary chunk has exactly the need
+record NotFromBin (way : Way) (s : State) (z b size : ℕ) : Type 0 where
+  passes : passes (s .words) (s .heap) ≡ true
+  answer : way (Allocate z) (s .words) (s .heap) .answer ≡ Granted (record { 0 = b }) (pos size)
+  lies : every (λ e. not (ltb (e .place) b && ltb b (chunkEnd e)) || not (ordinary (s .heap) e)) (shape (s .words) (s .heap .bytes)) ≡ true
+  exact : any (λ e. ordinary (s .heap) e && can (s .heap) (need overhead z) e && eqb (e .size) (need overhead z)) (shape (s .words) (s .heap .bytes)) ≡ true
+
+-- no way that keeps `BestOfAny` does that
+kept-from-bin : (way : Way) → BestOfAny way → (s : State) (z b size : ℕ) → NotFromBin way s z b size → ⊥
+kept-from-bin way promised s z b size t =
+    let chain = shape (s .words) (s .heap .bytes) in
+    let elsewhere = for-each (λ e. if-then (both (less (e .place) b) (less b (chunkEnd e))) (denied (is-ordinary (s .heap) e))) chain .0 (t .lies) in
+    let (e, on-chain, ((ordinary, serves), exact)) =
+    for-some (λ e. both (both (is-ordinary (s .heap) e) (itself (can (s .heap) (need overhead z) e))) (number-is (e .size) (need overhead z))) chain .0
+    (t .exact) in
+    let (from, lies, smallest) =
+    promised (s .words) (s .heap) (passing s (t .passes)) .allocate z (record { 0 = b }) (pos size) (t .answer) e
+    (record { member = on-chain; ordinary = ordinary; serves = serves }) (inl exact) in
+    elsewhere from (smallest .itself .member) lies (smallest .itself .ordinary)
+
+-- 21: for 40 bytes the top, which has 88, is taken, although the chunk of 40 in bin 2 has exactly that
+top-taken : NotFromBin topBeforeBins two 32 168 40
+unfolding computes serves
+top-taken = record { passes = refl; answer = refl; lies = refl; exact = refl }
+
+pub best-of-any-refutes-top-before-bins : BestOfAny topBeforeBins → ⊥
+best-of-any-refutes-top-before-bins promised = kept-from-bin topBeforeBins promised two 32 168 40 top-taken

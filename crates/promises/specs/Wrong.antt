@@ -1,4 +1,4 @@
--- Wrong programs (document 01, "How far each statement reaches"; document 02, requests One, Two, Four, Five and Six): twenty ways of answering that
+-- Wrong programs (document 01, "How far each statement reaches"; document 02, requests One, Two, Four, Five and Six): twenty-one ways of answering that
 -- the promises must rule out. Each answers one call, or the questions, wrongly and the other calls by the rules.
 use mathlib.Core.Bool.{Bool, true, false, not, cond}
 use mathlib.Core.List.{List, [], _∷_}
@@ -297,3 +297,7 @@ lastOfLarger n d NoBin = Nowhere
 
 abbrev pub largestOfLarger : Way
 largestOfLarger = butTries firstOfOwn lastOfLarger inOrder
+
+-- 21: the top is tried before the bins
+abbrev pub topBeforeBins : Way
+topBeforeBins = butOrder (λ little own larger donor top. top ∷ inOrder little own larger donor top)
