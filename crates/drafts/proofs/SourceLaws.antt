@@ -114,7 +114,7 @@ first-member : (cs : List ℕ) → (headOr 0 cs ≡ 0 → ⊥) → Mem (headOr 0
 first-member [] n = absurd (n refl)
 first-member (c ∷ cs) n = List·Memᴰ·head refl
 
--- a try that takes the first of a list, which is a member, and one that takes s under a test
+-- a try that takes the first of a list
 pub from-first-good : (P : Source → Type 0) (cs : List ℕ) → (Mem (headOr 0 cs) cs → P (FromBin (at (headOr 0 cs)))) → Good P (fromBin (headOr 0 cs))
 from-first-good P cs f = go (ℕ-discrete (headOr 0 cs) 0)
   where
@@ -122,9 +122,11 @@ from-first-good P cs f = go (ℕ-discrete (headOr 0 cs) 0)
     go (yes z) = rw (eq-eqb (headOr 0 cs) 0 z) (λ some. absurd (true≢false some))
     go (no n) = rw (ne-eqb (headOr 0 cs) 0 n) (λ some. f (first-member cs n))
 
+-- P holds of the first if it holds of every member
 pub from-bin-good : (P : Source → Type 0) (cs : List ℕ) → ((c : ℕ) → Mem c cs → P (FromBin (at c))) → Good P (fromBin (headOr 0 cs))
 from-bin-good P cs f = from-first-good P cs (f (headOr 0 cs))
 
+-- a try that takes s under a test
 pub if-good : (P : Source → Type 0) (s : Source) (t : Bool) → (t ≡ true → P s) → Good P (cond t s Nowhere)
 if-good P s true f = λ some. f refl
 if-good P s false f = λ some. absurd (true≢false some)

@@ -43,7 +43,7 @@ use Rattle.promises.specs.BestFit.{OrdinaryServes, Fitted, BestFit, From
 use Rattle.promises.proofs.ServeLaws as serve
 use Rattle.promises.proofs.GrantedLaws.{cut-from}
 use Rattle.promises.proofs.ChoiceLaws.{own-bin}
-use Rattle.promises.proofs.GrantsLaws.{grantedBlock, lies-in-source, each-grant, grants-both}
+use Rattle.promises.proofs.NewBlocksLaws.{grantedBlock, lies-in-source, each-new-block, new-blocks-both}
 
 module _ (ws : List ℕ) (h : Heap) (p : Passes ws h) (n : ℕ) (large : 24 ≤ n) where
   abbrev es : List Entry
@@ -125,15 +125,15 @@ module _ (ws : List ℕ) (h : Heap) (p : Passes ws h) (n : ℕ) (large : 24 ≤ 
       (from-first-good Least (above i is takes) (λ m. least-at (headOr 0 (above i is takes)) (larger-least i is takes fails)))
 
   -- donor and top are not ordinary
-  other-kind : {k : Kind} {s : Source} → kindIn s ≡ k → (ordinaryKind k ≡ false) → Least s
-  other-kind q not from k is e o = absurd (true≢false (sym (ap ordinaryKind is) ∙ ap ordinaryKind (k .kind ∙ q) ∙ not))
+  other-kind : (s : Source) → ordinaryKind (kindIn s) ≡ false → Least s
+  other-kind s not from k is e o = absurd (true≢false (sym (ap ordinaryKind is) ∙ ap ordinaryKind (k .kind) ∙ not))
 
   chosen-least : Good Least (sourceOf n (asRead ws h))
   unfolding asRead chosen
   chosen-least =
       in-order-good Least (small (tableOf h) n) own (serve.larger ws h p n) (serve.donor ws h p n) (serve.top ws h p n) own-good (λ o d. larger-good o)
-      (λ o l. if-good Least FromDonor (not (eqb (h .donor .0) 0) && leb (n + 24) (sizeOn es (h .donor .0))) (λ t. other-kind refl refl))
-      (λ o l d. if-good Least FromTop (leb (n + 24) (sizeOn es (h .top .0))) (λ t. other-kind refl refl))
+      (λ o l. if-good Least FromDonor (not (eqb (h .donor .0) 0) && leb (n + 24) (sizeOn es (h .donor .0))) (λ t. other-kind FromDonor refl))
+      (λ o l d. if-good Least FromTop (leb (n + 24) (sizeOn es (h .top .0))) (λ t. other-kind FromTop refl))
 
 -- n bytes are granted
 granted-fitted : {ws : List ℕ} {h : Heap} {n : ℕ} (room : Grantable ws h n) → Fitted ws h n (grantedBlock room)
@@ -150,7 +150,7 @@ granted-fitted {ws} {h} {n} room =
     }
 
 pub best-fit : BestFit ours
-best-fit = each-grant Fitted (λ ws h n room. granted-fitted room)
+best-fit = each-new-block Fitted (λ ws h n room. granted-fitted room)
 
 -- what follows of a block of any way for which both promises hold
 module _ (ws : List ℕ) (h : Heap) (p : Passes ws h) (n b : ℕ) (fit : Fitted ws h n b) (turn : InTurn ws h n b) where
@@ -193,4 +193,4 @@ module _ (ws : List ℕ) (h : Heap) (p : Passes ws h) (n b : ℕ) (fit : Fitted 
           before-donor 2 (omega arith) (rw q (omega arith)) (omega (arith, rw (o .ordinary) at lower))
 
 pub best-of-any : (way : Way) → BestFit way → Choice way → BestOfAny way
-best-of-any way fit choice ws h p = grants-both (from-smallest ws h p) (fit ws h p) (choice ws h p)
+best-of-any way fit choice ws h p = new-blocks-both (from-smallest ws h p) (fit ws h p) (choice ws h p)

@@ -36,7 +36,7 @@ use Rattle.promises.specs.Ways.{ours}
 use Rattle.promises.specs.Room.{OnChain}
 use Rattle.promises.specs.Choice.{LiesIn, sameBin, inOwnBin, rankAs, rank, LowestRank, DonorLast, DonorBeforeLarger, InTurn, Choice}
 use Rattle.promises.proofs.ServeLaws as serve
-use Rattle.promises.proofs.GrantsLaws.{grantedBlock, lies-in-source, each-grant}
+use Rattle.promises.proofs.NewBlocksLaws.{grantedBlock, lies-in-source, each-new-block}
 
 -- one bin for both sizes
 same-bin : (a b : Binned) → sameBin a b ≡ true → a ≡ b
@@ -185,4 +185,4 @@ module _ {ws : List ℕ} {h : Heap} {n : ℕ} (room : Grantable ws h n) where
   granted-in-turn = in-turn ws h n (grantedBlock room) granted-lowest
 
 pub choice : Choice ours
-choice = each-grant InTurn (λ ws h n room. granted-in-turn room)
+choice = each-new-block InTurn (λ ws h n room. granted-in-turn room)

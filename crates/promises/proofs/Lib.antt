@@ -18,7 +18,7 @@ pub mod FreshLaws
 pub mod KeptLaws
 pub mod ApartLaws
 pub mod NeverNineLaws
-pub mod GrantsLaws
+pub mod NewBlocksLaws
 pub mod ChoiceLaws
 pub mod BestFitLaws
 pub mod OrderLaws

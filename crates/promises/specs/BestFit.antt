@@ -14,7 +14,7 @@ use Rattle.rules.specs.Kinds.{kindOf}
 use Rattle.rules.specs.Check.{Passes}
 use Rattle.promises.specs.Ways.{Way}
 use Rattle.promises.specs.Room.{OnChain}
-use Rattle.promises.specs.Grants.{EachGrant}
+use Rattle.promises.specs.NewBlocks.{EachNewBlock}
 use Rattle.promises.specs.Choice.{LiesIn, can}
 
 -- e is an ordinary chunk of the chain that can serve n
@@ -28,8 +28,9 @@ pub record Smallest (ws : List ℕ) (h : Heap) (n : ℕ) (from : Entry) : Type 0
   pub itself : OrdinaryServes ws h n from
   pub least : (e : Entry) → OrdinaryServes ws h n e → from .size ≤ e .size
 
--- The block at b, granted for n, lies in the chunk `from` of the chain before the call, and in no other (`one-around`, rules/proofs/SpotLaws).
--- It is granted from a bin if this chunk is ordinary. Donor and top are in no bin: of a block from there nothing is said
+-- The block at b, granted for n, lies in the chunk `from` of the chain before the call, and in no other (`one-around`, rules/proofs/SpotLaws): it
+-- is the chunk from which the block is cut (`CutFrom`, `Apart`). The block is granted from a bin if this chunk is ordinary. Donor and top are in no
+-- bin: of a block from there nothing is said
 pub record Fitted (ws : List ℕ) (h : Heap) (n b : ℕ) : Type 0 where
   pub from : Entry
   pub member : OnChain ws h from
@@ -38,7 +39,7 @@ pub record Fitted (ws : List ℕ) (h : Heap) (n b : ℕ) : Type 0 where
 
 -- the promise on one heap, for each call that grants a new block
 abbrev pub BestFitAt : Way → List ℕ → Heap → Type 0
-BestFitAt = EachGrant Fitted
+BestFitAt = EachNewBlock Fitted
 
 -- the promise, on every heap that passes
 abbrev pub BestFit : Way → Type 0
@@ -51,4 +52,4 @@ FromSmallest ws h n b =
     (e : Entry) → OrdinaryServes ws h n e → (e .size ≡ n) ⊎ (small (tableOf h) n ≡ false) → (from : Entry) × LiesIn b from × Smallest ws h n from
 
 abbrev pub BestOfAny : Way → Type 0
-BestOfAny way = (ws : List ℕ) (h : Heap) → Passes ws h → EachGrant FromSmallest way ws h
+BestOfAny way = (ws : List ℕ) (h : Heap) → Passes ws h → EachNewBlock FromSmallest way ws h

@@ -19,7 +19,7 @@ use Rattle.rules.specs.Check.{Passes}
 use Rattle.rules.specs.Serve.{serves}
 use Rattle.promises.specs.Ways.{Way}
 use Rattle.promises.specs.Room.{OnChain}
-use Rattle.promises.specs.Grants.{EachGrant}
+use Rattle.promises.specs.NewBlocks.{EachNewBlock}
 
 -- the block at b lies in the chunk e
 abbrev pub LiesIn : ℕ → Entry → Type 0
@@ -80,7 +80,7 @@ pub record InTurn (ws : List ℕ) (h : Heap) (n b : ℕ) : Type 0 where
 
 -- the promise on one heap, for each call that grants a new block
 abbrev pub ChoiceAt : Way → List ℕ → Heap → Type 0
-ChoiceAt = EachGrant InTurn
+ChoiceAt = EachNewBlock InTurn
 
 -- the promise, on every heap that passes
 abbrev pub Choice : Way → Type 0

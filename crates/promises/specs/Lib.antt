@@ -1,6 +1,6 @@
 pub mod Ways
 pub mod Room
-pub mod Grants
+pub mod NewBlocks
 pub mod Choice
 pub mod BestFit
 pub mod Counting

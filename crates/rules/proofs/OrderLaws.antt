@@ -1,5 +1,6 @@
 -- The order of the bins' lists (document 02, request Five). The check asks for it outside the small array; a bin of the small array has one size,
--- so that to ask for it of every bin is the same (`every-bin-iff`). Assumes nothing.
+-- so that to ask for it of every bin is the same (`every-bin-iff`). One after the other the bins are one list in order (`bins-in-order`). Assumes
+-- nothing.
 use mathlib.Core.Path.{_≡_, sym, ap, _∙_}
 use mathlib.Core.Logic.{_↔_}
 use mathlib.Core.List.{List}

@@ -1,4 +1,4 @@
--- What holds of every grant of the rules holds of each new block (`each-grant`): allocate, cleared allocate, reallocate of block 0 and of a
+-- What holds of every grant of the rules holds of each new block (`each-new-block`): allocate, cleared allocate, reallocate of block 0 and of a
 -- block that moves all grant by one rule. The granted block lies in the chunk that was chosen (`lies-in-source`). Assumes nothing.
 use mathlib.Core.Path.{_≡_, subst}
 use mathlib.Core.List.{List}
@@ -20,7 +20,7 @@ use Rattle.rules.specs.Allocate.{asFound, cleared, allocateWith, allocate, allo
 use Rattle.rules.specs.Reallocate.{reallocate}
 use Rattle.rules.specs.Calls.{step}
 use Rattle.promises.specs.Ways.{Way, ours}
-use Rattle.promises.specs.Grants.{EachGrant}
+use Rattle.promises.specs.NewBlocks.{EachNewBlock}
 use Rattle.promises.specs.Choice.{LiesIn}
 use Rattle.promises.proofs.GrantedLaws.{cut-from, cleared-within}
 use Rattle.promises.proofs.ApartLaws.{grantable, block-is, moving, moved-block}
@@ -40,9 +40,9 @@ module _ (P : List ℕ → Heap → ℕ → ℕ → Type 0) (holds : (ws : List 
       → allocateWith fill ws h z .answer ≡ Granted block change → P ws h (need overhead z) (block .0)
   new-block fill within z block change q = subst (P ws h (need overhead z)) (block-is p fill within z q) (holds ws h (need overhead z) (grantable p fill within z q))
 
-  pub each-grant : EachGrant P ours ws h
+  pub each-new-block : EachNewBlock P ours ws h
   unfolding ours step allocate allocateCleared reallocate
-  each-grant =
+  each-new-block =
       record {
         allocate = new-block asFound (λ e. tt);
         cleared = λ count size. new-block cleared cleared-within (count * size);
@@ -52,9 +52,9 @@ module _ (P : List ℕ → Heap → ℕ → ℕ → Type 0) (holds : (ws : List 
       }
 
 -- what follows from two predicates that hold of each new block holds of each
-pub grants-both : {P Q R : List ℕ → Heap → ℕ → ℕ → Type 0} {way : Way} {ws : List ℕ} {h : Heap}
-    → ((n b : ℕ) → P ws h n b → Q ws h n b → R ws h n b) → EachGrant P way ws h → EachGrant Q way ws h → EachGrant R way ws h
-grants-both f p q =
+pub new-blocks-both : {P Q R : List ℕ → Heap → ℕ → ℕ → Type 0} {way : Way} {ws : List ℕ} {h : Heap}
+    → ((n b : ℕ) → P ws h n b → Q ws h n b → R ws h n b) → EachNewBlock P way ws h → EachNewBlock Q way ws h → EachNewBlock R way ws h
+new-blocks-both f p q =
     record {
       allocate = λ z block change a. f _ _ (p .allocate z block change a) (q .allocate z block change a);
       cleared = λ count size block change a. f _ _ (p .cleared count size block change a) (q .cleared count size block change a);

@@ -14,7 +14,7 @@ use Rattle.promises.specs.Ways.{Way}
 use Rattle.promises.specs.Room.{HoldsBlock}
 
 -- P holds of each new block: of region and record as they were before the call, the need, and the block's place
-pub record EachGrant (P : List ℕ → Heap → ℕ → ℕ → Type 0) (way : Way) (ws : List ℕ) (h : Heap) : Type 0 where
+pub record EachNewBlock (P : List ℕ → Heap → ℕ → ℕ → Type 0) (way : Way) (ws : List ℕ) (h : Heap) : Type 0 where
   pub allocate : (z : ℕ) (block : Block) (change : ℤ)
       → way (Allocate z) ws h .answer ≡ Granted block change → P ws h (need overhead z) (block .0)
   -- the need of a cleared block is that of the exact product
