@@ -96,7 +96,6 @@ pub record Halfway (ws : List ℕ) (h : Heap) (stay : List Entry) (d : Draft) : 
   pub reserved : (e : Entry) → Mem e stay → e .flags ≡ 0 → ordinary (recordMidway h d) e ≡ false → Unbinned (written ws (d .stores)) (e .place)
   pub queue : (late : Entry → ℕ) → Lateness ws h late → (i : ℕ) → i < h .bins → smallBins (tableOf h) ≤ i
       → Queued late (ordinary (recordMidway h d)) stay (d .lists i)
-  pub allPut : d .noBinTakes ≡ false
 
 -- a heap that passes, before the call: all chunks stay
 pub halfway-begins : (ws : List ℕ) (h : Heap) → Passes ws h → Halfway ws h (shape ws (h .bytes)) (asRead ws h)
@@ -114,7 +113,6 @@ halfway-begins ws h p =
       listed = λ e m o. let (i, t, (l, k)) = p .binned e m o in record { bin = i; takes = t; inside = l; member = k };
       reserved = λ e m f o. go e m f o (ℕ-discrete (e .place) (h .top .0)) (ℕ-discrete (e .place) (h .donor .0));
       queue = λ late t i l large. t .queued i l large;
-      allPut = refl;
     }
   where
     go : (e : Entry) → Mem e (shape ws (h .bytes)) → e .flags ≡ 0 → ordinary h e ≡ false → Dec (e .place ≡ h .top .0) → Dec (e .place ≡ h .donor .0)
@@ -153,7 +151,6 @@ halfway-others {ws} {h} {stay} {d = d} f every from =
       listed = λ e m o. listed e o (from e m);
       reserved = λ e m z o. reserved e z o (from e m);
       queue = λ late t i l large. queued-same (f .queue late t i l large) (λ x m o. (stayed x o (from x m), o));
-      allPut = f .allPut;
     }
   where
     stayed : (e : Entry) → ordinary (recordMidway h d) e ≡ true → Mem e stay ⊎ Used e → Mem e stay
@@ -174,7 +171,7 @@ halfway-fewer f some every = halfway-others f every (λ e m. inl (some e m))
 
 -- the draft with another chain and other stores
 abbrev pub rewritten : List Entry → List Store → Draft → Draft
-rewritten es all d = record { heap = d .heap; chain = es; lists = d .lists; stores = all; noBinTakes = d .noBinTakes }
+rewritten es all d = record { heap = d .heap; chain = es; lists = d .lists; stores = all }
 
 -- stores to no bin link and no bin word of a free chunk that stays keep the invariant
 pub writes-halfway : {ws : List ℕ} {h : Heap} {stay : List Entry} {d : Draft} (es : List Entry) (ss all : List Store) → Halfway ws h stay d
@@ -190,7 +187,6 @@ writes-halfway {ws} {h} {stay} {d} es ss all f w laid passed =
       listed = f .listed;
       reserved = λ e m z o. rw w (unbinned-keeps ss (passed e m z) (f .reserved e m z o));
       queue = f .queue;
-      allPut = f .allPut;
     }
   where
     clear : {i c : ℕ} → Belonging h (d .heap .donor .0) (d .heap .top .0) stay i c → PassBy ss c

@@ -180,5 +180,4 @@ module _ {ws : List ℕ} {h : Heap} {stay : List Entry} {d : Draft} {all : List 
             queue =
                 λ late t i l large.
                 queued-same (left-queue late t i l large (ℕ-discrete i own)) (λ x k u. (others x k .0, u));
-            allPut = f .allPut;
           })

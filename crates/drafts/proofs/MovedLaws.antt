@@ -1,7 +1,7 @@
 -- A block moves: after the grant and the copy the heap passes and the old block is still live (`copied-passes`, `still-live`), so freeing it
 -- does what it does on the heap as it is read then (`moved-reread`, `moved-words`). Assumes nothing.
 use mathlib.Core.Path.{_≡_, refl, ap, _∙_}
-use mathlib.Core.Bool.{true, false}
+use mathlib.Core.Bool.{true}
 use mathlib.Core.List.{List, _++_}
 use Prim.Native.Nat.{ℕ, _≤_, _<_}
 use native.Mathlib.Omega.{arith}
@@ -21,7 +21,6 @@ use Rattle.drafts.proofs.FillLaws.{Within, filled-within}
 use Rattle.drafts.proofs.SourceLaws.{Grantable}
 use Rattle.drafts.proofs.GrantKept.{theGrant, granted-large, live-stays}
 use Rattle.drafts.proofs.GrantedChunk.{new, grantedHeap, granted-pictured, old-there, filledWords, granted-filled}
-use Rattle.drafts.proofs.ReleaseKept.{free-kept}
 use Rattle.drafts.proofs.RereadLaws.{free-reread}
 
 -- the chunk e of a live block has fewer than n bytes, and n bytes can be granted
@@ -77,15 +76,10 @@ module _ {ws : List ℕ} {h : Heap} {n : ℕ} {e : Entry} (moves : Moving ws h n
 
   pub moved-reread : let afresh = freeBlock (blockOf e) (asRead copiedWords copiedHeap) in
       (freeBlock (blockOf e) copiedOver .heap ≡ afresh .heap) × (freeBlock (blockOf e) copiedOver .stores ≡ copiedOver .stores ++ afresh .stores)
-      × (freeBlock (blockOf e) copiedOver .noBinTakes ≡ afresh .noBinTakes)
   moved-reread =
       let f = granted-filled (moves .room) copies copies-within in
       let k = granted-pictured (moves .room) in
-      free-reread copiedWords copiedOver (blockOf e) (f .chain ∙ k .chain) (λ i. f .lists i ∙ k .lists i) (k .allPut)
+      free-reread copiedWords copiedOver (blockOf e) (f .chain ∙ k .chain) (λ i. f .lists i ∙ k .lists i)
 
   pub moved-words : movedWords ≡ written copiedWords (freeBlock (blockOf e) (asRead copiedWords copiedHeap) .stores)
   moved-words = ap (written ws) (moved-reread .1) ∙ written-append (copiedOver .stores) (freeBlock (blockOf e) (asRead copiedWords copiedHeap) .stores) ws
-
-  -- a bin takes every chunk that is put
-  pub move-all-put : freeBlock (blockOf e) copiedOver .noBinTakes ≡ false
-  move-all-put = moved-reread .2 ∙ free-kept copiedWords copiedHeap copied-passes (blockOf e) still-live .allPut

@@ -2,7 +2,6 @@
 -- as its chain and lists. So it is if the invariant holds of all chunks, headers are right, and so are donor, top, used bytes and the patrol's
 -- place. Assumes nothing.
 use mathlib.Core.Path.{_≡_, sym, ap, _∙_}
-use mathlib.Core.Bool.{false}
 use mathlib.Core.List.{List}
 use Prim.Native.Nat.{ℕ, _≤_, _<_}
 use native.Mathlib.Decide.{decLt}
@@ -36,7 +35,6 @@ pub record Pictured (ws : List ℕ) (d : Draft) : Type 0 where
   pub passes : Passes (written ws (d .stores)) (d .heap)
   pub chain : shape (written ws (d .stores)) (d .heap .bytes) ≡ d .chain
   pub lists : (i : ℕ) → binList (written ws (d .stores)) (d .heap) i ≡ d .lists i
-  pub allPut : d .noBinTakes ≡ false
 
 -- late chunks still stand behind the others of equal size when the draft, made on the heap h, is written
 abbrev pub StaysQueued : List ℕ → Heap → Draft → Type 0
@@ -172,7 +170,6 @@ module _ {ws : List ℕ} {h : Heap} (p : Passes ws h) {es : List Entry} {d : Dra
         passes = rw (f .heap, chain-read) passes-as;
         chain = rw (f .heap) (chain-read ∙ sym (complete .chain));
         lists = λ i. rw (f .heap) (list-read i);
-        allPut = f .allPut;
       }
 
   -- and its lists stand as the draft's do

@@ -201,7 +201,6 @@ module _ {ws : List ℕ} {h : Heap} {stay : List Entry} {d : Draft} {all : List 
                 listed = put-listed;
                 reserved = λ x m z o. rw a (put-reserved x m z o);
                 queue = λ late lateness j b large. put-queue late lateness j b large (ℕ-discrete j i);
-                allPut = f .allPut;
               };
           headed = λ k. rw a (headed-keeps stores (written ws (d .stores)) outside all outside put-spares k);
           chain = refl;
@@ -332,7 +331,6 @@ module _ {ws : List ℕ} {h : Heap} {stay : List Entry} {d : Draft} {all : List 
                 listed = named-listed;
                 reserved = λ x m z o. rw a (named-unbinned x m z o);
                 queue = λ late lateness i l large. queued-same (f .queue late lateness i l large) (λ x m o. named-stays x m o);
-                allPut = f .allPut;
               };
           headed = λ k. rw a (headed-keeps (noBinWords (c .place)) (written ws (d .stores)) outside all outside named-spares k);
           chain = refl;

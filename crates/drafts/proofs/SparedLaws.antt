@@ -26,7 +26,7 @@ use Rattle.region.proofs.WordsLaws.{Fall, fall-both, fall-so, Off}
 use Rattle.rules.specs.Shape.{Entry, shape, binList, chunkEnd}
 use Rattle.rules.specs.Kinds.{unused, blockOf, blockEnd, outside}
 use Rattle.rules.specs.Check.{Passes}
-use Rattle.rules.specs.Draft.{Draft, asRead, alsoWrites, nowUses, patrolsAt, followedBy, precededBy, meet, relist, leave, leaves, leaveBin, putBetween, isPut, putInBin, sizeStores, headers, relink, settle}
+use Rattle.rules.specs.Draft.{Draft, asRead, alsoWrites, nowUses, patrolsAt, followedBy, precededBy, meet, relist, leave, onBin, leaveBin, putBetween, putInto, putInBin, sizeStores, headers, relink, settle}
 use Rattle.rules.proofs.KindsLaws.{Used, block-starts, block-ends}
 use Rattle.books.proofs.BooksLaws.{putStores}
 use Rattle.books.proofs.HeapBooks.{member-entry, list-none}
@@ -121,19 +121,23 @@ module _ (P : ℕ → Type 0) where
       go j c (inl k) = l c (k .1)
       go j c (inr k) = s .members j c (k .1)
 
+  -- a step on the bin of a size, if it is so on every bin
+  on-bin-spared : (step : ℕ → Draft → Draft) (d : Draft) → Spared d → ((i : ℕ) → Spared (step i d)) → (b : Binned) → Spared (onBin step b d)
+  on-bin-spared step d s f (Bin i) = f i
+  on-bin-spared step d s f NoBin = s
+
   -- a chunk leaves its bin
   pub leave-spared : (e : Entry) (d : Draft) → Spared d → Spared (leaveBin e d)
   unfolding leaveBin leave
-  leave-spared e d s = go (binOf (tableOf (d .heap)) (e .size))
-    where
-      go : (b : Binned) → Spared (leaves e b d)
-      go NoBin = s
-      go (Bin i) =
-          let xs : List ℕ = upTo (eqb (e .place)) (d .lists i) in
-          let ys : List ℕ = past (eqb (e .place)) (d .lists i) in
-          let f : MemberLinks xs = λ c m. s .members i c (before-from (eqb (e .place)) (d .lists i) m) in
-          let g : MemberLinks ys = λ c m. s .members i c (after-from (eqb (e .place)) (d .lists i) m) in
-          relist-spared i (xs ++ ys) (meet xs ys) d s (links-both xs ys f g) (meet-falls xs ys f g)
+  leave-spared e d s =
+      on-bin-spared (λ i. leave i (e .place)) d s
+      (λ i.
+      let xs : List ℕ = upTo (eqb (e .place)) (d .lists i) in
+      let ys : List ℕ = past (eqb (e .place)) (d .lists i) in
+      let f : MemberLinks xs = λ c m. s .members i c (before-from (eqb (e .place)) (d .lists i) m) in
+      let g : MemberLinks ys = λ c m. s .members i c (after-from (eqb (e .place)) (d .lists i) m) in
+      relist-spared i (xs ++ ys) (meet xs ys) d s (links-both xs ys f g) (meet-falls xs ys f g))
+      (binOf (tableOf (d .heap)) (e .size))
 
   -- chunks are linked in: P holds of their header words and of the backward link of the chunk above them
   headers-fall : (p : ℕ) (es : List Entry) → ((e : Entry) → Mem e es → HeaderWords e) → Fall P (headers p es)
@@ -175,16 +179,14 @@ module _ (P : ℕ → Type 0) where
 
     in-bin-spared : Spared (putInBin e d)
     unfolding putInBin
-    in-bin-spared = go (binOf (tableOf (d .heap)) (e .size))
-      where
-        go : (b : Binned) → Spared (isPut e b d)
-        go (Bin i) =
-            let xs : List ℕ = partBefore i e d in
-            let ys : List ℕ = partAfter i e d in
-            let all : MemberLinks (xs ++ ys) = rw (parts-whole i e d) at (s .members i) in
-            rw (put-between i e d)
-            (put-spared i xs ys (λ c m. all c (Memᴰ·append-left ys m)) (λ c m. all c (Memᴰ·append-right xs m)))
-        go NoBin = record { stores = s .stores; members = s .members }
+    in-bin-spared =
+        on-bin-spared (λ i. putInto i e) d s
+        (λ i.
+        let xs : List ℕ = partBefore i e d in
+        let ys : List ℕ = partAfter i e d in
+        let all : MemberLinks (xs ++ ys) = rw (parts-whole i e d) at (s .members i) in
+        rw (put-between i e d) (put-spared i xs ys (λ c m. all c (Memᴰ·append-left ys m)) (λ c m. all c (Memᴰ·append-right xs m))))
+        (binOf (tableOf (d .heap)) (e .size))
 
     pub settle-spared : (k : Kind) → Spared (settle k e d)
     unfolding settle

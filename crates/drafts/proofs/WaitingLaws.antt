@@ -72,7 +72,6 @@ uses-halfway c gone new f =
       listed = f .listed;
       reserved = f .reserved;
       queue = f .queue;
-      allPut = f .allPut;
     }
 
 module _ {ws : List ℕ} {h : Heap} (p : Passes ws h) where

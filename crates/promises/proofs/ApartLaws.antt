@@ -18,7 +18,6 @@ use Rattle.record.specs.Heap.{withMerge, withPatrol}
 use Rattle.region.specs.declared.Block.{Block}
 use Rattle.region.specs.Words.{Store, written}
 use Rattle.region.proofs.WordsLaws.{off}
-use Rattle.drafts.proofs.ReleaseKept.{free-kept}
 use Rattle.drafts.proofs.ReleaseSpared.{shrink-spares, shrink-spares-own}
 use Rattle.drafts.proofs.ShrinkKept.{ShrinkingBlock, shrink-kept, shrink-there, shrink-others-stay, shrink-none-new}
 use Rattle.drafts.proofs.MovedLaws.{Moving}
@@ -102,7 +101,7 @@ module _ {ws : List ℕ} {h : Heap} (p : Passes ws h) {b : ℕ} {e : Entry} (k :
   -- what freeing it leaves
   free-left : ours (Free b) ws h ≡ leftBy ws (made (Returned (changeOf (blockSpot (asRead ws h) b .here .size) 0)) (freeBlock b (asRead ws h)))
   unfolding ours step free
-  free-left = rw (passes-iff ws h .1 p, ne-eqb b 0 some-block, is-live, free-kept ws h p b is-live .allPut) refl
+  free-left = rw (passes-iff ws h .1 p, ne-eqb b 0 some-block, is-live) refl
 
   -- the chunk that the rule finds is e
   abbrev old : Entry
@@ -126,7 +125,7 @@ module _ {ws : List ℕ} {h : Heap} (p : Passes ws h) {b : ℕ} {e : Entry} (k :
     outcome = made (grants (old .size) (result .granted)) (result .draft)
 
     abbrev tests : Refusals
-    tests = resizeRefusals (heapFails ws h) ws (asRead ws h) b z
+    tests = resizeRefusals (heapFails ws h) (asRead ws h) b z
 
     -- what the call leaves: it was accepted
     resize-left : ours (Reallocate b z) ws h ≡ leftBy ws (judged h tests outcome)

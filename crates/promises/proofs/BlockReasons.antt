@@ -2,7 +2,7 @@
 -- (`allocate-judged`, `cleared-judged`, `free-judged`, `reallocate-judged`). Assumes nothing.
 use mathlib.Core.Path.{_≡_, refl, ap}
 use mathlib.Core.Logic.{_↔_}
-use mathlib.Core.Bool.{Bool, true, false, not, cond, _&&_, false≢true}
+use mathlib.Core.Bool.{Bool, true, false, not, _&&_}
 use mathlib.Core.List.{List, [], _∷_}
 use Prim.Native.Nat.{ℕ, _*_, _<_}
 use native.Mathlib.Decide.{ℕ-discrete}
@@ -12,7 +12,7 @@ use borrow.Author.Tests.{eq-eqb, ne-eqb}
 use Rattle.lists.specs.Lists.{Mem}
 use Rattle.lists.proofs.ListsLaws.{Decides, number-is, meaning, both, denied}
 use Rattle.record.specs.declared.answers.Refusal.{Refusal}
-use Rattle.record.specs.declared.answers.Refusal.the-variants.{HeapFails, BlockSize, NotLive, NoRoom, NoBinTakes}
+use Rattle.record.specs.declared.answers.Refusal.the-variants.{HeapFails, BlockSize, NotLive, NoRoom}
 use Rattle.record.specs.declared.heap.Heap.{Heap}
 use Rattle.region.specs.Words.{Store}
 use Rattle.rules.specs.Shape.{Entry}
@@ -21,27 +21,26 @@ use Rattle.rules.specs.Check.{Passes}
 use Rattle.rules.specs.Draft.{asRead}
 use Rattle.rules.specs.Serve.{mostBytes, need, permitted, nowhere}
 use Rattle.rules.specs.Outcome.{Refusals, judged, heapFails}
-use Rattle.rules.specs.Allocate.{sourceOf, grant, asFound, cleared, allocate, allocateCleared, allocateRefusals, allocated}
-use Rattle.rules.specs.Free.{isLive, blockSpot, freeBlock, free, freeRefusals, freed}
-use Rattle.rules.specs.Reallocate.{resized, resize, reallocate, resizeRefusals, resizedTo}
+use Rattle.rules.specs.Allocate.{sourceOf, asFound, cleared, allocate, allocateCleared, allocateRefusals, allocated}
+use Rattle.rules.specs.Free.{isLive, blockSpot, free, freeRefusals, freed}
+use Rattle.rules.specs.Reallocate.{resize, reallocate, resizeRefusals, resizedTo}
 use Rattle.rules.specs.Calls.{Call, Allocate, AllocateCleared, Free, Reallocate, step}
 use Rattle.promises.specs.Room.{HoldsBlock, NoneServes}
-use Rattle.promises.specs.Refusing.{WrongSize, Because, fails, allocateSize, clearedSize, reallocateSize, freeNotLive, reallocateNotLive, allocateRoom, clearedRoom, reallocateRoom, allocateBin, clearedBin, freeBin, reallocateNewBin, reallocateBin, asksCheck, refusedRecord}
+use Rattle.promises.specs.Refusing.{WrongSize, Because, fails, allocateSize, clearedSize, reallocateSize, freeNotLive, reallocateNotLive, allocateRoom, clearedRoom, reallocateRoom, asksCheck, refusedRecord}
 use Rattle.promises.proofs.ServeLaws.{room-iff}
-use Rattle.promises.proofs.JudgedLaws.{accepts, first, second, third, fourth, fifth, Judging, fails-iff, well}
+use Rattle.promises.proofs.JudgedLaws.{accepts, first, second, third, fourth, Judging, fails-iff, well}
 use Rattle.promises.proofs.ReasonLaws.{range-iff, live-iff, outgrown-iff}
 
 -- the refusals of a call that grants a block of z bytes
 abbrev allocating : List ℕ → Heap → ℕ → Refusals
 allocating ws h z = allocateRefusals (heapFails ws h) (asRead ws h) z
 
--- the three reasons of such a call, besides that of a heap that fails
+-- the two reasons of such a call, besides that of a heap that fails
 record Asking (ws : List ℕ) (h : Heap) (call : Call) (z : ℕ) : Type 0 where
   other : asksCheck call ≡ true
   size : WrongSize z ↔ Because ws h call BlockSize
   room : NoneServes ws h (need overhead z) ↔ Because ws h call NoRoom
-  bin : (grant (need overhead z) (asRead ws h) .draft .noBinTakes ≡ true) ↔ Because ws h call NoBinTakes
-  stands : (r : Refusal) → Because ws h call r → Mem r (HeapFails ∷ BlockSize ∷ NoRoom ∷ NoBinTakes ∷ [])
+  stands : (r : Refusal) → Because ws h call r → Mem r (HeapFails ∷ BlockSize ∷ NoRoom ∷ [])
 
 -- a call that grants a block of z bytes, into which `fill` is written
 allocating-judged : {ws : List ℕ} {h : Heap} {call : Call} (fill : Entry → List Store) (z : ℕ) → Asking ws h call z
@@ -60,7 +59,7 @@ allocating-judged {ws} {h} {call} fill z asks is =
           meaning (range-iff mostBytes z) (asks .size .0) (asks .size .1),
           λ _. (
             meaning (room-iff ws h (well ws h call (asks .other) f) (need overhead z) (omega arith)) (asks .room .0) (asks .room .1),
-            λ _. (asks .bin, λ _. tt),
+            λ _. tt,
           ),
         ),
       );
@@ -75,16 +74,14 @@ module _ (ws : List ℕ) (h : Heap) where
         other = refl;
         size = (λ w. allocateSize w, λ k. elim k [ allocateSize w ↦ w ]);
         room = (λ w. allocateRoom w, λ k. elim k [ allocateRoom w ↦ w ]);
-        bin = (λ w. allocateBin w, λ k. elim k [ allocateBin w ↦ w ]);
         stands = stands;
       })
       refl
     where
-      stands : (r : Refusal) → Because ws h (Allocate z) r → Mem r (HeapFails ∷ BlockSize ∷ NoRoom ∷ NoBinTakes ∷ [])
+      stands : (r : Refusal) → Because ws h (Allocate z) r → Mem r (HeapFails ∷ BlockSize ∷ NoRoom ∷ [])
       stands r (fails s n) = first
       stands r (allocateSize w) = second
       stands r (allocateRoom w) = third
-      stands r (allocateBin w) = fourth
 
   pub cleared-judged : (count size : ℕ) → Judging (AllocateCleared count size) ws h
   unfolding step allocateCleared
@@ -94,28 +91,14 @@ module _ (ws : List ℕ) (h : Heap) where
         other = refl;
         size = (λ w. clearedSize w, λ k. elim k [ clearedSize w ↦ w ]);
         room = (λ w. clearedRoom w, λ k. elim k [ clearedRoom w ↦ w ]);
-        bin = (λ w. clearedBin w, λ k. elim k [ clearedBin w ↦ w ]);
         stands = stands;
       })
       refl
     where
-      stands : (r : Refusal) → Because ws h (AllocateCleared count size) r → Mem r (HeapFails ∷ BlockSize ∷ NoRoom ∷ NoBinTakes ∷ [])
+      stands : (r : Refusal) → Because ws h (AllocateCleared count size) r → Mem r (HeapFails ∷ BlockSize ∷ NoRoom ∷ [])
       stands r (fails s n) = first
       stands r (clearedSize w) = second
       stands r (clearedRoom w) = third
-      stands r (clearedBin w) = fourth
-
-  -- for block 0 no chunk is put into a bin
-  free-bins : (b : ℕ) → Decides (cond (eqb b 0) (asRead ws h) (freeBlock b (asRead ws h)) .noBinTakes) (Because ws h (Free b) NoBinTakes)
-  unfolding asRead
-  free-bins b = go (ℕ-discrete b 0)
-    where
-      of : Because ws h (Free b) NoBinTakes → (0 < b) × (freeBlock b (asRead ws h) .noBinTakes ≡ true)
-      of (freeBin l w) = (l, w)
-
-      go : Dec (b ≡ 0) → Decides (cond (eqb b 0) (asRead ws h) (freeBlock b (asRead ws h)) .noBinTakes) (Because ws h (Free b) NoBinTakes)
-      go (yes z) = rw (eq-eqb b 0 z) (λ t. absurd (false≢true t), λ k. absurd (omega (arith, of k .0)))
-      go (no n) = rw (ne-eqb b 0 n) (λ t. freeBin {b = b} (omega arith) t, λ k. of k .1)
 
   pub free-judged : (b : ℕ) → Judging (Free b) ws h
   unfolding step free
@@ -127,7 +110,7 @@ module _ (ws : List ℕ) (h : Heap) where
         is = refl;
         rising = omega arith;
         stands = stands;
-        decided = (fails-iff ws h (Free b) refl, λ _. (lives, λ _. (free-bins b, λ _. tt)));
+        decided = (fails-iff ws h (Free b) refl, λ _. (lives, λ _. tt));
       }
     where
       lives : Decides (not (eqb b 0) && not (isLive (asRead ws h) b)) (Because ws h (Free b) NotLive)
@@ -136,10 +119,9 @@ module _ (ws : List ℕ) (h : Heap) where
           (λ k. freeNotLive (omega arith, λ e m. k .1 (e, m)))
           (λ k. elim k [ freeNotLive n ↦ (λ z. omega arith, λ (e, m). n .1 e m) ])
 
-      stands : (r : Refusal) → Because ws h (Free b) r → Mem r (HeapFails ∷ NotLive ∷ NoBinTakes ∷ [])
+      stands : (r : Refusal) → Because ws h (Free b) r → Mem r (HeapFails ∷ NotLive ∷ [])
       stands r (fails s n) = first
       stands r (freeNotLive w) = second
-      stands r (freeBin l w) = third
 
   -- block 0 is no live block
   none-held : (e : Entry) → HoldsBlock ws h 0 e → ⊥
@@ -149,7 +131,7 @@ module _ (ws : List ℕ) (h : Heap) where
   new-judged : (b z : ℕ) → b ≡ 0 → Judging (Reallocate b z) ws h
   unfolding step reallocate allocate
   new-judged b z e =
-      allocating-judged asFound z (record { other = refl; size = sizes; room = rooms; bin = bins; stands = stands }) (rw (eq-eqb b 0 e) refl)
+      allocating-judged asFound z (record { other = refl; size = sizes; room = rooms; stands = stands }) (rw (eq-eqb b 0 e) refl)
     where
       sizes : WrongSize z ↔ Because ws h (Reallocate b z) BlockSize
       sizes = (λ w. reallocateSize w, λ k. elim k [ reallocateSize w ↦ w ])
@@ -157,23 +139,18 @@ module _ (ws : List ℕ) (h : Heap) where
       rooms : NoneServes ws h (need overhead z) ↔ Because ws h (Reallocate b z) NoRoom
       rooms = (λ w. reallocateRoom {b = b} (λ d k. absurd (none-held d (rw e at k)), w), λ k. elim k [ reallocateRoom w ↦ w .1 ])
 
-      bins : (grant (need overhead z) (asRead ws h) .draft .noBinTakes ≡ true) ↔ Because ws h (Reallocate b z) NoBinTakes
-      bins = (λ w. reallocateNewBin e w, λ k. elim k [ reallocateNewBin q w ↦ w | reallocateBin l w ↦ absurd (omega arith) ])
-
-      stands : (r : Refusal) → Because ws h (Reallocate b z) r → Mem r (HeapFails ∷ BlockSize ∷ NoRoom ∷ NoBinTakes ∷ [])
+      stands : (r : Refusal) → Because ws h (Reallocate b z) r → Mem r (HeapFails ∷ BlockSize ∷ NoRoom ∷ [])
       stands r (fails s n) = first
       stands r (reallocateSize w) = second
       stands r (reallocateNotLive w) = absurd (omega arith)
       stands r (reallocateRoom w) = third
-      stands r (reallocateNewBin q w) = fourth
-      stands r (reallocateBin l w) = fourth
 
   resize-judged : (b z : ℕ) → 0 < b → Judging (Reallocate b z) ws h
   unfolding step reallocate resize
   resize-judged b z l =
       let before = asRead ws h in
       record {
-        tests = resizeRefusals (heapFails ws h) ws before b z;
+        tests = resizeRefusals (heapFails ws h) before b z;
         made = resizedTo ws before b z;
         accepted = accepts refl;
         is = rw (ne-eqb b 0 (omega arith)) refl;
@@ -181,7 +158,7 @@ module _ (ws : List ℕ) (h : Heap) where
         stands = stands;
         decided = (
           fails-iff ws h (Reallocate b z) refl,
-          λ f. (sizes, λ _. (lives, λ k. (rooms (well ws h (Reallocate b z) refl f) (held k), λ _. (bins, λ _. tt)))),
+          λ f. (sizes, λ _. (lives, λ k. (rooms (well ws h (Reallocate b z) refl f) (held k), λ _. tt))),
         );
       }
     where
@@ -205,16 +182,11 @@ module _ (ws : List ℕ) (h : Heap) where
           meaning (both (outgrown-iff ws h p b some (need overhead z)) (room-iff ws h p (need overhead z) (omega arith)))
           (λ w. reallocateRoom w) (λ k. elim k [ reallocateRoom w ↦ w ])
 
-      bins : Decides (resized ws (blockSpot (asRead ws h) b) (need overhead z) (asRead ws h) .draft .noBinTakes) (Because ws h (Reallocate b z) NoBinTakes)
-      bins = (λ t. reallocateBin l t, λ k. elim k [ reallocateNewBin q w ↦ absurd (omega arith) | reallocateBin m w ↦ w ])
-
-      stands : (r : Refusal) → Because ws h (Reallocate b z) r → Mem r (HeapFails ∷ BlockSize ∷ NotLive ∷ NoRoom ∷ NoBinTakes ∷ [])
+      stands : (r : Refusal) → Because ws h (Reallocate b z) r → Mem r (HeapFails ∷ BlockSize ∷ NotLive ∷ NoRoom ∷ [])
       stands r (fails s n) = first
       stands r (reallocateSize w) = second
       stands r (reallocateNotLive w) = third
       stands r (reallocateRoom w) = fourth
-      stands r (reallocateNewBin q w) = fifth
-      stands r (reallocateBin m w) = fifth
 
   pub reallocate-judged : (b z : ℕ) → Judging (Reallocate b z) ws h
   reallocate-judged b z = go (ℕ-discrete b 0)

@@ -155,7 +155,7 @@ module _ (ws : List ℕ) (h : Heap) where
   resize-below : (b z : ℕ) → Below even (resize ws h b z .stores)
   unfolding resize
   resize-below b z =
-      judged-below even h (resizedTo ws (asRead ws h) b z) (resizeRefusals (heapFails ws h) ws (asRead ws h) b z)
+      judged-below even h (resizedTo ws (asRead ws h) b z) (resizeRefusals (heapFails ws h) (asRead ws h) b z)
       (λ (f, (_, (l, (room, _)))).
       let p = passing f in
       rw (← heap-even p) (resized-below ws h p b (not-false (isLive (asRead ws h) b) l) z room))

@@ -12,9 +12,10 @@ use Rattle.lists.proofs.ListsLaws.{Decides, meaning, denied}
 use Rattle.record.specs.declared.answers.Answer.{Answer}
 use Rattle.record.specs.declared.answers.Answer.the-variants.{Refused}
 use Rattle.record.specs.declared.answers.Refusal.{Refusal}
-use Rattle.record.specs.declared.answers.Refusal.the-variants.{RegionLength, BadTable, DonorSize, HeapFails, BlockSize, NotLive, NoRoom, NotThere, NoBinTakes, RunSize, BeyondMending}
+use Rattle.record.specs.declared.answers.Refusal.the-variants.{HeapFails}
 use Rattle.record.specs.declared.heap.Heap.{Heap}
-use Rattle.record.specs.Answers.{numberOf, figuresOf}
+use Rattle.record.specs.Answers.{figuresOf}
+use Rattle.record.proofs.AnswersLaws.{numbered}
 use Rattle.rules.specs.Check.{Passes, passes}
 use Rattle.rules.specs.Outcome.{Outcome, Refusals, judged}
 use Rattle.rules.specs.Calls.{Call, Patrol, step}
@@ -24,23 +25,9 @@ use Rattle.promises.specs.Kept.{Accepted}
 use Rattle.promises.specs.Refusing.{Because, fails, patrolFails, asksCheck, orderOf, refusedRecord}
 use Rattle.promises.proofs.ReasonLaws.{passes?}
 
--- the number of a refusal is not 0
-numbered : (r : Refusal) → 0 < numberOf r
-numbered RegionLength = omega arith
-numbered BadTable = omega arith
-numbered DonorSize = omega arith
-numbered HeapFails = omega arith
-numbered BlockSize = omega arith
-numbered NotLive = omega arith
-numbered NoRoom = omega arith
-numbered NotThere = omega arith
-numbered NoBinTakes = omega arith
-numbered RunSize = omega arith
-numbered BeyondMending = omega arith
-
 -- an answer with refusal number 0 is no refusal
 pub accepts : {a : Answer} → figuresOf a .refusal ≡ 0 → Accepted a
-accepts z r q = omega (arith, numbered r, sym (ap (λ (x : Answer). figuresOf x .refusal) q) ∙ z)
+accepts z r q = omega (arith, numbered r .0, sym (ap (λ (x : Answer). figuresOf x .refusal) q) ∙ z)
 
 -- if no refusal is given, all tests have failed
 pub accepted-made : (h : Heap) (o : Outcome) (ts : Refusals) → Accepted (judged h ts o .answer) → Failed ts × (judged h ts o ≡ o)
@@ -118,9 +105,6 @@ third = List·Memᴰ·tail second
 
 pub fourth : {x y z u : Refusal} {xs : List Refusal} → Mem x (y ∷ z ∷ u ∷ x ∷ xs)
 fourth = List·Memᴰ·tail third
-
-pub fifth : {x y z u v : Refusal} {xs : List Refusal} → Mem x (y ∷ z ∷ u ∷ v ∷ x ∷ xs)
-fifth = List·Memᴰ·tail fourth
 
 -- a call is such a list of tests before an acceptance
 pub record Judging (call : Call) (ws : List ℕ) (h : Heap) : Type 0 where

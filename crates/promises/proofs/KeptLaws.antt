@@ -135,7 +135,7 @@ module _ (ws : List ℕ) (h : Heap) (p : Passes ws h) where
   resize-passes : (b z : ℕ) → Passing (stateLeft ws h (resize ws h b z))
   unfolding resize
   resize-passes b z =
-      judged-passes h (resizedTo ws (asRead ws h) b z) (resizeRefusals (heapFails ws h) ws (asRead ws h) b z)
+      judged-passes h (resizedTo ws (asRead ws h) b z) (resizeRefusals (heapFails ws h) (asRead ws h) b z)
       (λ (_, (_, (l, (room, _)))). resized-passes b (not-false (isLive (asRead ws h) b) l) z room)
 
   reallocate-passes : (b z : ℕ) → Passing (stateLeft ws h (reallocate ws h b z))

@@ -17,7 +17,6 @@ pub mod OddLaws
 pub mod FreshLaws
 pub mod KeptLaws
 pub mod ApartLaws
-pub mod NeverNineLaws
 pub mod NewBlocksLaws
 pub mod ChoiceLaws
 pub mod BestFitLaws

@@ -129,7 +129,7 @@ module _ (us vs : List ℕ) (h : Heap) (a : AlikeButOdd us vs) where
   resize-same b z = go (passes us h) refl ∙ by-reading (by vs) (λ d e. refl)
     where
       by : List ℕ → Bool → Draft → Outcome
-      by ws t d = judged h (resizeRefusals (not t, HeapFails) ws d b z) (resizedTo ws d b z)
+      by ws t d = judged h (resizeRefusals (not t, HeapFails) d b z) (resizedTo ws d b z)
 
       go : (t : Bool) → passes us h ≡ t → by us (passes us h) (asRead us h) ≡ by vs (passes us h) (asRead us h)
       go true q = rw (resized-same (passes-iff us h .0 q) b (need overhead z))

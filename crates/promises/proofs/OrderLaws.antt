@@ -15,7 +15,7 @@ use Rattle.lists.proofs.ListsLaws.{Decides, number-is, both, for-some, meaning,
 use Rattle.record.specs.declared.answers.Answer.{Answer}
 use Rattle.record.specs.declared.answers.Answer.the-variants.{Done, Refused}
 use Rattle.record.specs.declared.answers.Refusal.{Refusal}
-use Rattle.record.specs.declared.answers.Refusal.the-variants.{RegionLength, BadTable, DonorSize, HeapFails, BlockSize, NotLive, NoRoom, NotThere, NoBinTakes, RunSize, BeyondMending}
+use Rattle.record.specs.declared.answers.Refusal.the-variants.{RegionLength, BadTable, DonorSize, HeapFails, BlockSize, NotLive, NoRoom, NotThere, RunSize, BeyondMending}
 use Rattle.record.specs.declared.heap.Heap.{Heap}
 use Rattle.record.specs.Heap.{empty, withMerge, withPatrol}
 use Rattle.region.specs.Words.{Store, written}
@@ -305,7 +305,7 @@ module _ (ws : List ℕ) (h : Heap) (p : Passes ws h) where
   resize-behind : (b z : ℕ) → Behind before (stateLeft ws h (resize ws h b z))
   unfolding resize
   resize-behind b z =
-      judged-behind h (resizedTo ws (asRead ws h) b z) (resizeRefusals (heapFails ws h) ws (asRead ws h) b z)
+      judged-behind h (resizedTo ws (asRead ws h) b z) (resizeRefusals (heapFails ws h) (asRead ws h) b z)
       (λ (_, (_, (l, (room, _)))). resized-behind b (not-false (isLive (asRead ws h) b) l) z room)
 
   reallocate-behind : (b z : ℕ) → Behind before (stateLeft ws h (reallocate ws h b z))
@@ -374,5 +374,4 @@ module _ (way : Way) (refuses : Refusing way) where
       none-before NotLive l a b = omega arith
       none-before NoRoom l a b = omega arith
       none-before NotThere l a b = omega arith
-      none-before NoBinTakes l a b = omega arith
       none-before BeyondMending l a b = omega arith

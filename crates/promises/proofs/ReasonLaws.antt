@@ -124,10 +124,6 @@ module _ (ws : List ℕ) (h : Heap) where
     pub outgrown-iff : (n : ℕ) → Decides (ltb (here .size) n) ((e : Entry) → HoldsBlock ws h b e → e .size < n)
     outgrown-iff n = meaning (less (here .size) n) (λ l e k. rw (one-block p b e here k here-holds) l) (λ f. f here here-holds)
 
-  -- the same, by the test for a live block
-  pub live-holds : Passes ws h → (b : ℕ) → isLive (asRead ws h) b ≡ true → HoldsBlock ws h b (blockSpot (asRead ws h) b .here)
-  live-holds p b l = here-holds p b (live-iff b .0 l)
-
   -- the chunk that a question is about
   pub there-iff : (q p : ℕ) → Decides (isThere (asRead ws h) q p) ((e : Entry) × AskedOf ws h q p e)
   unfolding asRead

@@ -18,7 +18,7 @@ use Rattle.rules.specs.Serve.{mostBytes, need, permitted}
 use Rattle.rules.specs.Calls.{Allocate, AllocateCleared, Reallocate}
 use Rattle.promises.specs.Ways.{Way, ours}
 use Rattle.promises.specs.Room.{HoldsBlock, OnlyForRoom, Room}
-use Rattle.promises.specs.Refusing.{WrongSize, NoBlock, NoPlace, Because, fails, allocateSize, clearedSize, reallocateSize, reallocateNotLive, allocateRoom, clearedRoom, reallocateRoom, allocateBin, clearedBin, reallocateNewBin, reallocateBin, orderOf, Refusing}
+use Rattle.promises.specs.Refusing.{WrongSize, NoBlock, NoPlace, Because, fails, allocateSize, clearedSize, reallocateSize, reallocateNotLive, allocateRoom, clearedRoom, reallocateRoom, orderOf, Refusing}
 use Rattle.promises.proofs.RefusingLaws.{refusing}
 use Rattle.promises.proofs.ReasonLaws.{one-block}
 
@@ -41,7 +41,6 @@ module _ (way : Way) (refuses : Refusing way) (ws : List ℕ) (h : Heap) (p : Pa
       before q l (fails s n) = n p
       before q l (allocateSize w) = not-wrong z t w
       before q l (allocateRoom w) = omega arith
-      before q l (allocateBin w) = omega arith
 
   clears : (count size : ℕ) → permitted (count * size) ≡ true → OnlyForRoom way (AllocateCleared count size) ws h (count * size)
   clears count size t = (
@@ -53,7 +52,6 @@ module _ (way : Way) (refuses : Refusing way) (ws : List ℕ) (h : Heap) (p : Pa
       before q l (fails s n) = n p
       before q l (clearedSize w) = not-wrong (count * size) t w
       before q l (clearedRoom w) = omega arith
-      before q l (clearedBin w) = omega arith
 
   -- what a reallocation refused for lack of room says
   no-place : (b z : ℕ) → way (Reallocate b z) ws h .answer ≡ Refused NoRoom → NoPlace ws h b (need overhead z)
@@ -71,8 +69,6 @@ module _ (way : Way) (refuses : Refusing way) (ws : List ℕ) (h : Heap) (p : Pa
       before q l (reallocateSize w) = not-wrong z t w
       before q l (reallocateNotLive w) = there w
       before q l (reallocateRoom w) = omega arith
-      before q l (reallocateNewBin m w) = omega arith
-      before q l (reallocateBin m w) = omega arith
 
 pub refusing-room : (way : Way) → Refusing way → Room way
 refusing-room way refuses ws h p =

@@ -8,7 +8,6 @@ pub mod Telling
 pub mod Zero
 pub mod Determined
 pub mod Refusing
-pub mod NeverNine
 pub mod Odd
 pub mod Kept
 pub mod Apart

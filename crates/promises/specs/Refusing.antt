@@ -10,7 +10,7 @@ use lib.IntN.{pos}
 use lib.ListN.{length}
 use Rattle.record.specs.declared.answers.Answer.the-variants.{Refused}
 use Rattle.record.specs.declared.answers.Refusal.{Refusal}
-use Rattle.record.specs.declared.answers.Refusal.the-variants.{RegionLength, BadTable, DonorSize, HeapFails, BlockSize, NotLive, NoRoom, NotThere, NoBinTakes, RunSize, BeyondMending}
+use Rattle.record.specs.declared.answers.Refusal.the-variants.{RegionLength, BadTable, DonorSize, HeapFails, BlockSize, NotLive, NoRoom, NotThere, RunSize, BeyondMending}
 use Rattle.record.specs.declared.heap.Heap.{Heap}
 use Rattle.record.specs.Answers.{numberOf, figures, noCounts, figuresOf}
 use Rattle.record.specs.Heap.{empty}
@@ -20,10 +20,6 @@ use Rattle.rules.specs.Kinds.{overhead, endSize}
 use Rattle.rules.specs.Check.{fewestWords, mostWords, Passes}
 use Rattle.rules.specs.Setup.{endsAndTop}
 use Rattle.rules.specs.Serve.{need, mostBytes}
-use Rattle.rules.specs.Draft.{asRead}
-use Rattle.rules.specs.Allocate.{grant}
-use Rattle.rules.specs.Free.{freeBlock, blockSpot}
-use Rattle.rules.specs.Reallocate.{resized}
 use Rattle.rules.specs.Patrol.{nextOf}
 use Rattle.rules.specs.Calls.{Call, Setup, Allocate, AllocateCleared, Free, Reallocate, SetMerge, Check, AskChunk, AskBin, Patrol}
 use Rattle.promises.specs.Ways.{Way}
@@ -123,23 +119,12 @@ pub data Because (ws : List ℕ) (h : Heap) : Call → Refusal → Type 0 where
   -- 8
   askNoChunk : {q p : ℕ} → NoQuestion 9 q ⊎ ((e : Entry) → AskedOf ws h q p e → ⊥) → Because ws h (AskChunk q p) NotThere
   askNoBin : {q i : ℕ} → NoQuestion 3 q ⊎ (h .bins ≤ i) → Because ws h (AskBin q i) NotThere
-  -- 9: a chunk was to be put, and no bin takes its size
-  allocateBin : {z : ℕ} → grant (need overhead z) (asRead ws h) .draft .noBinTakes ≡ true
-      → Because ws h (Allocate z) NoBinTakes
-  clearedBin : {count size : ℕ} → grant (need overhead (count * size)) (asRead ws h) .draft .noBinTakes ≡ true
-      → Because ws h (AllocateCleared count size) NoBinTakes
-  freeBin : {b : ℕ} → 0 < b → freeBlock b (asRead ws h) .noBinTakes ≡ true → Because ws h (Free b) NoBinTakes
-  reallocateNewBin : {b z : ℕ} → b ≡ 0 → grant (need overhead z) (asRead ws h) .draft .noBinTakes ≡ true
-      → Because ws h (Reallocate b z) NoBinTakes
-  reallocateBin : {b z : ℕ} → 0 < b
-      → resized ws (blockSpot (asRead ws h) b) (need overhead z) (asRead ws h) .draft .noBinTakes ≡ true
-      → Because ws h (Reallocate b z) NoBinTakes
   -- 10, 12
   patrolNone : {f : ℕ} → f ≡ 0 → Because ws h (Patrol f) RunSize
   patrolLost : {f : ℕ} → Lost ws (h .bytes - endSize) f (h .patrol .0) → Because ws h (Patrol f) BeyondMending
 
 -- the order of the refusals is that of their numbers, but that 10 comes first. It is the order of every call: only the questions
--- give 8, and they give no 5, 6, 7 or 9
+-- give 8, and they give no 5, 6 or 7
 abbrev pub orderOf : Refusal → ℕ
 orderOf RegionLength = 1
 orderOf BadTable = 2
@@ -149,7 +134,6 @@ orderOf BlockSize = 5
 orderOf NotLive = 6
 orderOf NoRoom = 7
 orderOf NotThere = 8
-orderOf NoBinTakes = 9
 orderOf RunSize = 0
 orderOf BeyondMending = 12
 

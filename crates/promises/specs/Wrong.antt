@@ -23,7 +23,7 @@ use Rattle.region.specs.Words.{word, store, forward, size}
 use Rattle.rules.specs.Shape.{Entry, shape}
 use Rattle.rules.specs.Kinds.{overhead, ordinaryKind, sizeOn}
 use Rattle.rules.specs.Check.{countsOf}
-use Rattle.rules.specs.Draft.{Draft, asRead, nowUses, putBetween, putInto, relink, settle}
+use Rattle.rules.specs.Draft.{Draft, asRead, nowUses, putBetween, putInto, onBin, relink, settle}
 use Rattle.rules.specs.Serve.{need, permitted, fromBin, ownBin, largerBin, tryDonor, tryTop, inOrder, firstOf, nowhere}
 use Rattle.rules.specs.Cut.{grantFrom}
 use Rattle.rules.specs.Join.{joining, leaveBins, swallowing}
@@ -246,15 +246,14 @@ donorForSmall =
 abbrev Stopping : Type 0
 Stopping = List Entry → Entry → ℕ → Bool
 
-abbrev putBy : Stopping → Entry → Binned → Draft → Draft
-putBy stops e (Bin i) d =
+abbrev putBy : Stopping → Entry → ℕ → Draft → Draft
+putBy stops e i d =
     let cs = d .lists i in
     cond (ltb i (smallBins (tableOf (d .heap)))) (putInto i e d)
     (putBetween i (upTo (stops (d .chain) e) cs) (e .place) (onFrom (stops (d .chain) e) cs) d)
-putBy stops e NoBin d = d
 
 abbrev settleBy : Stopping → Kind → Entry → Draft → Draft
-settleBy stops k e d = cond (ordinaryKind k) (putBy stops e (binOf (tableOf (d .heap)) (e .size)) d) (settle k e d)
+settleBy stops k e d = cond (ordinaryKind k) (onBin (putBy stops e) (binOf (tableOf (d .heap)) (e .size)) d) (settle k e d)
 
 abbrev freeBy : Stopping → ℕ → Draft → Draft
 freeBy stops b d =

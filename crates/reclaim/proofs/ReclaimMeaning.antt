@@ -23,7 +23,6 @@ use Rattle.release.specs.Give.{givenUpM}
 use Rattle.release.proofs.GiveMeaning.{give-up-is}
 use Rattle.replies.specs.Replies.{changeM, left, recorded}
 use Rattle.replies.proofs.ChangeLaws.{change-ruled}
-use Rattle.drafts.proofs.ReleaseKept.{free-kept}
 use Rattle.reclaim.specs.Reclaim.{reclaimM}
 
 module _ (ws : List ℕ) (h : Heap) (q : passes ws h ≡ true) (b : ℕ) (some : b ≡ 0 → ⊥) (l : isLive (asRead ws h) b ≡ true) where
@@ -45,4 +44,4 @@ module _ (ws : List ℕ) (h : Heap) (q : passes ws h ≡ true) (b : ℕ) (some :
   reclaim-is =
       let size-is : chunkEnd here - here .place ≡ here .size = omega arith in
       ap (λ (s : State). left (Returned (changeM (chunkEnd here - here .place) 0)) (s .heap) (s .words)) (give-up-is ws h well b l)
-      ∙ rw (size-is, change-ruled (here .size) 0 small (omega arith), q, ne-eqb b 0 some, l, free-kept ws h well b l .allPut)
+      ∙ rw (size-is, change-ruled (here .size) 0 small (omega arith), q, ne-eqb b 0 some, l)

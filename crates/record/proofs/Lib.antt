@@ -1,3 +1,4 @@
+pub mod AnswersLaws
 pub mod TableLaws
 pub mod TableSteps
 pub mod HalvingLaws

@@ -7,9 +7,9 @@ use Rattle.record.specs.declared.answers.Answer.{Answer}
 use Rattle.record.specs.declared.answers.Answer.the-variants.{Done, Granted, Returned, Told, ToldNone, Counted, Refused}
 use Rattle.record.specs.declared.answers.Counts.{Counts}
 use Rattle.record.specs.declared.answers.Refusal.{Refusal}
-use Rattle.record.specs.declared.answers.Refusal.the-variants.{RegionLength, BadTable, DonorSize, HeapFails, BlockSize, NotLive, NoRoom, NotThere, NoBinTakes, RunSize, BeyondMending}
+use Rattle.record.specs.declared.answers.Refusal.the-variants.{RegionLength, BadTable, DonorSize, HeapFails, BlockSize, NotLive, NoRoom, NotThere, RunSize, BeyondMending}
 
--- as the table of document 01 and request Two of document 02 number them
+-- as the table of document 01 and request Two of document 02 number them; request Seven took 9 out, and no other number moved
 abbrev pub numberOf : Refusal → ℕ
 numberOf RegionLength = 1
 numberOf BadTable = 2
@@ -19,7 +19,6 @@ numberOf BlockSize = 5
 numberOf NotLive = 6
 numberOf NoRoom = 7
 numberOf NotThere = 8
-numberOf NoBinTakes = 9
 numberOf RunSize = 10
 numberOf BeyondMending = 12
 

@@ -14,7 +14,6 @@ pub enum Refusal {
     NotLive,
     NoRoom,
     NotThere,
-    NoBinTakes,
     RunSize,
     BeyondMending,
 }
@@ -57,7 +56,6 @@ pub fn number(refusal: Refusal) -> u32
         Refusal::NotLive => 6,
         Refusal::NoRoom => 7,
         Refusal::NotThere => 8,
-        Refusal::NoBinTakes => 9,
         Refusal::RunSize => 10,
         Refusal::BeyondMending => 12,
     }

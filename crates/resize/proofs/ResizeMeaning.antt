@@ -31,10 +31,10 @@ use Rattle.drafts.proofs.GrantedChunk.{granted-lies}
 use Rattle.release.proofs.FindLaws.{placeOf}
 use Rattle.release.proofs.GiveMeaning.{give-up-tail-is}
 use Rattle.drafts.proofs.BlockLaws.{splits}
-use Rattle.drafts.proofs.ShrinkKept.{chunk-shrinks, shrink-kept}
+use Rattle.drafts.proofs.ShrinkKept.{chunk-shrinks}
 use Rattle.replies.proofs.ChangeLaws.{change-ruled}
 use Rattle.resize.specs.Resize.{rereadM, shrinkM, movedM, moveM, resizeM}
-use Rattle.drafts.proofs.MovedLaws.{Moving, copiedOver, move-all-put}
+use Rattle.drafts.proofs.MovedLaws.{Moving, copiedOver}
 use Rattle.drafts.proofs.WantedLaws.{block-moves, block-shrinks}
 use Rattle.resize.proofs.MoveMeaning.{copy-written, move-is}
 
@@ -96,7 +96,6 @@ module _ (ws : List ℕ) (h : Heap) (q : passes ws h ≡ true) (z : ℕ) (k : pe
         q,
         k,
         l,
-        shrink-kept c .allPut,
       )
 
   -- the block moves, if something can serve
@@ -138,7 +137,7 @@ module _ (ws : List ℕ) (h : Heap) (q : passes ws h ≡ true) (z : ℕ) (k : pe
       rule-moves : resize ws h b z ≡ made (grants (e .size) (g .granted)) (freeBlock (blockOf e) after)
       unfolding resize resized
       rule-moves =
-          rw (q, k, l, lt-ltb (e .size) n less, some, move-all-put moving)
+          rw (q, k, l, lt-ltb (e .size) n less, some)
 
       moves : AsRuled
       moves = code-moves ∙ sym (ap (leftBy ws) rule-moves)

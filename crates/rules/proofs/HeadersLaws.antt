@@ -1,7 +1,6 @@
 -- Whether a heap passes, and how it is read, depends only on the headers of its chunks: the two links of every chunk
 -- and the four other words of a free one. Assumes nothing.
 use mathlib.Core.Path.{_≡_, refl, sym, ap, ap₂, _∙_, fun-ext}
-use mathlib.Core.Bool.{false}
 use mathlib.Core.List.{List, [], _∷_, List·Memᴰ·head, List·Memᴰ·tail}
 use Prim.Native.Nat.{ℕ, zero, suc, _<_}
 use native.Mathlib.Decide.{ℕ-discrete, decLt}
@@ -168,4 +167,4 @@ module _ {ws ws′ : List ℕ} {h : Heap} (p : Passes ws h) (same : (e : Entry) 
   headers-read = ap₂ read headers-shape (fun-ext headers-list)
     where
       read : List Entry → (ℕ → List ℕ) → Draft
-      read chain lists = record { heap = h; chain = chain; lists = lists; stores = []; noBinTakes = false }
+      read chain lists = record { heap = h; chain = chain; lists = lists; stores = [] }

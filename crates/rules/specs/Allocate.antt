@@ -1,10 +1,10 @@
--- Allocate and cleared allocate (document 01, "The calls"); refusals 4, 5, 7, 9.
+-- Allocate and cleared allocate (document 01, "The calls"); refusals 4, 5, 7.
 use mathlib.Core.Bool.{Bool, not}
 use mathlib.Core.List.{List, [], _∷_, map}
 use Prim.Native.Nat.{ℕ, _*_}
 use Rattle.lists.specs.Lists.{numbersFrom}
 use Rattle.record.specs.declared.answers.Refusal.{Refusal}
-use Rattle.record.specs.declared.answers.Refusal.the-variants.{BlockSize, NoRoom, NoBinTakes}
+use Rattle.record.specs.declared.answers.Refusal.the-variants.{BlockSize, NoRoom}
 use Rattle.record.specs.declared.heap.Heap.{Heap}
 use Rattle.record.specs.declared.sources.Source.{Source}
 use Rattle.region.specs.Words.{Store, put}
@@ -37,7 +37,6 @@ allocateRefusals fails d z =
     fails
     ∷ (not (permitted z), BlockSize)
     ∷ (nowhere (sourceOf n d), NoRoom)
-    ∷ (grant n d .draft .noBinTakes, NoBinTakes)
     ∷ []
 
 -- the outcome of an accepted call: the block is granted, then filled

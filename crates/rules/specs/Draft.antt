@@ -23,35 +23,18 @@ pub record Draft : Type 0 where
   pub chain : List Entry
   pub lists : ℕ → List ℕ
   pub stores : List Store
-  -- a chunk was to be put, and no bin takes its size
-  pub noBinTakes : Bool
 
 -- the draft with which a call begins: the heap as it is read, and no stores
 unfoldable pub asRead : List ℕ → Heap → Draft
-asRead ws h =
-    record { heap = h; chain = shape ws (h .bytes); lists = binList ws h; stores = []; noBinTakes = false }
+asRead ws h = record { heap = h; chain = shape ws (h .bytes); lists = binList ws h; stores = [] }
 
 -- more stores, after the others
 abbrev pub alsoWrites : List Store → Draft → Draft
-alsoWrites ss d =
-    record {
-      heap = d .heap;
-      chain = d .chain;
-      lists = d .lists;
-      stores = d .stores ++ ss;
-      noBinTakes = d .noBinTakes;
-    }
+alsoWrites ss d = record { heap = d .heap; chain = d .chain; lists = d .lists; stores = d .stores ++ ss }
 
 -- another record
 abbrev pub withHeap : Heap → Draft → Draft
-withHeap h d =
-    record {
-      heap = h;
-      chain = d .chain;
-      lists = d .lists;
-      stores = d .stores;
-      noBinTakes = d .noBinTakes;
-    }
+withHeap h d = record { heap = h; chain = d .chain; lists = d .lists; stores = d .stores }
 
 -- used bytes when a chunk in use of `before` bytes becomes one of `after`; 0 stands for no chunk
 abbrev pub nowUses : ℕ → ℕ → Draft → Draft
@@ -82,7 +65,6 @@ relist i cs ss d =
       chain = d .chain;
       lists = λ j. cond (eqb j i) cs (d .lists j);
       stores = d .stores ++ ss;
-      noBinTakes = d .noBinTakes;
     }
 
 -- the chunk at c leaves bin i: its two neighbours in the list are linked to each other
@@ -111,24 +93,19 @@ putInto i e d =
     (putBetween i [] (e .place) cs d)
     (putBetween i (upTo isLarger cs) (e .place) (onFrom isLarger cs) d)
 
--- a chunk leaves the bin that `binOf` answered, if it answered one
-abbrev pub leaves : Entry → Binned → Draft → Draft
-leaves e (Bin i) d = leave i (e .place) d
-leaves e NoBin d = d
+-- a step on the bin that `binOf` answered. The case without a bin can't be reached: the check asks for a valid table, a chunk has at least
+-- 24 bytes, and in a valid table every size from 24 on has a bin (`bin-from`, record/proofs/TableLaws.antt)
+abbrev pub onBin : (ℕ → Draft → Draft) → Binned → Draft → Draft
+onBin step (Bin i) d = step i d
+onBin step NoBin d = d
 
 -- an ordinary chunk leaves the bin of its size
 unfoldable pub leaveBin : Entry → Draft → Draft
-leaveBin e d = leaves e (binOf (tableOf (d .heap)) (e .size)) d
-
--- a chunk is put into the bin that `binOf` answered; without one the draft notes it, for refusal 9
-abbrev pub isPut : Entry → Binned → Draft → Draft
-isPut e (Bin i) d = putInto i e d
-isPut e NoBin d =
-    record { heap = d .heap; chain = d .chain; lists = d .lists; stores = d .stores; noBinTakes = true }
+leaveBin e d = onBin (λ i. leave i (e .place)) (binOf (tableOf (d .heap)) (e .size)) d
 
 -- a free chunk is put into the bin of its size
 unfoldable pub putInBin : Entry → Draft → Draft
-putInBin e d = isPut e (binOf (tableOf (d .heap)) (e .size)) d
+putInBin e d = onBin (λ i. putInto i e) (binOf (tableOf (d .heap)) (e .size)) d
 
 -- the bin links and the bin word of a chunk in no bin: all 0
 abbrev pub noBinWords : ℕ → List Store
@@ -167,7 +144,6 @@ relink low es high d =
       stores =
           d .stores ++ headers (below .place) es
           ++ put (above .place) backward (lastOr below es .place + above .flags) ∷ [];
-      noBinTakes = d .noBinTakes;
     }
 
 -- the chain at one of its chunks: what is below it, the chunk, what is above it

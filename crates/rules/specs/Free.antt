@@ -1,4 +1,4 @@
--- Free (document 01, "The calls"); refusals 4, 6, 9.
+-- Free (document 01, "The calls"); refusals 4, 6.
 use mathlib.Core.Bool.{Bool, not, cond, _&&_}
 use mathlib.Core.List.{List, [], _∷_}
 use Prim.Native.Nat.{ℕ}
@@ -6,7 +6,7 @@ use lib.Dec.{eqb}
 use Rattle.lists.specs.Lists.{any}
 use Rattle.record.specs.declared.answers.Answer.the-variants.{Returned}
 use Rattle.record.specs.declared.answers.Refusal.{Refusal}
-use Rattle.record.specs.declared.answers.Refusal.the-variants.{NotLive, NoBinTakes}
+use Rattle.record.specs.declared.answers.Refusal.the-variants.{NotLive}
 use Rattle.record.specs.declared.heap.Heap.{Heap}
 use Rattle.rules.specs.Kinds.{holdsBlock}
 use Rattle.rules.specs.Draft.{Draft, asRead, Spot, spot, nowUses}
@@ -34,11 +34,7 @@ freedFrom d b = cond (eqb b 0) d (freeBlock b d)
 
 -- the refusals in their order, behind `fails`, that of a heap that fails
 abbrev pub freeRefusals : Bool × Refusal → Draft → ℕ → Refusals
-freeRefusals fails d b =
-    fails
-    ∷ (not (eqb b 0) && not (isLive d b), NotLive)
-    ∷ (freedFrom d b .noBinTakes, NoBinTakes)
-    ∷ []
+freeRefusals fails d b = fails ∷ (not (eqb b 0) && not (isLive d b), NotLive) ∷ []
 
 -- the outcome of an accepted free: used bytes fall by the chunk's size, for block 0 by nothing
 abbrev pub freed : Draft → ℕ → Outcome

@@ -1,11 +1,11 @@
--- Reallocate (document 01, "The calls"); refusals 4, 5, 6, 7, 9.
+-- Reallocate (document 01, "The calls"); refusals 4, 5, 6, 7.
 use mathlib.Core.Bool.{Bool, not, cond, _&&_}
 use mathlib.Core.List.{List, [], _∷_, _++_, map}
 use Prim.Native.Nat.{ℕ, _+_, _-_}
 use lib.Dec.{eqb, leb, ltb}
 use Rattle.lists.specs.Lists.{numbersFrom}
 use Rattle.record.specs.declared.answers.Refusal.{Refusal}
-use Rattle.record.specs.declared.answers.Refusal.the-variants.{BlockSize, NotLive, NoRoom, NoBinTakes}
+use Rattle.record.specs.declared.answers.Refusal.the-variants.{BlockSize, NotLive, NoRoom}
 use Rattle.record.specs.declared.heap.Heap.{Heap}
 use Rattle.record.specs.Table.{least}
 use Rattle.region.specs.Words.{Store, put, word, forward}
@@ -56,14 +56,13 @@ abbrev pub resizing : List ℕ → Draft → ℕ → ℕ → Grant
 resizing ws d b z = resized ws (blockSpot d b) (need overhead z) d
 
 -- the refusals in their order, behind `fails`, that of a heap that fails
-abbrev pub resizeRefusals : Bool × Refusal → List ℕ → Draft → ℕ → ℕ → Refusals
-resizeRefusals fails ws d b z =
+abbrev pub resizeRefusals : Bool × Refusal → Draft → ℕ → ℕ → Refusals
+resizeRefusals fails d b z =
     let n = need overhead z in
     fails
     ∷ (not (permitted z), BlockSize)
     ∷ (not (isLive d b), NotLive)
     ∷ (ltb (blockSpot d b .here .size) n && nowhere (sourceOf n d), NoRoom)
-    ∷ (resizing ws d b z .draft .noBinTakes, NoBinTakes)
     ∷ []
 
 -- the outcome of an accepted call on a live block
@@ -76,7 +75,7 @@ resizedTo ws d b z =
 unfoldable pub resize : List ℕ → Heap → ℕ → ℕ → Outcome
 resize ws h b z =
     let before = asRead ws h in
-    judged h (resizeRefusals (heapFails ws h) ws before b z) (resizedTo ws before b z)
+    judged h (resizeRefusals (heapFails ws h) before b z) (resizedTo ws before b z)
 
 -- block 0: as allocate
 unfoldable pub reallocate : List ℕ → Heap → ℕ → ℕ → Outcome

@@ -26,7 +26,6 @@ use Rattle.drafts.proofs.SourceLaws.{need-grantable}
 use Rattle.grant.specs.Serve.{AfterGrant, servedM}
 use Rattle.grant.proofs.ChooseMeaning.{choose-is}
 use Rattle.grant.proofs.ServeMeaning.{handedOn, serve-is}
-use Rattle.drafts.proofs.GrantKept.{grant-kept}
 use Rattle.drafts.proofs.GrantedChunk.{granted-lies}
 use Rattle.supply.specs.Supply.{fillStores, filledM, suppliedM, supplyM, want}
 use Rattle.replies.specs.Replies.{changeM, left, recorded}
@@ -74,7 +73,7 @@ module _ (ws : List ℕ) (h : Heap) (q : passes ws h ≡ true) (z : ℕ) (k : pe
         rw (b, change-ruled 0 (granted .granted .size) (omega arith) (omega arith), filled-is clears)
 
     ruled-is : (fill : Entry → List Store) → allocateWith fill ws h z ≡ made (grants 0 (granted .granted)) (alsoWrites (fill (granted .granted)) (granted .draft))
-    ruled-is fill = rw (q, k, some, grant-kept (need-grantable z well some) .allPut)
+    ruled-is fill = rw (q, k, some)
 
     serves : (clears : Bool) → recorded h (supplyM entry (tableOf h) (summaryOf h) (want n clears))
         ≡ leftBy ws (made (grants 0 (granted .granted)) (alsoWrites (fillStores clears (granted .granted)) (granted .draft)))
