@@ -62,7 +62,8 @@
 #define KZ_ASK_LAST 3  /* none if the bin is empty */
 
 /* Refusals. Every function returns the number that it writes to word 0 of the answer. A refused call changes neither region nor
-   record, except that a refused setup writes a record of zeros. */
+   record, except that a refused setup writes a record of zeros. README.md has what to do about each. No call gives 9: the name
+   that it had, KZ_NO_BIN_TAKES, is gone, and the number is not used again. */
 #define KZ_ACCEPTED 0
 #define KZ_REGION_LENGTH 1
 #define KZ_BAD_TABLE 2
@@ -72,7 +73,6 @@
 #define KZ_NOT_LIVE 6
 #define KZ_NO_ROOM 7
 #define KZ_NOT_THERE 8
-#define KZ_NO_BIN_TAKES 9
 #define KZ_RUN_SIZE 10
 #define KZ_BEYOND_MENDING 12
 

@@ -388,7 +388,7 @@ impl Stage for Tally {
     }
 }
 
-/// The numbers that each call can give; none gives 9.
+/// The numbers that each call can give, and gives. Any other is a fault.
 const NUMBERS: [(&str, &[u32]); 10] = [
     ("setup", &[0, 1, 2, 3]),
     ("allocate", &[0, 4, 5, 7]),

@@ -26,8 +26,6 @@ pub enum Refusal {
     NoRoom = 7,
     /// There is no such chunk, live block, bin or question.
     NotThere = 8,
-    /// No bin takes the size of a chunk. A theorem (`never-nine`) says that no call gives this.
-    NoBinTakes = 9,
     /// Patrol: a run of no chunks.
     RunSize = 10,
     /// Patrol: a forward link is broken, and the backward links do not lead from the end to it.
@@ -35,7 +33,7 @@ pub enum Refusal {
 }
 
 impl Refusal {
-    const ALL: [Refusal; 11] = [
+    const ALL: [Refusal; 10] = [
         Refusal::RegionLength,
         Refusal::BadTable,
         Refusal::DonorSize,
@@ -44,7 +42,6 @@ impl Refusal {
         Refusal::NotLive,
         Refusal::NoRoom,
         Refusal::NotThere,
-        Refusal::NoBinTakes,
         Refusal::RunSize,
         Refusal::BeyondMending,
     ];
@@ -54,12 +51,14 @@ impl Refusal {
         self as u32
     }
 
-    /// The refusal with this number; `None` for 0 (accepted) and for any other number.
+    /// The refusal with this number; `None` for 0 (accepted) and for any other number. 9 is one of those: it had a name
+    /// in earlier releases, and no call ever gave it.
     ///
     /// ```
     /// use kruzhvela::Refusal;
     /// assert_eq!(Refusal::of(7), Some(Refusal::NoRoom));
     /// assert_eq!(Refusal::of(0), None);
+    /// assert_eq!(Refusal::of(9), None);
     /// ```
     pub fn of(number: u32) -> Option<Refusal> {
         Refusal::ALL.into_iter().find(|refusal| refusal.number() == number)
@@ -77,7 +76,6 @@ impl fmt::Display for Refusal {
             Refusal::NotLive => "the block is not live",
             Refusal::NoRoom => "no chunk can serve the request",
             Refusal::NotThere => "there is no such chunk, block, bin or question",
-            Refusal::NoBinTakes => "no bin takes the chunk's size",
             Refusal::RunSize => "a run of the patrol has no chunks",
             Refusal::BeyondMending => "a broken link is beyond mending",
         })

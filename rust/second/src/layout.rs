@@ -55,8 +55,8 @@ pub const RECORD_WORDS: usize = PATROL + 1;
 /// Words of an answer: the refusal number (0: accepted) and four figures.
 pub const ANSWER_WORDS: usize = 5;
 
-/// The refusals. Number 9 has no name here: a valid table begins with the least
-/// chunk size, so every free chunk has a bin.
+/// The refusals. No 9 is needed: a valid table begins with the least chunk size, so
+/// every free chunk has a bin.
 pub const REGION_LENGTH: u32 = 1;
 pub const TABLE_INVALID: u32 = 2;
 pub const DONOR_SIZE: u32 = 3;
