@@ -129,15 +129,15 @@ module _ (P : ℕ → Type 0) where
   -- a chunk leaves its bin
   pub leave-spared : (e : Entry) (d : Draft) → Spared d → Spared (leaveBin e d)
   unfolding leaveBin leave
-  leave-spared e d s =
-      on-bin-spared (λ i. leave i (e .place)) d s
-      (λ i.
-      let xs : List ℕ = upTo (eqb (e .place)) (d .lists i) in
-      let ys : List ℕ = past (eqb (e .place)) (d .lists i) in
-      let f : MemberLinks xs = λ c m. s .members i c (before-from (eqb (e .place)) (d .lists i) m) in
-      let g : MemberLinks ys = λ c m. s .members i c (after-from (eqb (e .place)) (d .lists i) m) in
-      relist-spared i (xs ++ ys) (meet xs ys) d s (links-both xs ys f g) (meet-falls xs ys f g))
-      (binOf (tableOf (d .heap)) (e .size))
+  leave-spared e d s = on-bin-spared (λ i. leave i (e .place)) d s left (binOf (tableOf (d .heap)) (e .size))
+    where
+      left : (i : ℕ) → Spared (leave i (e .place) d)
+      left i =
+          let xs : List ℕ = upTo (eqb (e .place)) (d .lists i) in
+          let ys : List ℕ = past (eqb (e .place)) (d .lists i) in
+          let f : MemberLinks xs = λ c m. s .members i c (before-from (eqb (e .place)) (d .lists i) m) in
+          let g : MemberLinks ys = λ c m. s .members i c (after-from (eqb (e .place)) (d .lists i) m) in
+          relist-spared i (xs ++ ys) (meet xs ys) d s (links-both xs ys f g) (meet-falls xs ys f g)
 
   -- chunks are linked in: P holds of their header words and of the backward link of the chunk above them
   headers-fall : (p : ℕ) (es : List Entry) → ((e : Entry) → Mem e es → HeaderWords e) → Fall P (headers p es)
@@ -179,14 +179,15 @@ module _ (P : ℕ → Type 0) where
 
     in-bin-spared : Spared (putInBin e d)
     unfolding putInBin
-    in-bin-spared =
-        on-bin-spared (λ i. putInto i e) d s
-        (λ i.
-        let xs : List ℕ = partBefore i e d in
-        let ys : List ℕ = partAfter i e d in
-        let all : MemberLinks (xs ++ ys) = rw (parts-whole i e d) at (s .members i) in
-        rw (put-between i e d) (put-spared i xs ys (λ c m. all c (Memᴰ·append-left ys m)) (λ c m. all c (Memᴰ·append-right xs m))))
-        (binOf (tableOf (d .heap)) (e .size))
+    in-bin-spared = on-bin-spared (λ i. putInto i e) d s into (binOf (tableOf (d .heap)) (e .size))
+      where
+        into : (i : ℕ) → Spared (putInto i e d)
+        into i =
+            let xs : List ℕ = partBefore i e d in
+            let ys : List ℕ = partAfter i e d in
+            let all : MemberLinks (xs ++ ys) = rw (parts-whole i e d) at (s .members i) in
+            rw (put-between i e d)
+            (put-spared i xs ys (λ c m. all c (Memᴰ·append-left ys m)) (λ c m. all c (Memᴰ·append-right xs m)))
 
     pub settle-spared : (k : Kind) → Spared (settle k e d)
     unfolding settle
