@@ -1,10 +1,11 @@
 -- What a call leaves to C, from what its steps ensure: the reply's words, and the rule's outcome. Assumes nothing.
 use mathlib.Core.Path.{_≡_, refl, sym, ap, _∙_}
+use mathlib.Core.Logic.{_≢_}
 use mathlib.Core.Bool.{Bool, true, false, cond}
 use mathlib.Core.List.{List}
 use Prim.Native.Nat.{ℕ, _<_, _≤_}
 use native.Mathlib.Omega.{arith}
-use lib.Dec.{eqb, ltb}
+use lib.Dec.{eqb, leb, ltb}
 use lib.ListN.{length, getD, set, take, drop}
 use borrow.Author.Tests.{eq-eqb, ne-eqb, le-leb, lt-leb}
 use Rattle.record.specs.declared.answers.Answer.{Answer}
@@ -14,6 +15,7 @@ use Rattle.record.specs.declared.answers.Reply.{Reply}
 use Rattle.record.specs.declared.heap.Heap.{Heap}
 use Rattle.record.specs.declared.heap.Summary.{Summary}
 use Rattle.record.specs.Heap.{places, summaryOf}
+use Rattle.record.proofs.AnswersLaws.{not-nine}
 use Rattle.rules.specs.Ask.{chunkAnswers, binAnswers, askedSpot, isThere, askRefusals, asked, askChunk, askBin}
 use Rattle.rules.specs.Draft.{asRead}
 use Rattle.rules.specs.Merge.{check}
@@ -27,7 +29,7 @@ use Rattle.patrol.specs.declared.Toured.{Toured}
 use Rattle.patrol.specs.Tours.{leaving}
 use Rattle.rules.proofs.OutcomeLaws.{judged-so}
 use Rattle.abi.specs.Flat.{mergePlace, sizesFrom, headsFrom, tailsFrom, patrolPlace, recordWords, recordIn, recordOut, answerOut, refusalOut}
-use Rattle.abi.specs.Handed.{handed, handedBy, openedBy, patrolledBy, flatAfter}
+use Rattle.abi.specs.Handed.{handed, answering, handedBy, openedBy, patrolledBy, flatAfter}
 use Rattle.abi.proofs.FlatLaws.{parts-are, part-length}
 use Rattle.abi.proofs.BackLaws.{back-and-flat}
 
@@ -41,6 +43,27 @@ refusal-first (Told value) = refl
 refusal-first ToldNone = refl
 refusal-first (Counted counts) = refl
 refusal-first (Refused refusal) = refl
+
+-- no function returns 9: `handedBy`, `openedBy` and `patrolledBy` are what the ten return
+module _ (ws rs : List ℕ) (o : Outcome) where
+  pub handed-not-nine : handedBy ws rs o .refusal ≢ 9
+  unfolding handedBy
+  handed-not-nine = by (leb (getD rs mergePlace 0) 1)
+    where
+      said : Answer
+      said = leftBy ws o .answer
+
+      by : (t : Bool) → cond t (answering said (flatAfter rs said (leftBy ws o .heap)) (leftBy ws o .words)) (answering (Refused HeapFails) rs ws) .refusal ≢ 9
+      by true = not-nine said
+      by false = not-nine (Refused HeapFails)
+
+  pub opened-not-nine : openedBy ws o .refusal ≢ 9
+  unfolding openedBy
+  opened-not-nine = not-nine (leftBy ws o .answer)
+
+  pub patrolled-not-nine : patrolledBy ws rs o .refusal ≢ 9
+  unfolding patrolledBy
+  patrolled-not-nine = not-nine (leftBy ws o .answer)
 
 -- what is handed back to the caller of a call: its number, the answer's words and the record's
 abbrev pub HandsBack : List ℕ → Answer → Heap → ℕ → List ℕ → List ℕ → Type 0
