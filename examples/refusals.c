@@ -1,5 +1,5 @@
-/* Every refusal in C: each by a call that gives it. Prints the lines of examples/refusals.stdout, a number and its name each; ends with
-   1 if a call gives a number without a name. README.md has the operator's card and says how to build an example. */
+/* Every refusal in C, each by a call that gives it. Prints the lines of examples/refusals.stdout, a number and its name each; ends
+   with 1 if a call gives a number without a name. README.md has the operator's card and says how to build an example. */
 #include <stdio.h>
 
 #include "kruzhvela.h"
@@ -13,7 +13,7 @@ static uint32_t region[WORDS], record[KZ_RECORD_WORDS], answer[KZ_ANSWER_WORDS];
     case refusal:                                                                                                              \
         return #refusal
 
-/* A refusal's name, NULL for a number that names none. Two cases with one number do not compile: so none of the names is 9. */
+/* A refusal's name, NULL for a number that names none. Two cases with one number do not compile: so none of these names is 9. */
 static const char *name_of(uint32_t number)
 {
     switch (number) {
