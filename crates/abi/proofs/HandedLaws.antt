@@ -29,7 +29,7 @@ use Rattle.patrol.specs.declared.Toured.{Toured}
 use Rattle.patrol.specs.Tours.{leaving}
 use Rattle.rules.proofs.OutcomeLaws.{judged-so}
 use Rattle.abi.specs.Flat.{mergePlace, sizesFrom, headsFrom, tailsFrom, patrolPlace, recordWords, recordIn, recordOut, answerOut, refusalOut}
-use Rattle.abi.specs.Handed.{handed, answering, handedBy, openedBy, patrolledBy, flatAfter}
+use Rattle.abi.specs.Handed.{Handed, handed, handedBy, openedBy, patrolledBy, flatAfter}
 use Rattle.abi.proofs.FlatLaws.{parts-are, part-length}
 use Rattle.abi.proofs.BackLaws.{back-and-flat}
 
@@ -44,18 +44,15 @@ refusal-first ToldNone = refl
 refusal-first (Counted counts) = refl
 refusal-first (Refused refusal) = refl
 
--- no function returns 9: `handedBy`, `openedBy` and `patrolledBy` are what the ten return
+-- no function returns 9. What each of the ten returns is `handedBy`, `openedBy` or `patrolledBy`
 module _ (ws rs : List ℕ) (o : Outcome) where
   pub handed-not-nine : handedBy ws rs o .refusal ≢ 9
   unfolding handedBy
-  handed-not-nine = by (leb (getD rs mergePlace 0) 1)
+  handed-not-nine = by (leb (getD rs mergePlace 0) 1) _ _ (not-nine (leftBy ws o .answer)) (not-nine (Refused HeapFails))
     where
-      said : Answer
-      said = leftBy ws o .answer
-
-      by : (t : Bool) → cond t (answering said (flatAfter rs said (leftBy ws o .heap)) (leftBy ws o .words)) (answering (Refused HeapFails) rs ws) .refusal ≢ 9
-      by true = not-nine said
-      by false = not-nine (Refused HeapFails)
+      by : (t : Bool) (x y : Handed) → x .refusal ≢ 9 → y .refusal ≢ 9 → cond t x y .refusal ≢ 9
+      by true x y f g = f
+      by false x y f g = g
 
   pub opened-not-nine : openedBy ws o .refusal ≢ 9
   unfolding openedBy

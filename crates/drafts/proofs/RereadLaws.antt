@@ -33,7 +33,7 @@ module _ (ss : List Store) where
   relist-behind : (i : ℕ) (cs : List ℕ) (ts : List Store) (d : Draft) → relist i cs ts (behind ss d) ≡ behind ss (relist i cs ts d)
   relist-behind i cs ts d = same-but (relist i cs ts d) _ _ (append-assoc ss (d .stores) ts)
 
-  -- a step on the bin of a size, if it is so on every bin
+  -- for a step on the bin of a size it is enough to know it for every bin
   on-bin-behind : (step : ℕ → Draft → Draft) (d : Draft) → ((i : ℕ) → step i (behind ss d) ≡ behind ss (step i d))
       → (b : Binned) → onBin step b (behind ss d) ≡ behind ss (onBin step b d)
   on-bin-behind step d f (Bin i) = f i

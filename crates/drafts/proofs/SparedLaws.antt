@@ -121,7 +121,7 @@ module _ (P : ℕ → Type 0) where
       go j c (inl k) = l c (k .1)
       go j c (inr k) = s .members j c (k .1)
 
-  -- a step on the bin of a size, if it is so on every bin
+  -- for a step on the bin of a size it is enough to know it for every bin
   on-bin-spared : (step : ℕ → Draft → Draft) (d : Draft) → Spared d → ((i : ℕ) → Spared (step i d)) → (b : Binned) → Spared (onBin step b d)
   on-bin-spared step d s f (Bin i) = f i
   on-bin-spared step d s f NoBin = s
