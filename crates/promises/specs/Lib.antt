@@ -12,7 +12,16 @@ pub mod Odd
 pub mod Kept
 pub mod Apart
 pub mod Order
+pub mod Answering
+pub mod Balanced
+pub mod Splitting
+pub mod AsFound
+pub mod Coalescing
+pub mod Looking
+pub mod Fresh
+pub mod PlacesApart
 pub mod Runs
+pub mod FreedTwice
 pub mod Rounds
 pub mod FullPatrol
 pub mod Mended

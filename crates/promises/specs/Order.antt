@@ -36,6 +36,14 @@ Behind s t =
     → (x y : Entry) → InBin t i x → InBin t i y → x .size ≡ y .size → On s x → (On s y → ⊥)
     → Before (x .place) (y .place) (listOf t i)
 
+-- In a bin of the small array it is the other way round, last in, first out: the chunk y, which the call has put, stands before the chunk x, which
+-- was on the chain before
+abbrev pub Ahead : State → State → Type 0
+Ahead s t =
+    (i : ℕ) → i < t .heap .bins → i < smallBins (tableOf (t .heap))
+    → (x y : Entry) → InBin t i x → InBin t i y → On s x → (On s y → ⊥)
+    → Before (y .place) (x .place) (listOf t i)
+
 -- the promise in one state: its lists are in order, and those that any call leaves; what a call puts stands behind its equals
 pub record OrderAt (way : Way) (s : State) : Type 0 where
   pub now : InOrder s

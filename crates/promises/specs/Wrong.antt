@@ -1,33 +1,36 @@
 -- Wrong programs (document 01, "How far each statement reaches"; document 02, requests One, Two, Four, Five and Six): twenty-one ways of answering that
 -- the promises must rule out. Each answers one call, or the questions, wrongly and the other calls by the rules.
-use mathlib.Core.Bool.{Bool, true, false, not, cond}
+use mathlib.Core.Bool.{Bool, true, false, not, cond, _&&_}
 use mathlib.Core.List.{List, [], _∷_}
 use mathlib.Core.Option.{Option, some, none}
-use Prim.Native.Nat.{ℕ, suc, _-_}
+use Prim.Native.Nat.{ℕ, suc, _+_, _-_}
 use lib.Dec.{eqb, leb, ltb}
-use lib.IntN.{pos}
+use lib.IntN.{ℤ, pos}
 use Rattle.record.specs.declared.answers.Answer.{Answer}
 use Rattle.record.specs.declared.answers.Answer.the-variants.{Done, Granted, Returned, Told, ToldNone, Counted, Refused}
 use Rattle.record.specs.declared.answers.Refusal.the-variants.{BlockSize, NoRoom}
-use Rattle.lists.specs.Lists.{lastOr, keep, upTo, onFrom, numbersFrom, gathered}
+use Rattle.lists.specs.Lists.{headOr, lastOr, butLast, keep, upTo, onFrom, numbersFrom, gathered}
 use Rattle.record.specs.declared.heap.Heap.{Heap}
 use Rattle.record.specs.declared.kinds.Kind.{Kind}
+use Rattle.record.specs.declared.kinds.Kind.the-variants.{Donor}
 use Rattle.record.specs.declared.sources.Source.{Source}
-use Rattle.record.specs.declared.sources.Source.the-variants.{Nowhere}
+use Rattle.record.specs.declared.sources.Source.the-variants.{FromBin, FromDonor, FromTop, Nowhere}
 use Rattle.record.specs.declared.table.Binned.{Binned}
 use Rattle.record.specs.declared.table.Binned.the-variants.{Bin, NoBin}
-use Rattle.record.specs.Heap.{tableOf}
-use Rattle.record.specs.Table.{small, binOf, smallBins}
+use Rattle.record.specs.Heap.{tableOf, withMerge}
+use Rattle.record.specs.Table.{least, small, binOf, smallBins}
 use Rattle.region.specs.declared.Block.{Block}
 use Rattle.region.specs.Words.{word, store, forward, size}
-use Rattle.rules.specs.Shape.{Entry, shape}
-use Rattle.rules.specs.Kinds.{overhead, ordinaryKind, sizeOn}
-use Rattle.rules.specs.Check.{countsOf}
-use Rattle.rules.specs.Draft.{Draft, asRead, nowUses, putBetween, putInto, onBin, relink, settle}
+use Rattle.rules.specs.Shape.{Entry, entry, shape}
+use Rattle.rules.specs.Kinds.{overhead, ordinaryKind, unused, outside, sizeOn}
+use Rattle.rules.specs.Check.{passes, countsOf}
+use Rattle.rules.specs.Draft.{Draft, asRead, nowUses, leave, putBetween, putInto, onBin, relink, settle}
 use Rattle.rules.specs.Serve.{need, permitted, fromBin, ownBin, largerBin, tryDonor, tryTop, inOrder, firstOf, nowhere}
-use Rattle.rules.specs.Cut.{grantFrom}
+use Rattle.rules.specs.Cut.{Grant, grantFrom}
 use Rattle.rules.specs.Join.{joining, leaveBins, swallowing}
-use Rattle.rules.specs.Free.{blockSpot, freeRefusals, freed}
+use Rattle.rules.specs.Allocate.{sourceOf, cleared, allocateWith}
+use Rattle.rules.specs.Free.{isLive, blockSpot, freeBlock, freeRefusals, freed}
+use Rattle.rules.specs.Reallocate.{resizeRefusals}
 use Rattle.rules.specs.Outcome.{judged, heapFails, unchanged, made, grants}
 use Rattle.rules.specs.Statements.{Left, leftBy}
 use Rattle.rules.specs.Calls.{Setup, Allocate, AllocateCleared, Free, Reallocate, SetMerge, Check, AskChunk, AskBin, Patrol}
@@ -37,25 +40,35 @@ use Rattle.promises.specs.Ways.{Way, ours}
 abbrev pub Doing : Type 0
 Doing = List ℕ → Heap → Left
 
--- allocate, free, the check, the questions about a chunk and about a bin, and the patrol as given, the other calls by the rules
-abbrev pub done : (ℕ → Doing) → (ℕ → Doing) → Doing → (ℕ → ℕ → Doing) → (ℕ → ℕ → Doing) → (ℕ → Doing) → Way
-done allocate free check askChunk askBin patrol (Setup table donor merge) = ours (Setup table donor merge)
-done allocate free check askChunk askBin patrol (Allocate z) = allocate z
-done allocate free check askChunk askBin patrol (AllocateCleared count size) = ours (AllocateCleared count size)
-done allocate free check askChunk askBin patrol (Free b) = free b
-done allocate free check askChunk askBin patrol (Reallocate b z) = ours (Reallocate b z)
-done allocate free check askChunk askBin patrol (SetMerge on) = ours (SetMerge on)
-done allocate free check askChunk askBin patrol Check = check
-done allocate free check askChunk askBin patrol (AskChunk q p) = askChunk q p
-done allocate free check askChunk askBin patrol (AskBin q i) = askBin q i
-done allocate free check askChunk askBin patrol (Patrol f) = patrol f
+-- each call as given, in the order of `Call`; cleared allocate by the rules
+abbrev pub done : (List ℕ → ℕ → Bool → Doing) → (ℕ → Doing) → (ℕ → Doing) → (ℕ → ℕ → Doing) → (Bool → Doing) → Doing → (ℕ → ℕ → Doing) → (ℕ → ℕ → Doing)
+    → (ℕ → Doing) → Way
+done setup allocate free reallocate setMerge check askChunk askBin patrol (Setup table donor merge) = setup table donor merge
+done setup allocate free reallocate setMerge check askChunk askBin patrol (Allocate z) = allocate z
+done setup allocate free reallocate setMerge check askChunk askBin patrol (AllocateCleared count size) = ours (AllocateCleared count size)
+done setup allocate free reallocate setMerge check askChunk askBin patrol (Free b) = free b
+done setup allocate free reallocate setMerge check askChunk askBin patrol (Reallocate b z) = reallocate b z
+done setup allocate free reallocate setMerge check askChunk askBin patrol (SetMerge on) = setMerge on
+done setup allocate free reallocate setMerge check askChunk askBin patrol Check = check
+done setup allocate free reallocate setMerge check askChunk askBin patrol (AskChunk q p) = askChunk q p
+done setup allocate free reallocate setMerge check askChunk askBin patrol (AskBin q i) = askBin q i
+done setup allocate free reallocate setMerge check askChunk askBin patrol (Patrol f) = patrol f
 
 -- the rules' own of these
+abbrev setsUp : List ℕ → ℕ → Bool → Doing
+setsUp table donor merge = ours (Setup table donor merge)
+
 abbrev allocates : ℕ → Doing
 allocates z = ours (Allocate z)
 
 abbrev frees : ℕ → Doing
 frees b = ours (Free b)
+
+abbrev reallocates : ℕ → ℕ → Doing
+reallocates b z = ours (Reallocate b z)
+
+abbrev setsMerge : Bool → Doing
+setsMerge on = ours (SetMerge on)
 
 abbrev asksChunk : ℕ → ℕ → Doing
 asksChunk q p = ours (AskChunk q p)
@@ -66,21 +79,30 @@ asksBin q i = ours (AskBin q i)
 abbrev patrols : ℕ → Doing
 patrols f = ours (Patrol f)
 
--- all by the rules, but for allocate; but for free; but for the check; but for the questions; but for the patrol
+-- all by the rules, but for the one that is named; but for the questions
+abbrev pub butSetup : (List ℕ → ℕ → Bool → Doing) → Way
+butSetup setup = done setup allocates frees reallocates setsMerge (ours Check) asksChunk asksBin patrols
+
 abbrev pub butAllocate : (ℕ → Doing) → Way
-butAllocate allocate = done allocate frees (ours Check) asksChunk asksBin patrols
+butAllocate allocate = done setsUp allocate frees reallocates setsMerge (ours Check) asksChunk asksBin patrols
 
 abbrev pub butFree : (ℕ → Doing) → Way
-butFree free = done allocates free (ours Check) asksChunk asksBin patrols
+butFree free = done setsUp allocates free reallocates setsMerge (ours Check) asksChunk asksBin patrols
+
+abbrev pub butReallocate : (ℕ → ℕ → Doing) → Way
+butReallocate reallocate = done setsUp allocates frees reallocate setsMerge (ours Check) asksChunk asksBin patrols
+
+abbrev pub butSetMerge : (Bool → Doing) → Way
+butSetMerge setMerge = done setsUp allocates frees reallocates setMerge (ours Check) asksChunk asksBin patrols
 
 abbrev pub butCheck : Doing → Way
-butCheck check = done allocates frees check asksChunk asksBin patrols
+butCheck check = done setsUp allocates frees reallocates setsMerge check asksChunk asksBin patrols
 
 abbrev pub butQuestions : (ℕ → ℕ → Doing) → (ℕ → ℕ → Doing) → Way
-butQuestions askChunk askBin = done allocates frees (ours Check) askChunk askBin patrols
+butQuestions askChunk askBin = done setsUp allocates frees reallocates setsMerge (ours Check) askChunk askBin patrols
 
 abbrev pub butPatrol : (ℕ → Doing) → Way
-butPatrol patrol = done allocates frees (ours Check) asksChunk asksBin patrol
+butPatrol patrol = done setsUp allocates frees reallocates setsMerge (ours Check) asksChunk asksBin patrol
 
 -- an answer that changes nothing
 abbrev pub merely : Answer → Doing
@@ -213,16 +235,20 @@ tried own larger order n d =
     let bin = binOf (tableOf h) n in
     firstOf (order (small (tableOf h) n) (own n d bin) (larger n d bin) (tryDonor h (d .chain) n) (tryTop h (d .chain) n))
 
-abbrev pub butTries : OfBins → OfBins → Ordering → Way
-butTries own larger order =
+-- allocate with another choice of the source, and with another cut
+abbrev butGrant : (ℕ → Draft → Source) → (Source → ℕ → Draft → Grant) → Way
+butGrant choose cuts =
     butAllocate
     (λ z ws h.
     let before = asRead ws h in
     let n = need overhead z in
-    let source = tried own larger order n before in
-    let g = grantFrom source n before in
+    let source = choose n before in
+    let g = cuts source n before in
     leftBy ws
     (judged h (heapFails ws h ∷ (not (permitted z), BlockSize) ∷ (nowhere source, NoRoom) ∷ []) (made (grants 0 (g .granted)) (g .draft))))
+
+abbrev pub butTries : OfBins → OfBins → Ordering → Way
+butTries own larger order = butGrant (tried own larger order) grantFrom
 
 abbrev pub butOrder : Ordering → Way
 butOrder = butTries firstOfOwn firstOfLarger
@@ -242,32 +268,40 @@ abbrev pub donorForSmall : Way
 donorForSmall =
     butOrder (λ little own larger donor top. cond little (inOrder little own larger donor top) (own ∷ larger ∷ top ∷ []))
 
--- free with another rule of putting: outside the small array a chunk goes before the first one for which `stops` holds. The rules' own is `larger`
-abbrev Stopping : Type 0
-Stopping = List Entry → Entry → ℕ → Bool
+-- free with another rule of putting a chunk into a bin
+abbrev Putting : Type 0
+Putting = Entry → ℕ → Draft → Draft
 
-abbrev putBy : Stopping → Entry → ℕ → Draft → Draft
-putBy stops e i d =
-    let cs = d .lists i in
-    cond (ltb i (smallBins (tableOf (d .heap)))) (putInto i e d)
-    (putBetween i (upTo (stops (d .chain) e) cs) (e .place) (onFrom (stops (d .chain) e) cs) d)
+abbrev settleBy : Putting → Kind → Entry → Draft → Draft
+settleBy puts k e d = cond (ordinaryKind k) (onBin (puts e) (binOf (tableOf (d .heap)) (e .size)) d) (settle k e d)
 
-abbrev settleBy : Stopping → Kind → Entry → Draft → Draft
-settleBy stops k e d = cond (ordinaryKind k) (onBin (putBy stops e) (binOf (tableOf (d .heap)) (e .size)) d) (settle k e d)
-
-abbrev freeBy : Stopping → ℕ → Draft → Draft
-freeBy stops b d =
+abbrev freeBy : Putting → ℕ → Draft → Draft
+freeBy puts b d =
     let s = blockSpot d b in
     let j = joining (d .heap) (s .low) (s .here) (s .high) in
     let linked = relink (j .low) (j .here ∷ []) (j .high) (leaveBins (j .leaving) d) in
-    nowUses (s .here .size) 0 (swallowing (j .here) (settleBy stops (j .becomes) (j .here) linked))
+    nowUses (s .here .size) 0 (swallowing (j .here) (settleBy puts (j .becomes) (j .here) linked))
 
-abbrev pub butPut : Stopping → Way
-butPut stops =
+-- free with another draft for a live block
+abbrev butFreed : (ℕ → Draft → Draft) → Way
+butFreed frees =
     butFree
     (λ b ws h.
     let before = asRead ws h in
-    leftBy ws (judged h (freeRefusals (heapFails ws h) before b) (made (freed before b .answer) (cond (eqb b 0) before (freeBy stops b before)))))
+    leftBy ws (judged h (freeRefusals (heapFails ws h) before b) (made (freed before b .answer) (cond (eqb b 0) before (frees b before)))))
+
+-- outside the small array a chunk goes before the first one for which `stops` holds. The rules' own is `larger`
+abbrev Stopping : Type 0
+Stopping = List Entry → Entry → ℕ → Bool
+
+abbrev pub butPut : Stopping → Way
+butPut stops =
+    butFreed
+    (freeBy
+    (λ e i d.
+    let cs = d .lists i in
+    cond (ltb i (smallBins (tableOf (d .heap)))) (putInto i e d)
+    (putBetween i (upTo (stops (d .chain) e) cs) (e .place) (onFrom (stops (d .chain) e) cs) d)))
 
 -- 16: a chunk is put before those of equal size
 abbrev pub beforeEquals : Way
@@ -300,3 +334,130 @@ largestOfLarger = butTries firstOfOwn lastOfLarger inOrder
 -- 21: the top is tried before the bins
 abbrev pub topBeforeBins : Way
 topBeforeBins = butOrder (λ little own larger donor top. top ∷ inOrder little own larger donor top)
+
+-- 22: allocate answers that it is done, and changes nothing
+abbrev pub saysDone : Way
+saysDone = butAllocate (λ z. merely Done)
+
+-- 23: allocate answers the same change each time; block, record and words are right
+abbrev changedBy : ℤ → Answer → Answer
+changedBy d Done = Done
+changedBy d (Granted block change) = Granted block d
+changedBy d (Returned change) = Returned change
+changedBy d (Told value) = Told value
+changedBy d ToldNone = ToldNone
+changedBy d (Counted counts) = Counted counts
+changedBy d (Refused refusal) = Refused refusal
+
+abbrev pub inventedChange : ℤ → Way
+inventedChange d =
+    butAllocate
+    (λ z ws h.
+    let left = allocates z ws h in
+    record { answer = changedBy d (left .answer); heap = left .heap; words = left .words })
+
+-- 24: of the top all is granted but 24 bytes
+abbrev allOfTop : Source → ℕ → Draft → Grant
+allOfTop (FromBin c) n d = grantFrom (FromBin c) n d
+allOfTop FromDonor n d = grantFrom FromDonor n d
+allOfTop FromTop n d = grantFrom FromTop (sizeOn (d .chain) (d .heap .top .0) - least) d
+allOfTop Nowhere n d = grantFrom Nowhere n d
+
+abbrev pub takesTheTop : Way
+takesTheTop = butGrant sourceOf allOfTop
+
+-- 25: an ordinary chunk is granted whole, however large it is
+abbrev wholeChunk : Source → ℕ → Draft → Grant
+wholeChunk (FromBin c) n d = grantFrom (FromBin c) (sizeOn (d .chain) (c .0)) d
+wholeChunk FromDonor n d = grantFrom FromDonor n d
+wholeChunk FromTop n d = grantFrom FromTop n d
+wholeChunk Nowhere n d = grantFrom Nowhere n d
+
+abbrev pub neverSplits : Way
+neverSplits = butGrant sourceOf wholeChunk
+
+-- 26: a block that shrinks keeps its tail
+abbrev pub keepsTheTail : Way
+keepsTheTail =
+    butReallocate
+    (λ b z ws h.
+    let before = asRead ws h in
+    let e = blockSpot before b .here in
+    cond (isLive before b && leb (need overhead z) (e .size))
+    (leftBy ws (judged h (resizeRefusals (heapFails ws h) before b z) (unchanged h (grants (e .size) e))))
+    (reallocates b z ws h))
+
+-- 27, 28: free joins nothing, or joins always, whatever the setting says
+abbrev joinsIf : Bool → Way
+joinsIf on =
+    butFree
+    (λ b ws h.
+    let left = frees b ws (withMerge h on) in
+    record { answer = left .answer; heap = withMerge (left .heap) (h .merge); words = left .words })
+
+abbrev pub neverJoins : Way
+neverJoins = joinsIf false
+
+abbrev pub alwaysJoins : Way
+alwaysJoins = joinsIf true
+
+-- 29: a freed chunk joins the donor below it, and is the donor then
+abbrev joinedToDonor : ℕ → Draft → Draft
+joinedToDonor b d =
+    let s = blockSpot d b in
+    let below = lastOr outside (s .low) in
+    let joined = entry (below .place) (below .size + s .here .size) unused in
+    cond (eqb (below .place) (d .heap .donor .0))
+    (nowUses (s .here .size) 0 (swallowing joined (settle Donor joined (relink (butLast (s .low)) (joined ∷ []) (s .high) d))))
+    (freeBlock b d)
+
+abbrev pub joinsDonorBelow : Way
+joinsDonorBelow = butFreed joinedToDonor
+
+-- 30: setup turns merging on, whatever was asked for
+abbrev pub ignoresSetting : Way
+ignoresSetting = butSetup (λ table donor merge. setsUp table donor true)
+
+-- 31: in a bin of the small array a chunk is put last
+abbrev pub smallAtTheTail : Way
+smallAtTheTail =
+    butFreed
+    (freeBy (λ e i d. cond (ltb i (smallBins (tableOf (d .heap)))) (putBetween i (d .lists i) (e .place) [] d) (putInto i e d)))
+
+-- 32: in any other bin a chunk is put first
+abbrev pub largeAtTheHead : Way
+largeAtTheHead = butPut (λ es e c. true)
+
+-- 33: plain allocate clears the block
+abbrev pub clearsUnasked : Way
+clearsUnasked = butAllocate (λ z ws h. leftBy ws (allocateWith cleared ws h z))
+
+-- 34, 35: the check, or a question about a bin, puts the first chunk of bin 0 last. The heap passes still
+abbrev turned : Draft → Draft
+turned d =
+    let c = headOr 0 (d .lists 0) in
+    let without = leave 0 c d in
+    cond (eqb c 0) d (putBetween 0 (without .lists 0) c [] without)
+
+abbrev turning : Answer → Doing
+turning a ws h = cond (passes ws h) (leftBy ws (made a (turned (asRead ws h)))) (merely a ws h)
+
+abbrev pub rewritingCheck : Way
+rewritingCheck = butCheck (λ ws h. turning (ours Check ws h .answer) ws h)
+
+abbrev pub rewritingQuestion : Way
+rewritingQuestion = butQuestions asksChunk (λ q i ws h. turning (asksBin q i ws h .answer) ws h)
+
+-- 36: the merge setting answers as it should and changes nothing
+abbrev pub idleSetting : Way
+idleSetting = butSetMerge (λ on ws h. merely (setsMerge on ws h .answer) ws h)
+
+-- 37: a double free is believed: on a heap that passes every block is accepted, and where there is none nothing changes
+abbrev pub believesTwice : Way
+believesTwice =
+    butFree (λ b ws h. cond (passes ws h && not (isLive (asRead ws h) b)) (merely (Returned (pos 0)) ws h) (frees b ws h))
+
+-- 38: free takes the place of a chunk for that of its block
+abbrev pub takesChunkForBlock : Way
+takesChunkForBlock =
+    butFree (λ b ws h. cond (isLive (asRead ws h) (b + overhead)) (frees (b + overhead) ws h) (frees b ws h))
