@@ -1,5 +1,6 @@
-/* Every refusal in C, each by a call that gives it. Prints the lines of examples/refusals.stdout, a number and its name each; ends
-   with 1 if a call gives a number without a name. README.md has the operator's card and says how to build an example. */
+/* Every refusal in C, each by a call that gives it. Prints the lines of examples/refusals.stdout: a number, its name and its
+   sentence; ends with 1 if a call gives a number without a name. docs/MANUAL.md has the operator's card (section 6), and README.md says
+   how to build an example. */
 #include <stdio.h>
 
 #include "kruzhvela.h"
@@ -7,7 +8,10 @@
 enum { WORDS = 64, BINS = 4 };
 
 static const uint32_t table[BINS] = {24, 32, 40, 128};
-static uint32_t region[WORDS], record[KZ_RECORD_WORDS], answer[KZ_ANSWER_WORDS];
+static uint32_t region[WORDS];
+static kz_record record;
+static kz_answer answer;
+static kz_counts counts;
 
 #define NAMED(refusal)                                                                                                         \
     case refusal:                                                                                                              \
@@ -38,7 +42,7 @@ static bool named = true;
 static void show(uint32_t number)
 {
     const char *name = name_of(number);
-    printf("%u %s\n", (unsigned)number, name == NULL ? "names no refusal" : name);
+    printf("%u %s: %s\n", (unsigned)number, name == NULL ? "names no refusal" : name, kz_refusal_text(number));
     named = named && name != NULL;
 }
 
@@ -46,35 +50,35 @@ static void show(uint32_t number)
 static void setups(void)
 {
     const uint32_t wrong[] = {32, 40};
-    show(kz_setup(region, 9, table, BINS, 0, true, record, answer));
-    show(kz_setup(region, WORDS, wrong, 2, 0, true, record, answer));
-    show(kz_setup(region, WORDS, table, BINS, 16, true, record, answer));
+    show(kz_setup(region, 9, table, BINS, 0, true, &record, &answer));
+    show(kz_setup(region, WORDS, wrong, 2, 0, true, &record, &answer));
+    show(kz_setup(region, WORDS, table, BINS, 16, true, &record, &answer));
 }
 
 /* A heap whose links do not lead up from the start, a block of 0 bytes, a double free, a block too large, and a bin too far. */
 static void calls(void)
 {
-    kz_setup(region, WORDS, table, BINS, 0, true, record, answer);
+    kz_setup(region, WORDS, table, BINS, 0, true, &record, &answer);
     uint32_t link = region[0];
     region[0] = 4;
-    show(kz_check(region, WORDS, record, answer));
+    show(kz_check(region, WORDS, &record, &counts));
     region[0] = link;
-    show(kz_allocate(region, WORDS, record, 0, answer));
-    kz_allocate(region, WORDS, record, 16, answer);
-    uint32_t block = answer[KZ_ANSWER_OFFSET];
-    kz_free(region, WORDS, record, block, answer);
-    show(kz_free(region, WORDS, record, block, answer));
-    show(kz_allocate(region, WORDS, record, 4 * WORDS, answer));
-    show(kz_ask_bin(region, WORDS, record, KZ_ASK_COUNT, BINS, answer));
+    show(kz_allocate(region, WORDS, &record, 0, &answer));
+    kz_allocate(region, WORDS, &record, 16, &answer);
+    uint32_t block = answer.offset;
+    kz_free(region, WORDS, &record, block, &answer);
+    show(kz_free(region, WORDS, &record, block, &answer));
+    show(kz_allocate(region, WORDS, &record, 4 * WORDS, &answer));
+    show(kz_ask_bin(region, WORDS, &record, KZ_ASK_COUNT, BINS, &answer));
 }
 
 /* A run of no chunks, and one that meets a broken link with no way back to it from the end. */
 static void patrols(void)
 {
-    show(kz_patrol(region, WORDS, record, 0, answer));
+    show(kz_patrol(region, WORDS, &record, 0, &answer));
     region[0] = 4;
     region[WORDS - 1] = 4 * WORDS;
-    show(kz_patrol(region, WORDS, record, 1, answer));
+    show(kz_patrol(region, WORDS, &record, 1, &answer));
 }
 
 int main(void)

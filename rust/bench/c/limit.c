@@ -27,10 +27,10 @@ static inline uint32_t word(const uint32_t *words, uint32_t chunk, uint32_t numb
 
 /* Both loops go to their end, so that the compiler can test several places at a time. A bin count of 0 fails too: then the first
    size would have to be 0. */
-static bool table_valid(const uint32_t *record)
+static bool table_valid(const kz_record *record)
 {
-    const uint32_t *sizes = record + KZ_RECORD_SIZES, *heads = record + KZ_RECORD_HEADS, *tails = record + KZ_RECORD_TAILS;
-    uint32_t bins = record[KZ_RECORD_BINS], wrong = 0;
+    const uint32_t *sizes = record->sizes, *heads = record->heads, *tails = record->tails;
+    uint32_t bins = record->bins, wrong = 0;
     if (bins > KZ_MOST_BINS || sizes[0] != LEAST_CHUNK)
         return false;
     for (uint32_t i = 1; i < bins; i++)
@@ -81,10 +81,10 @@ static inline bool is_reserved(const uint32_t *words, uint32_t at, uint32_t befo
 
 /* Goes along the chain from one known place to the next: the patrol's, the donor, the top. So no chunk between them has to be
    compared with these. */
-static bool walk_chain(const uint32_t *words, const uint32_t *record, uint32_t *marks, Walk *walked)
+static bool walk_chain(const uint32_t *words, const kz_record *record, uint32_t *marks, Walk *walked)
 {
-    uint32_t end = record[KZ_RECORD_BYTES] - HEADER_BYTES, donor = record[KZ_RECORD_DONOR], top = record[KZ_RECORD_TOP];
-    uint32_t patrol = record[KZ_RECORD_PATROL];
+    uint32_t end = record->bytes - HEADER_BYTES, donor = record->donor, top = record->top;
+    uint32_t patrol = record->patrol;
     bool patrol_met = patrol == 0 || patrol == donor || patrol == top || patrol == end;
     if (words[FORWARD] != HEADER_BYTES || words[BACKWARD] != IN_USE)
         return false;
@@ -121,10 +121,10 @@ static inline uint32_t number_of(uint32_t place)
    would have two members before it, or two bins, but it names one of each. So if there are as many members as ordinary chunks,
    each of these is in a list. Sizes do not go down along a list, from the bin's own size on; so only the last can be too large
    for its bin. */
-static bool walk_lists(const uint32_t *words, const uint32_t *record, const uint32_t *marks, uint32_t ordinary)
+static bool walk_lists(const uint32_t *words, const kz_record *record, const uint32_t *marks, uint32_t ordinary)
 {
-    const uint32_t *sizes = record + KZ_RECORD_SIZES, *heads = record + KZ_RECORD_HEADS, *tails = record + KZ_RECORD_TAILS;
-    uint32_t bins = record[KZ_RECORD_BINS], numbers = record[KZ_RECORD_BYTES] / ALIGNMENT, met = 0;
+    const uint32_t *sizes = record->sizes, *heads = record->heads, *tails = record->tails;
+    uint32_t bins = record->bins, numbers = record->bytes / ALIGNMENT, met = 0;
     for (uint32_t bin = 0; bin < bins; bin++) {
         if ((heads[bin] | tails[bin]) == 0)
             continue;
@@ -149,27 +149,27 @@ static bool walk_lists(const uint32_t *words, const uint32_t *record, const uint
 }
 
 /* Every chunk but start and end is in use or free, so the used bytes are what the free ones leave. */
-static bool passes(const uint32_t *words, size_t count, const uint32_t *record, Walk *walk)
+static bool passes(const uint32_t *words, size_t count, const kz_record *record, Walk *walk)
 {
     uint32_t marks[MARKS];
-    if (count < FEWEST_WORDS || count > MOST_WORDS || record[KZ_RECORD_BYTES] != count / 2 * ALIGNMENT ||
-        record[KZ_RECORD_MERGE] > 1 || !table_valid(record))
+    if (count < FEWEST_WORDS || count > MOST_WORDS || record->bytes != count / 2 * ALIGNMENT ||
+        record->merge > 1 || !table_valid(record))
         return false;
     memset(marks, 0, sizeof marks);
     return walk_chain(words, record, marks, walk) &&
-           record[KZ_RECORD_USED] == record[KZ_RECORD_BYTES] - 2 * HEADER_BYTES - walk->free &&
+           record->used == record->bytes - 2 * HEADER_BYTES - walk->free &&
            walk_lists(words, record, marks, walk->ordinary);
 }
 
-uint32_t limit_check(const uint32_t *words, size_t count, const uint32_t *record, uint32_t *answer)
+uint32_t limit_check(const uint32_t *words, size_t count, const kz_record *record, kz_counts *counts)
 {
     Walk walk;
-    memset(answer, 0, KZ_ANSWER_WORDS * sizeof *answer);
+    memset(counts, 0, sizeof *counts);
     if (!passes(words, count, record, &walk))
-        return answer[KZ_ANSWER_REFUSAL] = KZ_HEAP_FAILS;
-    answer[KZ_CHECK_CHUNKS] = walk.chunks;
-    answer[KZ_CHECK_ORDINARY] = walk.ordinary;
-    answer[KZ_CHECK_USED] = record[KZ_RECORD_USED];
-    answer[KZ_CHECK_FREE] = walk.free;
+        return counts->refusal = KZ_HEAP_FAILS;
+    counts->chunks = walk.chunks;
+    counts->ordinary = walk.ordinary;
+    counts->used = record->used;
+    counts->free = walk.free;
     return KZ_ACCEPTED;
 }

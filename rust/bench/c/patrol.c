@@ -125,24 +125,24 @@ static Run run(Heap heap, uint32_t at, uint32_t chunks)
     return end;
 }
 
-static uint32_t refused(uint32_t *answer, uint32_t number)
+static uint32_t refused(kz_answer *answer, uint32_t number)
 {
-    return answer[KZ_ANSWER_REFUSAL] = number;
+    return answer->refusal = number;
 }
 
-uint32_t limit_patrol(uint32_t *words, size_t count, uint32_t *record, uint32_t chunks, uint32_t *answer)
+uint32_t limit_patrol(uint32_t *words, size_t count, kz_record *record, uint32_t chunks, kz_answer *answer)
 {
-    uint32_t place = record[KZ_RECORD_PATROL];
-    memset(answer, 0, KZ_ANSWER_WORDS * sizeof *answer);
+    uint32_t place = record->patrol;
+    memset(answer, 0, sizeof *answer);
     if (chunks == 0)
         return refused(answer, KZ_RUN_SIZE);
-    if (count < FEWEST_WORDS || count > MOST_WORDS || record[KZ_RECORD_BYTES] != count / 2 * ALIGNMENT ||
-        place % ALIGNMENT != 0 || place >= record[KZ_RECORD_BYTES])
+    if (count < FEWEST_WORDS || count > MOST_WORDS || record->bytes != count / 2 * ALIGNMENT ||
+        place % ALIGNMENT != 0 || place >= record->bytes)
         return refused(answer, KZ_HEAP_FAILS);
-    Run end = run((Heap){words, record[KZ_RECORD_BYTES] - HEADER_BYTES}, place, chunks);
+    Run end = run((Heap){words, record->bytes - HEADER_BYTES}, place, chunks);
     if (end.beyond)
         return refused(answer, KZ_BEYOND_MENDING);
-    record[KZ_RECORD_PATROL] = end.place;
-    answer[KZ_ANSWER_VALUE] = end.ended;
+    record->patrol = end.place;
+    answer->value = end.ended;
     return KZ_ACCEPTED;
 }

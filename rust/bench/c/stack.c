@@ -1,7 +1,6 @@
-/* The stack that kz_check takes, and that kz_patrol takes for runs of a few sizes: on a whole heap, with a wrong backward link, and with
-   broken links.
-   tools/run_c native rust/bench/c/stack.c, or x86-64, prints it. A thread makes the call on a stack that was filled before; how far
-   down it was written, less what an empty function writes, is what the call took. */
+/* The stack that each call takes: the most over a random run of calls on a heap that fills and empties; and for kz_patrol what damage
+   adds to it. tools/run_c native rust/bench/c/stack.c, or x86-64, prints it. A thread makes the call on a stack that was filled before;
+   how far down it was written, less what an empty function writes, is what the call took. */
 #define _POSIX_C_SOURCE 200809L
 #include <pthread.h>
 #include <stdio.h>
@@ -9,40 +8,55 @@
 
 #include "kruzhvela.h"
 
-enum { WORDS = 16384, WORD_BYTES = 4, CHUNKS = 2500, LEAST_CHUNK = 24, STACK = 1 << 20, BELOW_THE_THREAD = 1 << 14, FILLED = 0x5A };
+enum { WORDS = 16384, WORD_BYTES = 4, LEAST_CHUNK = 24, STACK = 1 << 18, BELOW_THE_THREAD = 1 << 14, FILLED = 0x5A };
+enum { STEPS = 4000, KEPT = 256, CHUNKS = 2500, BINS = 6 };
 
-typedef uint32_t Call(uint32_t *region, size_t words, uint32_t *record, uint32_t chunks, uint32_t *answer);
-
-static uint32_t region[WORDS], sound[WORDS], record[KZ_RECORD_WORDS], answer[KZ_ANSWER_WORDS];
+static uint32_t region[WORDS], sound[WORDS];
+static kz_record record;
+static kz_answer answer;
+static kz_counts counts;
 static _Alignas(4096) unsigned char stack[STACK];
+
+typedef void Call(void);
 
 static Call *volatile called;
 static volatile size_t lowest; /* 0; the compiler must not know it, or it would make less room */
-static uint32_t run_size;
 
-static uint32_t nothing(uint32_t *a, size_t b, uint32_t *c, uint32_t d, uint32_t *e)
-{
-    (void)a, (void)b, (void)c, (void)d, (void)e;
-    return 0;
-}
+/* The arguments of the call that is measured. */
+static const uint32_t table[BINS] = {24, 32, 40, 128, 512, 2048};
+static uint32_t block, bytes, chunks, question, place;
 
-/* The check, which has no run size, in the shape of a run. */
-static uint32_t check(uint32_t *heap, size_t words, uint32_t *state, uint32_t unused, uint32_t *told)
-{
-    (void)unused;
-    return kz_check(heap, words, state, told);
-}
+static void nothing(void) {}
+static void setup(void) { kz_setup(region, WORDS, table, BINS, 512, true, &record, &answer); }
+static void allocate(void) { kz_allocate(region, WORDS, &record, bytes, &answer); }
+static void allocate_cleared(void) { kz_allocate_cleared(region, WORDS, &record, bytes, 1, &answer); }
+static void free_block(void) { kz_free(region, WORDS, &record, block, &answer); }
+static void reallocate(void) { kz_reallocate(region, WORDS, &record, block, bytes, &answer); }
+static void set_merge(void) { kz_set_merge(region, WORDS, &record, true, &answer); }
+static void check(void) { kz_check(region, WORDS, &record, &counts); }
+static void ask_chunk(void) { kz_ask_chunk(region, WORDS, &record, question, place, &answer); }
+static void ask_bin(void) { kz_ask_bin(region, WORDS, &record, question, place, &answer); }
+static void patrol(void) { kz_patrol(region, WORDS, &record, chunks, &answer); }
+
+static const struct {
+    const char *name;
+    Call *call;
+} calls[] = {{"kz_setup", setup},         {"kz_allocate", allocate},   {"kz_allocate_cleared", allocate_cleared}, {"kz_free", free_block},
+             {"kz_reallocate", reallocate}, {"kz_set_merge", set_merge}, {"kz_check", check},                       {"kz_ask_chunk", ask_chunk},
+             {"kz_ask_bin", ask_bin},       {"kz_patrol", patrol}};
+
+enum { CALLS = sizeof calls / sizeof calls[0] };
 
 /* Calls from far enough below the thread's own frames that those do not count. */
 static void *thread(void *unused)
 {
     volatile unsigned char room[BELOW_THE_THREAD];
     room[lowest] = 0;
-    called(region, WORDS, record, run_size, answer);
+    called();
     return room[lowest] == 0 ? unused : NULL;
 }
 
-/* Bytes from the stack's top down to the lowest that the call wrote; 0 if there is no thread. */
+/* Bytes from the stack's top down to the lowest that the call wrote, in words of 8; 0 if there is no thread. */
 static size_t depth(Call *call)
 {
     pthread_attr_t attributes;
@@ -56,7 +70,57 @@ static size_t depth(Call *call)
     pthread_join(id, NULL);
     while (low < sizeof stack && stack[low] == FILLED)
         low++;
-    return sizeof stack - low;
+    return (sizeof stack - low + 7) / 8 * 8;
+}
+
+static uint32_t random_below(uint32_t bound)
+{
+    static uint32_t state = 1;
+    state ^= state << 13;
+    state ^= state >> 17;
+    state ^= state << 5;
+    return state % bound;
+}
+
+/* Chooses the arguments of the next call, and which one it is: mostly those that grant or free. */
+static unsigned choose(const uint32_t *blocks)
+{
+    unsigned which = random_below(3) == 0 ? 5 + random_below(5) : 1 + random_below(4);
+    bytes = 1 + random_below(random_below(8) == 0 ? 4096 : 200);
+    block = blocks[random_below(KEPT)];
+    chunks = 1 + random_below(64);
+    question = 1 + random_below(which == 8 ? 3 : 9);
+    place = which == 8 ? random_below(BINS) : question == KZ_ASK_CHUNK ? block : block - 8;
+    return which;
+}
+
+/* Keeps the blocks that are live: a granted one in place of the one that moved, or of any that is not live. */
+static void keep(unsigned which, uint32_t *blocks)
+{
+    if (answer.refusal != KZ_ACCEPTED || which < 1 || which > 4)
+        return;
+    for (uint32_t i = 0; i < KEPT; i++)
+        if (blocks[i] == (which <= 2 ? 0 : block)) {
+            blocks[i] = answer.offset;
+            return;
+        }
+}
+
+/* The most that each call takes in the run; its first call is setup. */
+static void whole_heaps(void)
+{
+    static uint32_t blocks[KEPT];
+    size_t most[CALLS] = {0}, empty = depth(nothing);
+    for (uint32_t step = 0; step < STEPS; step++) {
+        unsigned which = step == 0 ? 0 : choose(blocks);
+        size_t taken = depth(calls[which].call) - empty;
+        most[which] = taken > most[which] ? taken : most[which];
+        keep(which, blocks);
+    }
+    check();
+    printf("%u calls, at the end %u chunks, %u of them free and in bins\n", (unsigned)STEPS, (unsigned)counts.chunks, (unsigned)counts.ordinary);
+    for (unsigned i = 0; i < CALLS; i++)
+        printf("%s: %zu bytes of stack\n", calls[i].name, most[i]);
 }
 
 /* Makes the backward link of the second block's chunk name no chunk, its flags kept. */
@@ -77,53 +141,58 @@ static void break_links(uint32_t broken)
 }
 
 /* Bytes of stack of a run from the start on a damaged heap. It must be accepted and leave the sound heap's words. */
-static size_t run(uint32_t chunks, const char *damage)
+static size_t run(uint32_t length, const char *damage)
 {
-    run_size = chunks;
-    record[KZ_RECORD_PATROL] = 0;
-    size_t bytes = depth(kz_patrol) - depth(nothing);
-    bool mended = answer[KZ_ANSWER_REFUSAL] == KZ_ACCEPTED && memcmp(region, sound, sizeof region) == 0;
-    printf("a run of %u chunks, %s: %zu bytes of stack%s\n", (unsigned)chunks, damage, bytes, mended ? "" : ", and NOT mended");
-    return bytes;
+    chunks = length;
+    record.patrol = 0;
+    size_t taken = depth(patrol) - depth(nothing);
+    bool mended = answer.refusal == KZ_ACCEPTED && memcmp(region, sound, sizeof region) == 0;
+    printf("a run of %u chunks, %s: %zu bytes of stack%s\n", (unsigned)length, damage, taken, mended ? "" : ", and NOT mended");
+    return taken;
 }
 
-static size_t taken(uint32_t chunks, uint32_t broken)
+static size_t with_broken(uint32_t length, uint32_t broken)
 {
     char damage[32];
     snprintf(damage, sizeof damage, "%u broken links", (unsigned)broken);
     break_links(broken);
-    return run(chunks, damage);
+    return run(length, damage);
 }
 
 /* Blocks of the least size, all in use; false if one is refused. */
 static bool fill(void)
 {
-    const uint32_t table[] = {24};
-    kz_setup(region, WORDS, table, 1, 0, true, record, answer);
+    kz_setup(region, WORDS, table, 1, 0, true, &record, &answer);
     for (uint32_t i = 0; i < CHUNKS; i++)
-        if (kz_allocate(region, WORDS, record, 1, answer) != KZ_ACCEPTED)
+        if (kz_allocate(region, WORDS, &record, 1, &answer) != KZ_ACCEPTED)
             return false;
     memcpy(sound, region, sizeof region);
     return true;
 }
 
-int main(void)
+static void damaged_heaps(void)
 {
-    if (!fill())
-        return 1;
-    /* once before, so that what the calls need of libc is bound */
-    kz_patrol(region, WORDS, record, 1, answer);
-    kz_check(region, WORDS, record, answer);
-    printf("a check: %zu bytes of stack\n", depth(check) - depth(nothing));
-    taken(1, 0);
-    taken(16, 0);
-    taken(2000, 0);
+    with_broken(1, 0);
+    with_broken(16, 0);
+    with_broken(2000, 0);
     wrong_backward_link();
     run(16, "a wrong backward link");
     wrong_backward_link();
     run(2000, "a wrong backward link");
-    taken(2000, 1);
-    size_t ten = taken(2000, 10), hundred = taken(2000, 100);
+    with_broken(2000, 1);
+    size_t ten = with_broken(2000, 10), hundred = with_broken(2000, 100);
     printf("for each broken link %zu bytes more\n", (hundred - ten) / 90);
+}
+
+int main(void)
+{
+    /* once before, so that what the calls need of libc is bound */
+    setup();
+    for (unsigned i = 1; i < CALLS; i++)
+        calls[i].call();
+    whole_heaps();
+    if (!fill())
+        return 1;
+    damaged_heaps();
     return 0;
 }
