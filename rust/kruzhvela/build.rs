@@ -8,11 +8,11 @@ fn main() {
         Some(directory) => PathBuf::from(directory),
         None => PathBuf::from(env!("CARGO_MANIFEST_DIR")).join("../../target/native"),
     };
-    let archive = directory.join("libabi.a");
+    let archive = directory.join("libkruzhvela.a");
     if !archive.is_file() {
         panic!("{} is missing: `bash tools/archive` writes it", archive.display());
     }
     println!("cargo:rerun-if-changed={}", archive.display());
     println!("cargo:rustc-link-search=native={}", directory.display());
-    println!("cargo:rustc-link-lib=static=abi");
+    println!("cargo:rustc-link-lib=static=kruzhvela");
 }

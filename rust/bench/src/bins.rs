@@ -43,7 +43,7 @@ fn heap(table: &[u32]) -> Kruzhvela {
 }
 
 fn check(heap: &mut Kruzhvela) {
-    black_box(flat::check(&mut heap.region, &mut heap.record));
+    black_box(flat::check(&heap.region, &heap.record));
 }
 
 /// Only plays so many steps of allocate + free with 20 strips and a table of so many sizes, with a check before each call if

@@ -128,7 +128,7 @@ const STEADY: u64 = 2_520;
 
 fn check(heap: &mut Kruzhvela) -> u64 {
     for _ in 0..STEADY {
-        black_box(flat::check(black_box(&mut heap.region), &mut heap.record));
+        black_box(flat::check(black_box(&heap.region), &heap.record));
     }
     STEADY
 }
@@ -137,7 +137,7 @@ fn check(heap: &mut Kruzhvela) -> u64 {
 fn ask(heap: &mut Kruzhvela, block: usize) -> u64 {
     let question = ChunkQuestion::ChunkOfBlock as u32;
     for _ in 0..STEADY {
-        black_box(flat::ask_chunk(black_box(&mut heap.region), &mut heap.record, question, block as u32));
+        black_box(flat::ask_chunk(black_box(&heap.region), &heap.record, question, block as u32));
     }
     STEADY
 }

@@ -47,7 +47,7 @@ pub fn heap(chunks: u32, fill: Fill) -> Kruzhvela {
 }
 
 pub fn proved(heap: &mut Kruzhvela) -> Answer {
-    flat::check(&mut heap.region, &mut heap.record)
+    flat::check(&heap.region, &heap.record)
 }
 
 pub fn by_hand(heap: &mut Kruzhvela) -> Answer {

@@ -58,7 +58,7 @@ fn station(members: usize) -> Station {
     for (_, block) in in_bin {
         heap.free(block);
     }
-    let count = flat::ask_bin(&mut heap.region, &mut heap.record, BinQuestion::Count as u32, BIN)[ANSWER_VALUE];
+    let count = flat::ask_bin(&heap.region, &heap.record, BinQuestion::Count as u32, BIN)[ANSWER_VALUE];
     assert_eq!(count as usize, members);
     Station { heap, blocks }
 }

@@ -26,7 +26,7 @@ const METHOD: &str = "\
 `cd rust && cargo run --release -p bench` (after `bash tools/archive`) writes this page, and with the word `check`, `instructions`, `patrol`, `calls`, `bins`, `room`, `fit` or `order` that part of it. Each ratio is to a peer measured in the same run. \
 Times are medians of interleaved runs: a round runs every work once, and a first round, which warms the caches, is not counted. \
 The heap, the record and the peers' arenas stay in the processor's first two caches. The proved heap is called through `kruzhvela::flat`, the functions of C: \
-each call but the check and the patrol unpacks the record from its `KZ_RECORD_WORDS` words and, the questions apart, packs it again.
+each call but the check and the patrol unpacks the record from its 103 words and, the questions apart, packs it again.
 ";
 
 fn line(command: &str, words: &[&str]) -> String {

@@ -58,7 +58,7 @@ impl Words<'_> {
         let between = |link| self.below(link) > place && self.below(link) < link;
         match link {
             _ if link > self.end() => Link::LeavesTheHeap,
-            _ if link % ALIGNMENT != 0 => Link::NoMultipleOf8,
+            _ if !link.is_multiple_of(ALIGNMENT) => Link::NoMultipleOf8,
             _ if link < HEADER_BYTES && place == 0 => Link::TooNearTheStart,
             _ if link < place + LEAST_CHUNK && place != 0 => Link::TooNear,
             _ if between(link) && self.forward(self.below(link)) == link => Link::Skips,

@@ -1,14 +1,16 @@
 //! Compares the proved heap with `second`.
 //!
 //!     compare [--seconds N | --calls N] [--seed N]    plays cases for N seconds, or until N calls are made
-//!     compare --case N [--seed N]                     plays one case again and prints each step
+//!     compare --case N --seed N                       plays one case again and prints each step
+//!
+//! Without a seed it takes a fresh one, of the clock. It prints the seed first, so that every run can be repeated.
 
 use compare::case;
 use compare::duel::Duel;
 use compare::side::proved;
 use std::env;
 use std::process::ExitCode;
-use std::time::{Duration, Instant};
+use std::time::{Duration, Instant, SystemTime, UNIX_EPOCH};
 
 struct Options {
     seed: u64,
@@ -17,8 +19,14 @@ struct Options {
     time: Duration,
 }
 
+/// A seed that no earlier run had, of ten digits or fewer.
+fn fresh_seed() -> u64 {
+    let now = SystemTime::now().duration_since(UNIX_EPOCH).unwrap_or_default();
+    (now.as_nanos() % 10_000_000_000) as u64
+}
+
 fn options() -> Result<Options, String> {
-    let mut options = Options { seed: 1, case: None, calls: u64::MAX, time: Duration::from_secs(20) };
+    let mut options = Options { seed: fresh_seed(), case: None, calls: u64::MAX, time: Duration::from_secs(20) };
     let mut words = env::args().skip(1);
     while let Some(word) = words.next() {
         let value = words.next().ok_or(format!("{word} needs a number"))?;
@@ -66,6 +74,7 @@ fn main() -> ExitCode {
             return ExitCode::from(2);
         }
     };
+    println!("seed {}", options.seed);
     let duel = match options.case {
         Some(number) => replay(number, options.seed),
         None => compare(&options),

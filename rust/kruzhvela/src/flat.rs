@@ -1,5 +1,6 @@
-//! The ten calls over flat words, as `include/kruzhvela.h` declares them. Rust's references meet the preconditions
-//! that the header states, so these functions are safe for all arguments.
+//! The ten calls over flat words, as the compiled functions take them: `include/kruzhvela.h` has the same words as
+//! structs. Rust's references meet the preconditions that the header states, so these functions are safe for all
+//! arguments.
 
 use crate::limits::MOST_BINS;
 
@@ -89,19 +90,19 @@ mod c {
             answer: *mut u32,
         ) -> u32;
         pub fn kz_set_merge(region: *mut u32, words: usize, record: *mut u32, on: bool, answer: *mut u32) -> u32;
-        pub fn kz_check(region: *mut u32, words: usize, record: *mut u32, answer: *mut u32) -> u32;
+        pub fn kz_check(region: *const u32, words: usize, record: *const u32, answer: *mut u32) -> u32;
         pub fn kz_ask_chunk(
-            region: *mut u32,
+            region: *const u32,
             words: usize,
-            record: *mut u32,
+            record: *const u32,
             question: u32,
             place: u32,
             answer: *mut u32,
         ) -> u32;
         pub fn kz_ask_bin(
-            region: *mut u32,
+            region: *const u32,
             words: usize,
-            record: *mut u32,
+            record: *const u32,
             question: u32,
             bin: u32,
             answer: *mut u32,
@@ -129,7 +130,7 @@ pub fn setup(region: &mut [u32], table: &[u32], donor: u32, merge: bool, record:
     answer
 }
 
-/// A call other than setup: region, record, the call's own arguments, answer.
+/// A call that may change region and record: these two, the call's own arguments, the answer.
 macro_rules! call {
     ($(#[$doc:meta])* $name:ident, $function:ident $(, $argument:ident: $sort:ty)*) => {
         $(#[$doc])*
@@ -138,6 +139,23 @@ macro_rules! call {
             // SAFETY: each pointer comes from a reference to the stated number of words, and these references do not overlap.
             unsafe {
                 c::$function(region.as_mut_ptr(), region.len(), record.as_mut_ptr() $(, $argument)*, answer.as_mut_ptr());
+            }
+            answer
+        }
+    };
+}
+
+/// A call that only looks: it stores nothing through the pointers to region and record. The proof says that both are
+/// unchanged when it returns; that nothing is stored is tested with both in read-only memory (`.ci/c/read_only.c`).
+macro_rules! look {
+    ($(#[$doc:meta])* $name:ident, $function:ident $(, $argument:ident: $sort:ty)*) => {
+        $(#[$doc])*
+        pub fn $name(region: &[u32], record: &Record $(, $argument: $sort)*) -> Answer {
+            let mut answer = [0; ANSWER_WORDS];
+            // SAFETY: each pointer comes from a reference to the stated number of words, and the function stores through
+            // the pointer to the answer alone.
+            unsafe {
+                c::$function(region.as_ptr(), region.len(), record.as_ptr() $(, $argument)*, answer.as_mut_ptr());
             }
             answer
         }
@@ -164,15 +182,15 @@ call!(
     /// Turns coalescing on or off.
     set_merge, kz_set_merge, on: bool
 );
-call!(
+look!(
     /// Checks the whole heap and counts.
     check, kz_check
 );
-call!(
+look!(
     /// Answers a question about a chunk.
     ask_chunk, kz_ask_chunk, question: u32, place: u32
 );
-call!(
+look!(
     /// Answers a question about a bin.
     ask_bin, kz_ask_bin, question: u32, bin: u32
 );

@@ -1,8 +1,8 @@
 //! A heap with its region and record, and the ten calls as methods.
 
-use std::error::Error;
-use std::fmt;
-use std::ops::Range;
+use core::error::Error;
+use core::fmt;
+use core::ops::Range;
 
 use crate::flat::{self, Answer, Record};
 use crate::limits::WORD_BYTES;
@@ -30,7 +30,9 @@ impl Block {
 /// A granted block, with the change in used bytes.
 #[derive(Clone, Copy, Debug, PartialEq, Eq)]
 pub struct Granted {
+    /// The block.
     pub block: Block,
+    /// The change in used bytes: the size of the block's chunk, less that of the chunk that it had before.
     pub change: i32,
 }
 
@@ -86,7 +88,9 @@ pub enum BinQuestion {
 /// A refused setup: the refusal, and the words, unchanged.
 #[derive(Debug)]
 pub struct NotSetUp<W> {
+    /// Why it was refused.
     pub refusal: Refusal,
+    /// The words, given back.
     pub words: W,
 }
 
@@ -104,6 +108,9 @@ impl<W> From<NotSetUp<W>> for Refusal {
         refused.refusal
     }
 }
+
+/// The words of two different blocks, in the order in which they were asked for.
+pub type TwoBlocks<'a> = (&'a mut [u32], &'a mut [u32]);
 
 /// A heap in words that it owns (`Vec<u32>`, `[u32; N]`) or borrows (`&mut [u32]`).
 #[derive(Clone, Debug)]
@@ -126,6 +133,14 @@ fn change(answer: Answer) -> i32 {
 
 fn granted(answer: Answer) -> Granted {
     Granted { block: Block(answer[flat::ANSWER_OFFSET]), change: change(answer) }
+}
+
+/// A block that is not there is no live block.
+fn not_live(refusal: Refusal) -> Refusal {
+    match refusal {
+        Refusal::NotThere => Refusal::NotLive,
+        other => other,
+    }
 }
 
 /// What a question tells: a value, or that there is none.
@@ -230,7 +245,7 @@ impl<W: AsRef<[u32]> + AsMut<[u32]>> Heap<W> {
     ///
     /// ```
     /// use kruzhvela::{Heap, Refusal};
-    /// let mut heap = Heap::setup(vec![0; 64], &[24], 0, true)?;
+    /// let heap = Heap::setup(vec![0; 64], &[24], 0, true)?;
     /// let counts = heap.check()?;
     /// assert_eq!((counts.chunks, counts.used, counts.free), (3, 0, 240));
     ///
@@ -239,8 +254,8 @@ impl<W: AsRef<[u32]> + AsMut<[u32]>> Heap<W> {
     /// assert_eq!(Heap::from_parts(words, record).check(), Err(Refusal::HeapFails));
     /// # Ok::<(), kruzhvela::Refusal>(())
     /// ```
-    pub fn check(&mut self) -> Result<Counts, Refusal> {
-        accepted(flat::check(self.words.as_mut(), &mut self.record)).map(|answer| Counts {
+    pub fn check(&self) -> Result<Counts, Refusal> {
+        accepted(flat::check(self.words.as_ref(), &self.record)).map(|answer| Counts {
             chunks: answer[flat::CHECK_CHUNKS],
             ordinary: answer[flat::CHECK_ORDINARY],
             used: answer[flat::CHECK_USED],
@@ -272,8 +287,8 @@ impl<W: AsRef<[u32]> + AsMut<[u32]>> Heap<W> {
     /// assert_eq!(chunks, [0, 8, 32, 248]);
     /// # Ok::<(), kruzhvela::Refusal>(())
     /// ```
-    pub fn ask_chunk(&mut self, question: ChunkQuestion, offset: u32) -> Result<Option<u32>, Refusal> {
-        accepted(flat::ask_chunk(self.words.as_mut(), &mut self.record, question as u32, offset)).map(told)
+    pub fn ask_chunk(&self, question: ChunkQuestion, offset: u32) -> Result<Option<u32>, Refusal> {
+        accepted(flat::ask_chunk(self.words.as_ref(), &self.record, question as u32, offset)).map(told)
     }
 
     /// Answers a question about a bin. `None` says that there is no such chunk.
@@ -288,8 +303,8 @@ impl<W: AsRef<[u32]> + AsMut<[u32]>> Heap<W> {
     /// assert_eq!([heap.ask_bin(Count, 1)?, heap.ask_bin(First, 1)?], [Some(0), None]);
     /// # Ok::<(), kruzhvela::Refusal>(())
     /// ```
-    pub fn ask_bin(&mut self, question: BinQuestion, bin: u32) -> Result<Option<u32>, Refusal> {
-        accepted(flat::ask_bin(self.words.as_mut(), &mut self.record, question as u32, bin)).map(told)
+    pub fn ask_bin(&self, question: BinQuestion, bin: u32) -> Result<Option<u32>, Refusal> {
+        accepted(flat::ask_bin(self.words.as_ref(), &self.record, question as u32, bin)).map(told)
     }
 
     /// One run of the patrol: handles `chunks` chunks going up from the patrol's place, and returns whether the end chunk
@@ -350,18 +365,66 @@ impl<W: AsRef<[u32]> + AsMut<[u32]>> Heap<W> {
     }
 
     /// The words of a live block, up to its chunk's end: at least the bytes that were asked for.
+    ///
+    /// Costs two questions, each of which checks the whole heap first: ask once for a block, not for each word.
+    ///
+    /// ```
+    /// use kruzhvela::{Heap, Refusal};
+    /// let mut heap = Heap::setup(vec![0; 64], &[24, 64], 0, true)?;
+    /// let strip = heap.allocate(10)?.block;
+    /// heap.words_of(strip)?.fill(7);
+    /// assert_eq!(heap.words(strip)?, [7; 4]); // 10 bytes need a chunk of 24: four words behind its links
+    /// heap.free(strip)?;
+    /// assert_eq!(heap.words_of(strip), Err(Refusal::NotLive));
+    /// # Ok::<(), kruzhvela::Refusal>(())
+    /// ```
     pub fn words_of(&mut self, block: Block) -> Result<&mut [u32], Refusal> {
         let place = self.range_of(block)?;
         Ok(&mut self.words.as_mut()[place])
     }
 
+    /// The words of a live block, to read. Costs what [`words_of`](Heap::words_of) does.
+    pub fn words(&self, block: Block) -> Result<&[u32], Refusal> {
+        let place = self.range_of(block)?;
+        Ok(&self.words.as_ref()[place])
+    }
+
+    /// The words of two live blocks at once, to copy from one to the other, say. `None` if both are the same block. Costs
+    /// four questions.
+    ///
+    /// ```
+    /// use kruzhvela::Heap;
+    /// let mut heap = Heap::setup(vec![0; 64], &[24, 64], 0, true)?;
+    /// let (first, second) = (heap.allocate_cleared(4, 4)?.block, heap.allocate(16)?.block);
+    /// heap.words_of(second)?.fill(9);
+    /// if let Some((to, from)) = heap.words_of_two(first, second)? {
+    ///     to.copy_from_slice(from);
+    /// }
+    /// assert_eq!(heap.words(first)?, [9; 4]);
+    /// assert!(heap.words_of_two(first, first)?.is_none());
+    /// # Ok::<(), kruzhvela::Refusal>(())
+    /// ```
+    pub fn words_of_two(&mut self, first: Block, second: Block) -> Result<Option<TwoBlocks<'_>>, Refusal> {
+        let (one, other) = (self.range_of(first)?, self.range_of(second)?);
+        if one.end <= other.start {
+            let (low, high) = self.words.as_mut().split_at_mut(other.start);
+            Ok(Some((&mut low[one], &mut high[..other.end - other.start])))
+        } else if other.end <= one.start {
+            let (low, high) = self.words.as_mut().split_at_mut(one.start);
+            Ok(Some((&mut high[..one.end - one.start], &mut low[other])))
+        } else {
+            Ok(None)
+        }
+    }
+
     /// The answer to a question that always has a value.
-    fn value_of(&mut self, question: ChunkQuestion, offset: u32) -> Result<u32, Refusal> {
+    fn value_of(&self, question: ChunkQuestion, offset: u32) -> Result<u32, Refusal> {
         Ok(self.ask_chunk(question, offset)?.expect("every chunk has a size, and every live block a chunk"))
     }
 
-    fn range_of(&mut self, block: Block) -> Result<Range<usize>, Refusal> {
-        let chunk = self.value_of(ChunkQuestion::ChunkOfBlock, block.0)?;
+    /// Which words of the region are the block's.
+    fn range_of(&self, block: Block) -> Result<Range<usize>, Refusal> {
+        let chunk = self.value_of(ChunkQuestion::ChunkOfBlock, block.0).map_err(not_live)?;
         let size = self.value_of(ChunkQuestion::Size, chunk)?;
         Ok((block.0 / WORD_BYTES) as usize..((chunk + size) / WORD_BYTES) as usize)
     }

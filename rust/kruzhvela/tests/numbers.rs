@@ -44,13 +44,33 @@ fn c_name(refusal: Refusal) -> String {
     name
 }
 
-/// The header has these names and numbers, from `KZ_ACCEPTED` to the next empty line, and no others.
+const HEADER: &str = include_str!("../../../include/kruzhvela.h");
+
+/// The header has these names and numbers, from `KZ_ACCEPTED` to the last definition that follows it, and no others.
 #[test]
 fn the_header_has_the_same_numbers() {
-    let header = include_str!("../../../include/kruzhvela.h");
-    let from = header.find("#define KZ_ACCEPTED").expect("the refusals begin with KZ_ACCEPTED");
-    let defined: Vec<&str> = header[from..].lines().take_while(|line| !line.is_empty()).collect();
+    let from = HEADER.find("#define KZ_ACCEPTED").expect("the refusals begin with KZ_ACCEPTED");
+    let defined: Vec<&str> = HEADER[from..].lines().take_while(|line| line.starts_with("#define")).collect();
     let mut expected = vec!["#define KZ_ACCEPTED 0".to_string()];
     expected.extend(NUMBERS.map(|(number, refusal)| format!("#define {} {number}", c_name(refusal))));
     assert_eq!(defined, expected);
+}
+
+/// `kz_refusal_text` has a sentence for each, and it is the one that Rust shows.
+#[test]
+fn the_header_has_the_same_sentences() {
+    let said: Vec<&str> = HEADER.lines().map(str::trim).filter(|line| line.starts_with("case KZ_")).collect();
+    let mut expected = vec!["case KZ_ACCEPTED: return \"accepted\";".to_string()];
+    expected.extend(NUMBERS.map(|(_, refusal)| format!("case {}: return \"{refusal}\";", c_name(refusal))));
+    assert_eq!(said, expected);
+}
+
+/// The header has the version of this crate, as a string and in parts.
+#[test]
+fn the_header_has_the_same_version() {
+    let version = env!("CARGO_PKG_VERSION");
+    assert!(HEADER.contains(&format!("#define KZ_VERSION \"{version}\"\n")));
+    for (name, number) in ["MAJOR", "MINOR", "PATCH"].iter().zip(version.split('.')) {
+        assert!(HEADER.contains(&format!("#define KZ_VERSION_{name} {number}\n")), "{name}");
+    }
 }

@@ -190,7 +190,7 @@ fn one_broken_forward_link_is_undone_exactly() {
 /// The document's sentence, for a link in a heap that is otherwise as these words are.
 fn is_broken(world: &World, place: u32, link: u32) -> bool {
     let least = if place == 0 { 8 } else { 24 };
-    link > world.record[0] - 8 || link % 8 != 0 || link < place + least || gives_the_sign(world, place, link)
+    link > world.record[0] - 8 || !link.is_multiple_of(8) || link < place + least || gives_the_sign(world, place, link)
 }
 
 /// The place that the link names has a backward link to a place between whose own forward link names it.
@@ -212,7 +212,7 @@ fn damage_links_and_sizes(sound: &World, dice: &mut Dice) -> World {
         if flags == 0 && dice.one_in(3) {
             set(&mut world, place + SIZE, dice.word(bytes));
         }
-        if at > 0 && sound.word(places[at - 1] + BACKWARD) % 8 == 0 && dice.one_in(10) {
+        if at > 0 && sound.word(places[at - 1] + BACKWARD).is_multiple_of(8) && dice.one_in(10) {
             set(&mut world, places[at - 1] + SIZE, place);
             set(&mut world, place + BACKWARD, places[at - 1] + SIZE + flags);
         }
@@ -463,7 +463,7 @@ fn straight(world: &World) {
     while place != end {
         let next = world.word(place);
         assert_eq!(world.word(place + BACKWARD) / 8 * 8, below);
-        assert!(next % 8 == 0 && next <= end && next >= place + if place == 0 { 8 } else { 24 });
+        assert!(next.is_multiple_of(8) && next <= end && next >= place + if place == 0 { 8 } else { 24 });
         assert!(place == 0 || world.word(place + BACKWARD) & 1 == 1 || world.word(place + SIZE) == next - place);
         (below, place) = (place, next);
     }

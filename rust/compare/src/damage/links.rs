@@ -33,7 +33,7 @@ impl Victim<'_> {
 
     /// The backward link names another place; the flags stay.
     fn backward(&self, place: u32, below: u32) -> Action {
-        header(place, BACKWARD, below / ALIGNMENT * ALIGNMENT | self.word(place, BACKWARD) % ALIGNMENT)
+        header(place, BACKWARD, (below / ALIGNMENT * ALIGNMENT) | (self.word(place, BACKWARD) % ALIGNMENT))
     }
 
     fn aligned_place(&self, random: &mut Random) -> u32 {
