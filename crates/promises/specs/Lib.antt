@@ -17,7 +17,9 @@ pub mod Balanced
 pub mod Splitting
 pub mod AsFound
 pub mod Coalescing
+pub mod Moves
 pub mod Looking
+pub mod Fields
 pub mod Fresh
 pub mod PlacesApart
 pub mod Runs

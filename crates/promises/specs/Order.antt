@@ -44,6 +44,13 @@ Ahead s t =
     → (x y : Entry) → InBin t i x → InBin t i y → On s x → (On s y → ⊥)
     → Before (y .place) (x .place) (listOf t i)
 
+-- Two chunks that were in the list of bin i before, and are still, keep their order
+abbrev pub Steady : State → State → Type 0
+Steady s t =
+    (i : ℕ) → i < t .heap .bins
+    → (x y : Entry) → InBin t i x → InBin t i y → On s x → On s y → Before (x .place) (y .place) (listOf s i)
+    → Before (x .place) (y .place) (listOf t i)
+
 -- the promise in one state: its lists are in order, and those that any call leaves; what a call puts stands behind its equals
 pub record OrderAt (way : Way) (s : State) : Type 0 where
   pub now : InOrder s

@@ -2,15 +2,17 @@
 -- gets the lowest n bytes of its chunk, or all of it where fewer than 24 would be left, and no other chunk of the chain changes; no block that is granted
 -- or resized has a chunk of n + 24 bytes or more.
 use mathlib.Core.Path.{_≡_}
+use mathlib.Core.Logic.{_≢_}
 use mathlib.Core.List.{List, [], _∷_, _++_}
 use Prim.Native.Nat.{ℕ, _+_, _*_, _-_, _≤_, _<_}
 use lib.IntN.{ℤ}
 use Rattle.record.specs.declared.answers.Answer.the-variants.{Granted}
 use Rattle.record.specs.declared.heap.Heap.{Heap}
+use Rattle.record.specs.declared.kinds.Kind.the-variants.{Donor, Top}
 use Rattle.record.specs.Table.{least}
 use Rattle.region.specs.declared.Block.{Block}
 use Rattle.rules.specs.Shape.{Entry, entry, shape}
-use Rattle.rules.specs.Kinds.{overhead, used, unused}
+use Rattle.rules.specs.Kinds.{kindOf, overhead, used, unused}
 use Rattle.rules.specs.Check.{Passes}
 use Rattle.rules.specs.Serve.{need}
 use Rattle.rules.specs.Statements.{Left}
@@ -39,6 +41,13 @@ chainLeft left = shape (left .words) (left .heap .bytes)
 pub record SplitAs (n : ℕ) (low : List Entry) (from : Entry) (high after : List Entry) : Type 0 where
   pub split : n + least ≤ from .size → after ≡ low ++ entry (from .place) n used ∷ entry (from .place + n) (from .size - n) unused ∷ high
   pub whole : from .size < n + least → after ≡ low ++ entry (from .place) (from .size) used ∷ high
+
+-- what remains of the donor is the donor, and what remains of the top the top; a block from elsewhere leaves both as they are
+pub record PostsAs (h : Heap) (n : ℕ) (from : Entry) (after : Heap) : Type 0 where
+  pub newDonor : kindOf h from ≡ Donor → after .donor .0 ≡ from .place + n
+  pub sameDonor : kindOf h from ≢ Donor → after .donor .0 ≡ h .donor .0
+  pub newTop : kindOf h from ≡ Top → after .top .0 ≡ from .place + n
+  pub sameTop : kindOf h from ≢ Top → after .top .0 ≡ h .top .0
 
 -- the promise on one heap
 pub record SplittingAt (way : Way) (ws : List ℕ) (h : Heap) : Type 0 where

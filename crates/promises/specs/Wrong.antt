@@ -1,5 +1,5 @@
--- Wrong programs (document 01, "How far each statement reaches"; document 02, requests One, Two, Four, Five and Six): twenty-one ways of answering that
--- the promises must rule out. Each answers one call, or the questions, wrongly and the other calls by the rules.
+-- Wrong programs (manual 7; document 01, "How far each statement reaches"; document 02, requests One, Two, Four, Five and Six): forty-three ways of
+-- answering that the promises must rule out. Each answers one call, or the questions, wrongly and the other calls by the rules.
 use mathlib.Core.Bool.{Bool, true, false, not, cond, _&&_}
 use mathlib.Core.List.{List, [], _∷_}
 use mathlib.Core.Option.{Option, some, none}
@@ -12,21 +12,21 @@ use Rattle.record.specs.declared.answers.Refusal.the-variants.{BlockSize, NoRoo
 use Rattle.lists.specs.Lists.{headOr, lastOr, butLast, keep, upTo, onFrom, numbersFrom, gathered}
 use Rattle.record.specs.declared.heap.Heap.{Heap}
 use Rattle.record.specs.declared.kinds.Kind.{Kind}
-use Rattle.record.specs.declared.kinds.Kind.the-variants.{Donor}
+use Rattle.record.specs.declared.kinds.Kind.the-variants.{Ordinary, Donor}
 use Rattle.record.specs.declared.sources.Source.{Source}
 use Rattle.record.specs.declared.sources.Source.the-variants.{FromBin, FromDonor, FromTop, Nowhere}
 use Rattle.record.specs.declared.table.Binned.{Binned}
 use Rattle.record.specs.declared.table.Binned.the-variants.{Bin, NoBin}
-use Rattle.record.specs.Heap.{tableOf, withMerge}
+use Rattle.record.specs.Heap.{tableOf, withDonor, withMerge, withPatrol}
 use Rattle.record.specs.Table.{least, small, binOf, smallBins}
 use Rattle.region.specs.declared.Block.{Block}
 use Rattle.region.specs.Words.{word, store, forward, size}
 use Rattle.rules.specs.Shape.{Entry, entry, shape}
-use Rattle.rules.specs.Kinds.{overhead, ordinaryKind, unused, outside, sizeOn}
+use Rattle.rules.specs.Kinds.{overhead, ordinaryKind, unused, isAt, outside, sizeOn}
 use Rattle.rules.specs.Check.{passes, countsOf}
-use Rattle.rules.specs.Draft.{Draft, asRead, nowUses, leave, putBetween, putInto, onBin, relink, settle}
+use Rattle.rules.specs.Draft.{Draft, asRead, withHeap, nowUses, leave, putBetween, putInto, onBin, relink, settle, spot}
 use Rattle.rules.specs.Serve.{need, permitted, fromBin, ownBin, largerBin, tryDonor, tryTop, inOrder, firstOf, nowhere}
-use Rattle.rules.specs.Cut.{Grant, grantFrom}
+use Rattle.rules.specs.Cut.{Grant, cut, chunksOf, grantFrom}
 use Rattle.rules.specs.Join.{joining, leaveBins, swallowing}
 use Rattle.rules.specs.Allocate.{sourceOf, cleared, allocateWith}
 use Rattle.rules.specs.Free.{isLive, blockSpot, freeBlock, freeRefusals, freed}
@@ -461,3 +461,48 @@ believesTwice =
 abbrev pub takesChunkForBlock : Way
 takesChunkForBlock =
     butFree (λ b ws h. cond (isLive (asRead ws h) (b + overhead)) (frees (b + overhead) ws h) (frees b ws h))
+
+-- 39: free puts the first chunk of bin 0 last before it frees: two chunks of that bin change their order
+abbrev pub turnsABin : Way
+turnsABin = butFreed (λ b d. freeBlock b (turned d))
+
+-- 40: what remains of the donor goes into a bin, and there is no donor any more
+abbrev donorOnce : Source → ℕ → Draft → Grant
+donorOnce (FromBin c) n d = grantFrom (FromBin c) n d
+donorOnce FromDonor n d =
+    let s = spot (isAt (d .heap .donor .0)) (d .chain) in
+    let parts = cut (s .here) 0 n in
+    let linked = relink (s .low) (chunksOf parts) (s .high) d in
+    record {
+      granted = parts .granted;
+      draft = nowUses 0 (parts .granted .size) (settle Ordinary (parts .above) (withHeap (withDonor (linked .heap) 0) linked));
+    }
+donorOnce FromTop n d = grantFrom FromTop n d
+donorOnce Nowhere n d = grantFrom Nowhere n d
+
+abbrev pub givesUpTheDonor : Way
+givesUpTheDonor = butGrant sourceOf donorOnce
+
+-- 41: allocate turns merging off
+abbrev pub turnsMergingOff : Way
+turnsMergingOff =
+    butAllocate
+    (λ z ws h.
+    let left = allocates z ws h in
+    record { answer = left .answer; heap = withMerge (left .heap) false; words = left .words })
+
+-- 42: free brings the patrol back to the start
+abbrev pub forgetsThePlace : Way
+forgetsThePlace =
+    butFree
+    (λ b ws h.
+    let left = frees b ws h in
+    record { answer = left .answer; heap = withPatrol (left .heap) 0; words = left .words })
+
+-- 43: a block that is reallocated moves as if merging were off: its old chunk joins nothing
+abbrev pub movesUnjoined : Way
+movesUnjoined =
+    butReallocate
+    (λ b z ws h.
+    let left = reallocates b z ws (withMerge h false) in
+    record { answer = left .answer; heap = withMerge (left .heap) (h .merge); words = left .words })
