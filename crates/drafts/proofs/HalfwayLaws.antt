@@ -15,7 +15,7 @@ use Rattle.lists.proofs.SplitLaws.{outer-in}
 use Rattle.record.specs.declared.heap.Heap.{Heap}
 use Rattle.record.specs.declared.table.Binned.the-variants.{Bin}
 use Rattle.record.specs.Heap.{places, tableOf, withEnds, withDonor, withTop, withUsed, withPatrol}
-use Rattle.record.specs.Table.{binOf, smallBins}
+use Rattle.record.specs.Table.{binOf}
 use Rattle.region.specs.Words.{Store, written, nextInBin, previousInBin, bin}
 use Rattle.region.proofs.WordsLaws.{Off, off, length-written}
 use Rattle.rules.specs.Shape.{Entry, shape}
@@ -28,7 +28,7 @@ use Rattle.books.proofs.SegmentLaws.{PassBy}
 use Rattle.books.proofs.HeapBooks.{list-none}
 use Rattle.books.proofs.WayLaws.{OnWay, way-begins, way-keeps}
 use Rattle.books.specs.Books.{booksOf}
-use Rattle.drafts.proofs.QueueLaws.{Queued, Lateness, queued-same}
+use Rattle.drafts.proofs.QueueLaws.{lateIn, Queued, Lateness, queued-same}
 use Rattle.drafts.proofs.LayoutLaws.{Laid}
 use Rattle.drafts.proofs.HeaderLaws.{Headed, headed-below}
 use Rattle.drafts.proofs.LinkLaws.{linkStores, relink-written, Linking, link-headed, link-off}
@@ -94,8 +94,7 @@ pub record Halfway (ws : List ℕ) (h : Heap) (stay : List Entry) (d : Draft) : 
   pub members : (i c : ℕ) → i < h .bins → Mem c (d .lists i) → Belonging h (d .heap .donor .0) (d .heap .top .0) stay i c
   pub listed : (e : Entry) → Mem e stay → ordinary (recordMidway h d) e ≡ true → ListedIn h (d .lists) e
   pub reserved : (e : Entry) → Mem e stay → e .flags ≡ 0 → ordinary (recordMidway h d) e ≡ false → Unbinned (written ws (d .stores)) (e .place)
-  pub queue : (late : Entry → ℕ) → Lateness ws h late → (i : ℕ) → i < h .bins → smallBins (tableOf h) ≤ i
-      → Queued late (ordinary (recordMidway h d)) stay (d .lists i)
+  pub queue : (late : Entry → ℕ) → Lateness ws h late → (i : ℕ) → i < h .bins → Queued (lateIn h i late) (ordinary (recordMidway h d)) stay (d .lists i)
 
 -- a heap that passes, before the call: all chunks stay
 pub halfway-begins : (ws : List ℕ) (h : Heap) → Passes ws h → Halfway ws h (shape ws (h .bytes)) (asRead ws h)
@@ -112,7 +111,7 @@ halfway-begins ws h p =
           record { chunk = e; member = k; place = q; kind = b .0; takes = b .1 };
       listed = λ e m o. let (i, t, (l, k)) = p .binned e m o in record { bin = i; takes = t; inside = l; member = k };
       reserved = λ e m f o. go e m f o (ℕ-discrete (e .place) (h .top .0)) (ℕ-discrete (e .place) (h .donor .0));
-      queue = λ late t i l large. t .queued i l large;
+      queue = λ late t i l. t .queued i l;
     }
   where
     go : (e : Entry) → Mem e (shape ws (h .bytes)) → e .flags ≡ 0 → ordinary h e ≡ false → Dec (e .place ≡ h .top .0) → Dec (e .place ≡ h .donor .0)
@@ -150,7 +149,7 @@ halfway-others {ws} {h} {stay} {d = d} f every from =
       members = λ i c l m. let r = f .members i c l m in belongs-at r (every (r .chunk) (r .member) (r .kind));
       listed = λ e m o. listed e o (from e m);
       reserved = λ e m z o. reserved e z o (from e m);
-      queue = λ late t i l large. queued-same (f .queue late t i l large) (λ x m o. (stayed x o (from x m), o));
+      queue = λ late t i l. queued-same (f .queue late t i l) (λ x m o. (stayed x o (from x m), o));
     }
   where
     stayed : (e : Entry) → ordinary (recordMidway h d) e ≡ true → Mem e stay ⊎ Used e → Mem e stay

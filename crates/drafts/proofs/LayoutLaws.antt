@@ -17,7 +17,7 @@ use Rattle.rules.proofs.ChainLaws.{same-place}
 use Rattle.rules.proofs.OrderLaws.{size-there}
 use Rattle.rules.proofs.SpotLaws.{Between, tiled, inside}
 use Rattle.rules.proofs.NamedLaws.{free-between}
-use Rattle.rules.proofs.TiledLaws.{Tiled, tiled-cut, tiled-in, tiled-apart, tiled-few, tiled-joined, tiled-rising}
+use Rattle.rules.proofs.TiledLaws.{Tiled, tiled-cut, tiled-in, tiled-apart, tiled-eights, tiled-few, tiled-joined, tiled-rising}
 
 -- a chunk at another place than the middle one is in an outer part
 pub every-other : (low : List Entry) (e : Entry) (high : List Entry) (x : Entry) → Mem x (low ++ e ∷ [] ++ high) → x .place ≢ e .place → Mem x (low ++ high)
@@ -87,6 +87,13 @@ module _ {bytes : ℕ} {es : List Entry} (y : Layout bytes es) where
   -- each chunk has at least 8 bytes
   pub laid-few : 8 * length es ≤ bytes
   laid-few = let t = tiled-few 0 bytes es (y .tiled) (λ e m. y .chunks e m .some) in omega arith
+
+  -- if the heap bytes are a multiple of 8, so is every size
+  pub laid-eights : bytes % 8 ≡ 0 → {e : Entry} → Mem e es → e .size % 8 ≡ 0
+  laid-eights z {e} m =
+      let ends = tiled-eights 0 bytes es (y .tiled) z (λ d k. y .chunks d k .eight) m in
+      let begins = y .chunks e m .eight in
+      omega arith
 
   -- a free chunk ends below the chunks above it
   pub laid-below : {d e : Entry} → Mem d es → Mem e es → d .flags ≡ 0 → d .place < e .place → d .place + 24 ≤ e .place

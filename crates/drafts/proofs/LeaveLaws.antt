@@ -14,7 +14,6 @@ use Rattle.lists.specs.Lists.{Mem, headOr, lastOr, upTo, past}
 use Rattle.lists.proofs.SplitLaws.{split-at-member}
 use Rattle.record.specs.declared.heap.Heap.{Heap}
 use Rattle.record.specs.Heap.{tableOf, withEnds}
-use Rattle.record.specs.Table.{smallBins}
 use Rattle.region.specs.Words.{written, forward, backward, size, nextInBin, previousInBin, bin}
 use Rattle.region.proofs.WordsLaws.{Off, written-append}
 use Rattle.rules.specs.Shape.{Entry}
@@ -25,7 +24,7 @@ use Rattle.rules.proofs.KindsLaws.{ordinary-free}
 use Rattle.books.proofs.BooksLaws.{Far}
 use Rattle.books.proofs.WayLaws.{relisted, relisted-other, far-no-link, header-no-link, leave-off, way-leaves, way-left-far, way-stays, way-remains}
 use Rattle.books.specs.Books.{booksOf}
-use Rattle.drafts.proofs.QueueLaws.{Queued, Lateness, queued-without, queued-same}
+use Rattle.drafts.proofs.QueueLaws.{lateIn, Queued, Lateness, queued-without, queued-same}
 use Rattle.drafts.proofs.LayoutLaws.{Beside, Layout, laid-once, laid-beside, laid-below}
 use Rattle.drafts.proofs.HeaderLaws.{Headed, PassByHeader, headed-keeps}
 use Rattle.drafts.proofs.HalfwayLaws.{recordMidway, EndsAlone, bin-ends-set, Belonging, belongs-at, listed-at, Halfway, unbinned-keeps}
@@ -153,13 +152,13 @@ module _ {ws : List ℕ} {h : Heap} {stay : List Entry} {d : Draft} {all : List 
           let r = f .members i c l (way-stays (booksOf ws d) (d .lists) (h .bins) (f .way) own (e .place) inside there i k) in
           belongs-at r (every (r .chunk) (r .member) (λ q. omega arith))
 
-      left-queue : (late : Entry → ℕ) → Lateness ws h late → (i : ℕ) → i < h .bins → smallBins (tableOf h) ≤ i → Dec (i ≡ own)
-          → Queued late (ordinary (recordMidway h d)) stay (lists i)
-      left-queue late t i l large (yes q) =
-          rw (eq-eqb i own q)
+      left-queue : (late : Entry → ℕ) → Lateness ws h late → (i : ℕ) → i < h .bins → Dec (i ≡ own)
+          → Queued (lateIn h i late) (ordinary (recordMidway h d)) stay (lists i)
+      left-queue late t i l (yes q) =
+          rw (eq-eqb i own q, q)
           (queued-without before (e .place) after
-          (subst (Queued late (ordinary (recordMidway h d)) stay) (split-at-member there) (f .queue late t own inside (omega arith))))
-      left-queue late t i l large (no n) = rw (ne-eqb i own n) (f .queue late t i l large)
+          (subst (Queued (lateIn h own late) (ordinary (recordMidway h d)) stay) (split-at-member there) (f .queue late t own inside)))
+      left-queue late t i l (no n) = rw (ne-eqb i own n) (f .queue late t i l)
 
       pub leave-halfway : Halfway ws h rest (leaveBin e d)
       unfolding leave
@@ -178,6 +177,6 @@ module _ {ws : List ℕ} {h : Heap} {stay : List Entry} {d : Draft} {all : List 
                 listed-at r (way-remains (booksOf ws d) (d .lists) (h .bins) (f .way) own (e .place) inside there (r .bin) (others x k .1) (r .member));
             reserved = λ x k z u. rw w (still-unbinned x (others x k .0) z u);
             queue =
-                λ late t i l large.
-                queued-same (left-queue late t i l large (ℕ-discrete i own)) (λ x k u. (others x k .0, u));
+                λ late t i l.
+                queued-same (left-queue late t i l (ℕ-discrete i own)) (λ x k u. (others x k .0, u));
           })

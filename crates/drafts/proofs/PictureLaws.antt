@@ -10,8 +10,6 @@ use lib.ListN.{length}
 use Rattle.lists.specs.Lists.{Mem, Before}
 use Rattle.lists.proofs.AscendingLaws.{before-members, before-ascending}
 use Rattle.record.specs.declared.heap.Heap.{Heap}
-use Rattle.record.specs.Heap.{tableOf}
-use Rattle.record.specs.Table.{smallBins}
 use Rattle.region.specs.Words.{written}
 use Rattle.region.proofs.WordsLaws.{length-written}
 use Rattle.rules.specs.Shape.{Entry, shape, members, binList}
@@ -36,7 +34,7 @@ pub record Pictured (ws : List ℕ) (d : Draft) : Type 0 where
   pub chain : shape (written ws (d .stores)) (d .heap .bytes) ≡ d .chain
   pub lists : (i : ℕ) → binList (written ws (d .stores)) (d .heap) i ≡ d .lists i
 
--- late chunks still stand behind the others of equal size when the draft, made on the heap h, is written
+-- late chunks still stand as they should among the others of equal size when the draft, made on the heap h, is written
 abbrev pub StaysQueued : List ℕ → Heap → Draft → Type 0
 StaysQueued ws h d = (late : Entry → ℕ) → Lateness ws h late → QueuedIn late (written ws (d .stores)) (d .heap)
 
@@ -122,13 +120,13 @@ module _ {ws : List ℕ} {h : Heap} (p : Passes ws h) {es : List Entry} {d : Dra
         tailsEnd = f .ends .tailsEnd;
       }
 
-  -- outside the small array a list is in order of size
-  in-order : (i : ℕ) → i < h .bins → smallBins (tableOf h) ≤ i → (x z : ℕ) → Before x z (d .lists i) → sizeOn es x ≤ sizeOn es z
-  in-order i l large x z b =
+  -- a list is in order of size
+  in-order : (i : ℕ) → i < h .bins → (x z : ℕ) → Before x z (d .lists i) → sizeOn es x ≤ sizeOn es z
+  in-order i l x z b =
       let (m, n) = before-members x z (d .lists i) b in
       let r = f .members i x l m in
       let s = f .members i z l n in
-      let q = f .queue _ (all-late ws h p) i l large .stand (r .chunk) (s .chunk) (r .member) (s .member) (r .kind) (s .kind) (rw (r .place, s .place) b) in
+      let q = f .queue _ (all-late ws h p) i l .stand (r .chunk) (s .chunk) (r .member) (s .member) (r .kind) (s .kind) (rw (r .place, s .place) b) in
       let a = ap (sizeOn es) (sym (r .place)) ∙ laid-sized y (r .member) in
       let c = ap (sizeOn es) (sym (s .place)) ∙ laid-sized y (s .member) in
       omega arith
@@ -143,7 +141,7 @@ module _ {ws : List ℕ} {h : Heap} (p : Passes ws h) {es : List Entry} {d : Dra
         once = b .once;
         chunks = λ c m. let r = f .members i c l m in (r .chunk, r .member, (r .place, (r .kind, r .takes)));
         words = λ c m. f .way .binned i c l m;
-        order = λ large. before-ascending (sizeOn es) (d .lists i) (λ x z b. in-order i l large x z b);
+        order = λ large. before-ascending (sizeOn es) (d .lists i) (in-order i l);
       })
 
   passes-as : PassesAs words (recordMidway h d) es
@@ -174,7 +172,7 @@ module _ {ws : List ℕ} {h : Heap} (p : Passes ws h) {es : List Entry} {d : Dra
 
   -- and its lists stand as the draft's do
   pub picture-queued : StaysQueued ws h d
-  picture-queued late t = rw (f .heap) (λ i l large. rw (chain-read, list-read i) (f .queue late t i l large))
+  picture-queued late t = rw (f .heap) (λ i l. rw (chain-read, list-read i) (f .queue late t i l))
 
 -- a picture's record has the heap bytes of before, so it finds the same chunks live
 pub pictured-live : (ws : List ℕ) (h : Heap) → Passes ws h → (d : Draft) → Pictured ws d → (e : Entry) → live (d .heap) e ≡ live h e

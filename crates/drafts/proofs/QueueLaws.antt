@@ -1,12 +1,13 @@
--- The order in the bins outside the small array during a call: by size, and among chunks of equal size those that came late behind the
--- others. Which chunks came late is a parameter: `late` is 1 for them and 0 for the others. So one invariant says both that lists are in order of
--- size and that a chunk that is put stands behind those of equal size. Assumes nothing.
+-- The order in the bins during a call: by size, and among chunks of equal size those that came late behind the others; in the small array, whose
+-- bins have one size each, those that came late before the others. Which chunks came late is a parameter: `late` is 1 for them and 0 for the others.
+-- So one invariant says that lists are in order of size, and where a chunk that is put stands among those of equal size. Assumes nothing.
 use mathlib.Core.Path.{_≡_, ap}
 use mathlib.Core.Logic.{_≢_, _⊎_, inl, inr}
-use mathlib.Core.Bool.{Bool, true}
+use mathlib.Core.Bool.{Bool, true, cond}
 use mathlib.Core.List.{List, _∷_, _++_, List·Memᴰ·head, List·Memᴰ·tail}
-use Prim.Native.Nat.{ℕ, _+_, _*_, _≤_, _<_}
+use Prim.Native.Nat.{ℕ, _+_, _*_, _-_, _≤_, _<_}
 use native.Mathlib.Omega.{arith}
+use lib.Dec.{ltb}
 use Rattle.lists.specs.Lists.{Mem, Before}
 use Rattle.lists.proofs.AscendingLaws.{before-members, before-with, before-without, ascending-before}
 use Rattle.record.specs.declared.heap.Heap.{Heap}
@@ -15,6 +16,7 @@ use Rattle.record.specs.Table.{smallBins}
 use Rattle.rules.specs.Shape.{Entry, shape, binList}
 use Rattle.rules.specs.Kinds.{ordinary, sizeOn}
 use Rattle.rules.specs.Check.{Passes}
+use Rattle.rules.proofs.OrderLaws.{lists-in-order}
 use Rattle.rules.proofs.SpotLaws.{size-on}
 
 -- where a chunk stands in its bin: by its size, and among equals by whether it came late
@@ -26,10 +28,13 @@ pub record Queued (late : Entry → ℕ) (test : Entry → Bool) (es : List Entr
   pub stand : (x y : Entry) → Mem x es → Mem y es → test x ≡ true → test y ≡ true → Before (x .place) (y .place) cs
       → standing late x ≤ standing late y
 
--- the lists of a heap, outside the small array
+-- bin i is turned round if it is in the small array: last in, first out
+abbrev pub lateIn : Heap → ℕ → (Entry → ℕ) → Entry → ℕ
+lateIn h i late e = cond (ltb i (smallBins (tableOf h))) (1 - late e) (late e)
+
+-- the lists of a heap
 abbrev pub QueuedIn : (Entry → ℕ) → List ℕ → Heap → Type 0
-QueuedIn late ws h =
-    (i : ℕ) → i < h .bins → smallBins (tableOf h) ≤ i → Queued late (ordinary h) (shape ws (h .bytes)) (binList ws h i)
+QueuedIn late ws h = (i : ℕ) → i < h .bins → Queued (lateIn h i late) (ordinary h) (shape ws (h .bytes)) (binList ws h i)
 
 -- late are at least all chunks that are not on the chain before the call
 pub record Lateness (ws : List ℕ) (h : Heap) (late : Entry → ℕ) : Type 0 where
@@ -44,11 +49,11 @@ all-late ws h p =
       atMost = λ e. omega arith;
       others = λ e n. omega arith;
       queued =
-          λ i l large.
+          λ i l.
           record {
             stand =
                 λ x y m k _ _ b.
-                let s = ascending-before (sizeOn (shape ws (h .bytes))) (x .place) (y .place) (binList ws h i) (p .bins i l .order large) b in
+                let s = ascending-before (sizeOn (shape ws (h .bytes))) (x .place) (y .place) (binList ws h i) (lists-in-order ws h p i l) b in
                 let q = size-on ws h p (x .place) x m (omega arith) in
                 let r = size-on ws h p (y .place) y k (omega arith) in
                 omega arith;
@@ -75,13 +80,13 @@ module _ {late : Entry → ℕ} {test : Entry → Bool} {es : List Entry} where
       go x y (List·Memᴰ·tail m) (List·Memᴰ·head p) s t b (i, j) = absurd (out (rw (← ap (λ (z : Entry). z .place) p) j))
       go x y (List·Memᴰ·tail m) (List·Memᴰ·tail k) s t b r = q .stand x y m k s t b
 
-  -- e is late, no chunk before it is larger, all chunks behind it are; no other chunk is at its place
-  pub queued-with : (e : Entry) → late e ≡ 1 → ((x : Entry) → late x ≤ 1) → ((x : Entry) → Mem x es → test x ≡ true → x .place ≢ e .place)
+  -- e is put where it stands between those before it and those behind it; no other chunk is at its place
+  pub queued-with : (e : Entry) → ((x : Entry) → Mem x es → test x ≡ true → x .place ≢ e .place)
       → (xs ys : List ℕ) → (Mem (e .place) (xs ++ ys) → ⊥)
-      → ((x : Entry) → Mem x es → test x ≡ true → Mem (x .place) xs → x .size ≤ e .size)
-      → ((y : Entry) → Mem y es → test y ≡ true → Mem (y .place) ys → e .size < y .size)
+      → ((x : Entry) → Mem x es → test x ≡ true → Mem (x .place) xs → standing late x ≤ standing late e)
+      → ((y : Entry) → Mem y es → test y ≡ true → Mem (y .place) ys → standing late e ≤ standing late y)
       → Queued late test es (xs ++ ys) → Queued late test (e ∷ es) (xs ++ e .place ∷ ys)
-  queued-with e one few elsewhere xs ys out low high q =
+  queued-with e elsewhere xs ys out low high q =
       record { stand = λ x y m k s t b. go x y m k s t (before-without (x .place) (y .place) xs (e .place) ys b) }
     where
       go : (x y : Entry) → Mem x (e ∷ es) → Mem y (e ∷ es) → test x ≡ true → test y ≡ true
@@ -99,7 +104,6 @@ module _ {late : Entry → ℕ} {test : Entry → Bool} {es : List Entry} where
       go x y (List·Memᴰ·tail m) (List·Memᴰ·head r) s t (inr (inr (n, _))) =
           let a = ap (standing late) r in
           let l = low x m s n in
-          let f = few x in
           omega arith
       go x y (List·Memᴰ·tail m) (List·Memᴰ·head r) s t (inr (inl (z, _))) = absurd (elsewhere x m s z)
       go x y (List·Memᴰ·head p) (List·Memᴰ·tail k) s t (inl c) = absurd (out (rw (← ap (λ (z : Entry). z .place) p) (before-members (x .place) (y .place) (xs ++ ys) c .0)))

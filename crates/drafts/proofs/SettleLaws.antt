@@ -2,13 +2,14 @@
 -- The invariant `Halfway` then holds with it among the chunks that stay. Assumes nothing.
 use mathlib.Core.Path.{_≡_, refl, sym, ap, subst, _∙_}
 use mathlib.Core.Logic.{_≢_, _⊎_, inl, inr}
-use mathlib.Core.Bool.{Bool, true, false, false≢true}
-use mathlib.Core.List.{List, _∷_, _++_, List·Memᴰ·head, List·Memᴰ·tail, Memᴰ·append-right}
-use Prim.Native.Nat.{ℕ, _+_, _*_, _/_, _≤_, _<_}
+use mathlib.Core.Bool.{Bool, true, false, cond, false≢true}
+use mathlib.Core.List.{List, [], _∷_, _++_, List·Memᴰ·head, List·Memᴰ·tail, List·Memᴰ·not-nil, Memᴰ·append-right}
+use Prim.Native.Nat.{ℕ, _+_, _*_, _-_, _/_, _≤_, _<_}
 use native.Mathlib.Decide.{ℕ-discrete, decLt}
 use native.Mathlib.Omega.{arith}
+use lib.Dec.{ltb}
 use lib.ListN.{length, length-take}
-use borrow.Author.Tests.{eq-eqb, ne-eqb, ltb-true, ltb-false, le-ltb}
+use borrow.Author.Tests.{eq-eqb, ne-eqb, ltb-true, ltb-false}
 use Rattle.lists.specs.Lists.{Mem, headOr, lastOr, upTo, onFrom, Before}
 use Rattle.lists.proofs.AscendingLaws.{before-members, before-right, parts-at-first, before-first, from-first}
 use Rattle.lists.proofs.MembersLaws.{member-with}
@@ -17,21 +18,21 @@ use Rattle.record.specs.declared.kinds.Kind.the-variants.{Ordinary, Donor, Top}
 use Rattle.record.specs.declared.table.Binned.the-variants.{Bin}
 use Rattle.record.specs.Heap.{tableOf, withDonor, withTop}
 use Rattle.record.specs.Table.{binOf, smallBins}
-use Rattle.record.proofs.TableLaws.{bin-from}
+use Rattle.record.proofs.TableLaws.{bin-takes, bin-from, one-size}
 use Rattle.region.specs.Words.{Store, written, forward, backward, size, nextInBin, previousInBin, bin}
 use Rattle.region.proofs.WordsLaws.{Off, got, length-written, written-append}
 use Rattle.rules.specs.Shape.{Entry, shape}
 use Rattle.rules.specs.Kinds.{ordinaryKind, kindAt, kindOf, ordinary, outside, sizeOn}
 use Rattle.rules.specs.Check.{Unbinned, Passes}
 use Rattle.rules.specs.Draft.{Draft, alsoWrites, withHeap, larger, putBetween, putInBin, noBinWords, settle}
-use Rattle.rules.proofs.SpotLaws.{Between}
+use Rattle.rules.proofs.SpotLaws.{Between, bounds}
 use Rattle.books.specs.Books.{books, booksOf}
 use Rattle.books.proofs.SegmentLaws.{Node, PassBy, NoLink}
 use Rattle.books.proofs.BooksLaws.{Far, putStores, put-off}
 use Rattle.books.proofs.WayLaws.{OnWay, relisted, relisted-same, relisted-other, far-no-link, header-no-link, way-keeps, Placing, way-puts, is-from}
 use Rattle.drafts.proofs.PutLaws.{partBefore, partAfter, parts-whole, put-between}
-use Rattle.drafts.proofs.QueueLaws.{Queued, Lateness, all-late, queued-same, queued-more, queued-with}
-use Rattle.drafts.proofs.LayoutLaws.{Beside, Laid, Layout, laid-once, laid-sized, laid-beside, laid-below}
+use Rattle.drafts.proofs.QueueLaws.{standing, lateIn, Queued, Lateness, all-late, queued-same, queued-more, queued-with}
+use Rattle.drafts.proofs.LayoutLaws.{Beside, Laid, Layout, laid-once, laid-sized, laid-beside, laid-eights, laid-below}
 use Rattle.drafts.proofs.HeaderLaws.{Headed, PassByHeader, headed-keeps}
 use Rattle.drafts.proofs.HalfwayLaws.{recordMidway, EndsAlone, bin-ends-set, Belonging, ListedIn, belongs-at, listed-at, Halfway, unbinned-keeps}
 use Rattle.drafts.proofs.LeaveLaws.{Among, member-chunk, not-listed, midway-below, member-far}
@@ -99,14 +100,14 @@ module _ {ws : List ℕ} {h : Heap} {stay : List Entry} {d : Draft} {all : List 
   pub unsettled-elsewhere : (x : Entry) → Mem x stay → x .place ≢ c .place
   unsettled-elsewhere x m q = u .new (rw (laid-once y (sub x m) (u .there) q) at m)
 
-  -- no chunk in xs is larger than c, and all in ys are
-  record Fitting (xs ys : List ℕ) : Type 0 where
-    low : (x : Entry) → Mem x stay → ordinary (recordMidway h d) x ≡ true → Mem (x .place) xs → x .size ≤ c .size
-    high : (x : Entry) → Mem x stay → ordinary (recordMidway h d) x ≡ true → Mem (x .place) ys → c .size < x .size
+  -- c stands between the chunks in xs and those in ys
+  record Fitting (late : Entry → ℕ) (xs ys : List ℕ) : Type 0 where
+    low : (x : Entry) → Mem x stay → ordinary (recordMidway h d) x ≡ true → Mem (x .place) xs → standing late x ≤ standing late c
+    high : (x : Entry) → Mem x stay → ordinary (recordMidway h d) x ≡ true → Mem (x .place) ys → standing late c ≤ standing late x
 
   -- c is put into bin i, between xs and ys
   module _ (kind : ordinary (recordMidway h d) c ≡ true) (long : h .bytes ≤ 4 * length ws) (i : ℕ) (l : i < h .bins) (t : binOf (tableOf h) (c .size) ≡ Bin i)
-      (xs ys : List ℕ) (s : d .lists i ≡ xs ++ ys) (fits : smallBins (tableOf h) ≤ i → Fitting xs ys) where
+      (xs ys : List ℕ) (s : d .lists i ≡ xs ++ ys) (fits : (late : Entry → ℕ) → Lateness ws h late → Fitting (lateIn h i late) xs ys) where
     abbrev stores : List Store
     stores = putStores i xs (c .place) ys
 
@@ -176,15 +177,14 @@ module _ {ws : List ℕ} {h : Heap} {stay : List Entry} {d : Draft} {all : List 
     put-reserved x (List·Memᴰ·head q) z o = absurd (false≢true (sym o ∙ ap (ordinary (recordMidway h d)) q ∙ kind))
     put-reserved x (List·Memᴰ·tail k) z o = unbinned-keeps stores (put-passes x k z o) (f .reserved x k z o)
 
-    put-queue : (late : Entry → ℕ) → Lateness ws h late → (j : ℕ) → j < h .bins → smallBins (tableOf h) ≤ j → Dec (j ≡ i)
-        → Queued late (ordinary (recordMidway h d)) (c ∷ stay) (lists j)
-    put-queue late lateness j b large (yes q) =
-        let fit = fits (omega arith) in
-        rw (eq-eqb j i q)
-        (queued-with c (lateness .others c (u .fresh)) (lateness .atMost) (λ x m o. unsettled-elsewhere x m) xs ys
-        (λ m. unknown i l (rw s m)) (fit .low) (fit .high)
-        (subst (Queued late (ordinary (recordMidway h d)) stay) s (f .queue late lateness i l (omega arith))))
-    put-queue late lateness j b large (no n) = rw (ne-eqb j i n) (queued-more c (unknown j b) (f .queue late lateness j b large))
+    put-queue : (late : Entry → ℕ) → Lateness ws h late → (j : ℕ) → j < h .bins → Dec (j ≡ i)
+        → Queued (lateIn h j late) (ordinary (recordMidway h d)) (c ∷ stay) (lists j)
+    put-queue late lateness j b (yes q) =
+        let fit = fits late lateness in
+        rw (eq-eqb j i q, q)
+        (queued-with c (λ x m o. unsettled-elsewhere x m) xs ys (λ m. unknown i l (rw s m)) (fit .low) (fit .high)
+        (subst (Queued (lateIn h i late) (ordinary (recordMidway h d)) stay) s (f .queue late lateness i l)))
+    put-queue late lateness j b (no n) = rw (ne-eqb j i n) (queued-more c (unknown j b) (f .queue late lateness j b))
 
     put-settles : PlaceTaken ws h all (c ∷ stay) (d .heap) d (putBetween i xs (c .place) ys d)
     unfolding putBetween
@@ -200,15 +200,15 @@ module _ {ws : List ℕ} {h : Heap} {stay : List Entry} {d : Draft} {all : List 
                 members = put-members;
                 listed = put-listed;
                 reserved = λ x m z o. rw a (put-reserved x m z o);
-                queue = λ late lateness j b large. put-queue late lateness j b large (ℕ-discrete j i);
+                queue = λ late lateness j b. put-queue late lateness j b (ℕ-discrete j i);
               };
           headed = λ k. rw a (headed-keeps stores (written ws (d .stores)) outside all outside put-spares k);
           chain = refl;
           heap = refl;
         }
 
-  -- outside the small array no chunk before c is larger, and all behind it are
-  module _ (p : Passes ws h) (i : ℕ) (l : i < h .bins) (large : smallBins (tableOf h) ≤ i) where
+  -- c is put where it stands
+  module _ (p : Passes ws h) (i : ℕ) (l : i < h .bins) where
     abbrev isLarger : ℕ → Bool
     isLarger = larger (d .chain) c
 
@@ -221,21 +221,28 @@ module _ {ws : List ℕ} {h : Heap} {stay : List Entry} {d : Draft} {all : List 
     behind-larger z x m o t b =
         let whole : Before z (x .place) (d .lists i) = rw (parts-at-first isLarger (d .lists i)) (before-right z (x .place) (upTo isLarger (d .lists i)) _ b) in
         let r = f .members i z l (before-members z (x .place) (d .lists i) whole .0) in
-        let q = f .queue _ (all-late ws h p) i l large .stand (r .chunk) x (r .member) m (r .kind) o (rw (r .place) whole) in
+        let q = f .queue _ (all-late ws h p) i l .stand (r .chunk) x (r .member) m (r .kind) o (rw (r .place) whole) in
         let s = sized (r .chunk) (r .member) in
         let a = ltb-true (c .size) (sizeOn (d .chain) z) t in
         let e : sizeOn (d .chain) z ≡ r .chunk .size = ap (sizeOn (d .chain)) (sym (r .place)) ∙ s in
         omega arith
 
-    in-order : Fitting (upTo isLarger (d .lists i)) (onFrom isLarger (d .lists i))
-    in-order =
+    -- by size: no chunk before it is larger, all behind it are, and it is late
+    in-order : (late : Entry → ℕ) → Lateness ws h late → Fitting late (upTo isLarger (d .lists i)) (onFrom isLarger (d .lists i))
+    in-order late lateness =
         record {
           low =
               λ x m o k.
               let s = sized x m in
               let a = ltb-false (c .size) (sizeOn (d .chain) (x .place)) (before-first isLarger (d .lists i) k) in
+              let own = lateness .others c (u .fresh) in
+              let other = lateness .atMost x in
               omega arith;
-          high = λ x m o k. go x m o (from-first isLarger (d .lists i) k);
+          high =
+              λ x m o k.
+              let s = go x m o (from-first isLarger (d .lists i) k) in
+              let own = lateness .atMost c in
+              omega arith;
         }
       where
         go : (x : Entry) → Mem x stay → ordinary (recordMidway h d) x ≡ true
@@ -243,8 +250,32 @@ module _ {ws : List ℕ} {h : Heap} {stay : List Entry} {d : Draft} {all : List 
         go x m o (inl t) = let s = sized x m in let a = ltb-true (c .size) (sizeOn (d .chain) (x .place)) t in omega arith
         go x m o (inr (z, t, b)) = behind-larger z x m o t b
 
-    parts-fit : Fitting (partBefore i c d) (partAfter i c d)
-    parts-fit = rw (ap tableOf (f .heap), le-ltb i (smallBins (tableOf h)) large) in-order
+    -- at the head of a bin of the small array: the others have its size, and it is late
+    at-head : i < smallBins (tableOf h) → binOf (tableOf h) (c .size) ≡ Bin i → (late : Entry → ℕ) → Lateness ws h late
+        → Fitting (λ e. 1 - late e) [] (d .lists i)
+    at-head small takes late lateness =
+        record {
+          low = λ x m o k. absurd (List·Memᴰ·not-nil k);
+          high =
+              λ x m o k.
+              let r = f .members i (x .place) l k in
+              let same = ap (λ (e : Entry). e .size) (laid-once y (sub (r .chunk) (r .member)) (sub x m) (r .place)) in
+              let size = only c (u .there) takes in
+              let other = only (r .chunk) (sub (r .chunk) (r .member)) (r .takes) in
+              let own = lateness .others c (u .fresh) in
+              omega arith;
+        }
+      where
+        only : (e : Entry) → Mem e all → binOf (tableOf h) (e .size) ≡ Bin i → e .size ≡ 24 + 8 * i
+        only e m t = one-size (tableOf h) (p .table .valid) (bin-takes (tableOf h) t) small (laid-eights y (bounds ws h p .eights) m)
+
+    parts-fit : binOf (tableOf h) (c .size) ≡ Bin i → (late : Entry → ℕ) → Lateness ws h late → Fitting (lateIn h i late) (partBefore i c d) (partAfter i c d)
+    parts-fit takes late lateness = rw (ap tableOf (f .heap)) (go (ltb i (smallBins (tableOf h))) refl)
+      where
+        go : (t : Bool) → ltb i (smallBins (tableOf h)) ≡ t
+            → Fitting (λ e. cond t (1 - late e) (late e)) (cond t [] (upTo isLarger (d .lists i))) (cond t (d .lists i) (onFrom isLarger (d .lists i)))
+        go true q = at-head (ltb-true i (smallBins (tableOf h)) q) takes late lateness
+        go false q = in-order late lateness
 
   -- in the bin of its size: some bin takes every size from 24 on
   pub settles-in-bin : Passes ws h → ordinary (recordMidway h d) c ≡ true → PlaceTaken ws h all (c ∷ stay) (d .heap) d (settle Ordinary c d)
@@ -253,7 +284,7 @@ module _ {ws : List ℕ} {h : Heap} {stay : List Entry} {d : Draft} {all : List 
       let (i, is, takes) = bin-from (tableOf h) (p .table .valid) (c .size) (between .some) in
       let l : i < h .bins = omega (arith, takes .inside, length-take (h .bins) (h .sizes)) in
       rw (ap tableOf (f .heap), is, put-between i c d)
-      (put-settles kind (omega arith) i l is (partBefore i c d) (partAfter i c d) (parts-whole i c d) (parts-fit p i l))
+      (put-settles kind (omega arith) i l is (partBefore i c d) (partAfter i c d) (parts-whole i c d) (parts-fit p i l is))
 
   -- in no bin: the record names it the donor or the top, and no chunk that stays changes its kind
   module _ (donor top : ℕ) (long : h .bytes ≤ 4 * length ws) (same : (x : Entry) → Mem x stay → kindAt (h .bytes) donor top x ≡ kindOf (recordMidway h d) x)
@@ -330,7 +361,7 @@ module _ {ws : List ℕ} {h : Heap} {stay : List Entry} {d : Draft} {all : List 
                     };
                 listed = named-listed;
                 reserved = λ x m z o. rw a (named-unbinned x m z o);
-                queue = λ late lateness i l large. queued-same (f .queue late lateness i l large) (λ x m o. named-stays x m o);
+                queue = λ late lateness i l. queued-same (f .queue late lateness i l) (λ x m o. named-stays x m o);
               };
           headed = λ k. rw a (headed-keeps (noBinWords (c .place)) (written ws (d .stores)) outside all outside named-spares k);
           chain = refl;

@@ -1,5 +1,6 @@
--- The bins' lists are in order in every heap that passes, and what a call puts stands behind its equals (`order`). A chunk is late if it was not
--- on the chain before the call; late chunks stand behind the others of equal size (`QueueLaws` of `drafts`). Assumes nothing.
+-- The bins' lists are in order in every heap that passes, and what a call puts stands behind its equals, in the small array before them (`order`). A
+-- chunk is late if it was not on the chain before the call; late chunks stand behind the others of equal size, in the small array before them
+-- (`QueueLaws` of `drafts`). Assumes nothing.
 use mathlib.Core.Path.{_≡_, refl, sym, ap, subst, _∙_}
 use mathlib.Core.Logic.{_≢_, _⊎_, inl, inr}
 use mathlib.Core.Bool.{Bool, true, false, not, cond, _&&_, false≢true}
@@ -8,7 +9,7 @@ use Prim.Native.Nat.{ℕ, _+_, _*_, _≤_, _<_}
 use native.Mathlib.Omega.{arith}
 use lib.Dec.{eqb, ltb}
 use lib.ListN.{length}
-use borrow.Author.Tests.{lt-ltb, not-false}
+use borrow.Author.Tests.{lt-ltb, le-ltb, not-false}
 use Rattle.lists.specs.Lists.{Mem, any, Before}
 use Rattle.lists.proofs.AscendingLaws.{one-before}
 use Rattle.lists.proofs.ListsLaws.{Decides, number-is, both, for-some, meaning, not-so, zero-at}
@@ -17,9 +18,12 @@ use Rattle.record.specs.declared.answers.Answer.the-variants.{Done, Refused}
 use Rattle.record.specs.declared.answers.Refusal.{Refusal}
 use Rattle.record.specs.declared.answers.Refusal.the-variants.{RegionLength, BadTable, DonorSize, HeapFails, BlockSize, NotLive, NoRoom, NotThere, RunSize, BeyondMending}
 use Rattle.record.specs.declared.heap.Heap.{Heap}
-use Rattle.record.specs.Heap.{empty, withMerge, withPatrol}
+use Rattle.record.specs.declared.table.Binned.the-variants.{Bin}
+use Rattle.record.specs.Heap.{empty, tableOf, withMerge, withPatrol}
+use Rattle.record.specs.Table.{binOf, smallBins}
+use Rattle.record.proofs.TableLaws.{bin-takes, one-size}
 use Rattle.region.specs.Words.{Store, written}
-use Rattle.drafts.proofs.QueueLaws.{QueuedIn, Lateness, all-late}
+use Rattle.drafts.proofs.QueueLaws.{standing, lateIn, QueuedIn, Lateness, all-late}
 use Rattle.drafts.proofs.SourceLaws.{Grantable, need-grantable}
 use Rattle.drafts.proofs.GrantKept.{theGrant, grant-queued, sourceChunk, can, granted-place, granted-new, others-there}
 use Rattle.drafts.proofs.GrantedChunk.{grantedHeap, granted-pictured, filledWords, granted-filled, new-there, new-live}
@@ -46,10 +50,10 @@ use Rattle.rules.proofs.OrderLaws.{lists-in-order}
 use Rattle.rules.proofs.OutcomeLaws.{Failed, judged-so}
 use Rattle.rules.proofs.PatrolSound.{patrol-so}
 use Rattle.rules.proofs.ShapeLaws.{read-none}
-use Rattle.rules.proofs.SpotLaws.{one-chunk}
+use Rattle.rules.proofs.SpotLaws.{inside, one-chunk}
 use Rattle.promises.specs.Ways.{Way, ours}
 use Rattle.promises.specs.Kept.{Passing, after}
-use Rattle.promises.specs.Order.{listOf, InOrder, On, Behind, Order}
+use Rattle.promises.specs.Order.{listOf, InOrder, On, InBin, Behind, Ahead, Order}
 use Rattle.promises.specs.Refusing.{asksCheck, Because, setupLength, setupTable, setupDonor, fails, patrolNone, orderOf, Refusing}
 use Rattle.promises.proofs.ResizedLaws.{resized-so}
 use Rattle.promises.proofs.GrantedLaws.{cleared-within}
@@ -93,42 +97,79 @@ none-late ws h p =
       atMost = λ e. late-few (has e (shape ws (h .bytes)));
       others = λ e n. late-elsewhere e (shape ws (h .bytes)) n;
       queued =
-          λ i l large.
+          λ i l.
           record {
             stand =
                 λ x y m k s t b.
-                let q = all-late ws h p .queued i l large .stand x y m k s t b in
-                let a = early-there x (shape ws (h .bytes)) m in
-                let c = early-there y (shape ws (h .bytes)) k in
-                omega arith;
+                let q = all-late ws h p .queued i l .stand x y m k s t b in
+                rw (early-there x (shape ws (h .bytes)) m, early-there y (shape ws (h .bytes)) k) (omega arith);
           };
     }
 
--- late chunks stand behind the others of equal size
-behind-late : (s t : State) → Passing t → (late : Entry → ℕ) → QueuedIn late (t .words) (t .heap)
-    → ((x : Entry) → On s x → On t x → late x ≡ 0) → ((y : Entry) → (On s y → ⊥) → late y ≡ 1) → Behind s t
-behind-late s t p late queued early lates i l large x y (ox, mx) (oy, my) same on off =
-    go (one-before (listOf t i) mx my (λ q. off (subst (On s) (one-chunk (t .words) (t .heap) p x y ox oy q) on)))
-  where
-    is-ordinary : (e : Entry) → On t e → Mem (e .place) (listOf t i) → ordinary (t .heap) e ≡ true
-    is-ordinary e o m =
-        let (d, k, (q, b)) = p .bins i l .chunks (e .place) m in
-        subst (λ (z : Entry). ordinary (t .heap) z ≡ true) (one-chunk (t .words) (t .heap) p d e k o q) (b .0)
+-- what a call puts stands behind its equals, and before them in the small array
+record Placed (s t : State) : Type 0 where
+  behind : Behind s t
+  ahead : Ahead s t
 
-    go : Before (x .place) (y .place) (listOf t i) ⊎ Before (y .place) (x .place) (listOf t i) → Before (x .place) (y .place) (listOf t i)
-    go (inl b) = b
-    go (inr b) =
-        let z = queued i l large .stand y x oy ox (is-ordinary y oy my) (is-ordinary x ox mx) b in
-        let a = early x on ox in
-        let c = lates y off in
-        absurd (omega arith)
+-- late chunks stand so
+module _ (s t : State) (p : Passing t) (late : Entry → ℕ) (queued : QueuedIn late (t .words) (t .heap))
+    (early : (x : Entry) → On s x → On t x → late x ≡ 0) (lates : (y : Entry) → (On s y → ⊥) → late y ≡ 1) (i : ℕ) (l : i < t .heap .bins) where
+  in-bin : (e : Entry) → InBin t i e → (ordinary (t .heap) e ≡ true) × (binOf (tableOf (t .heap)) (e .size) ≡ Bin i)
+  in-bin e (o, m) =
+      let (d, k, (q, b)) = p .bins i l .chunks (e .place) m in
+      rw (one-chunk (t .words) (t .heap) p d e k o q) at b
+
+  stands : (x y : Entry) → InBin t i x → InBin t i y → Before (x .place) (y .place) (listOf t i)
+      → standing (lateIn (t .heap) i late) x ≤ standing (lateIn (t .heap) i late) y
+  stands x y bx by b = queued i l .stand x y (bx .0) (by .0) (in-bin x bx .0) (in-bin y by .0) b
+
+  -- one of two chunks of a bin stands before the other, if one was on the chain before the call and the other was not
+  either : (x y : Entry) → InBin t i x → InBin t i y → On s x → (On s y → ⊥)
+      → Before (x .place) (y .place) (listOf t i) ⊎ Before (y .place) (x .place) (listOf t i)
+  either x y (ox, mx) (oy, my) on off =
+      one-before (listOf t i) mx my (λ q. off (subst (On s) (one-chunk (t .words) (t .heap) p x y ox oy q) on))
+
+  late-behind : smallBins (tableOf (t .heap)) ≤ i → (x y : Entry) → InBin t i x → InBin t i y → x .size ≡ y .size → On s x → (On s y → ⊥)
+      → Before (x .place) (y .place) (listOf t i)
+  late-behind large x y bx by same on off = go (either x y bx by on off)
+    where
+      go : Before (x .place) (y .place) (listOf t i) ⊎ Before (y .place) (x .place) (listOf t i) → Before (x .place) (y .place) (listOf t i)
+      go (inl b) = b
+      go (inr b) =
+          let z = rw (le-ltb i (smallBins (tableOf (t .heap))) large) at (stands y x by bx b) in
+          let a = early x on (bx .0) in
+          let c = lates y off in
+          absurd (omega arith)
+
+  late-ahead : i < smallBins (tableOf (t .heap)) → (x y : Entry) → InBin t i x → InBin t i y → On s x → (On s y → ⊥)
+      → Before (y .place) (x .place) (listOf t i)
+  late-ahead small x y bx by on off = go (either x y bx by on off)
+    where
+      only : (e : Entry) → InBin t i e → e .size ≡ 24 + 8 * i
+      only e b =
+          one-size (tableOf (t .heap)) (p .table .valid) (bin-takes (tableOf (t .heap)) (in-bin e b .1)) small (inside (t .words) (t .heap) p e (b .0) .size)
+
+      go : Before (x .place) (y .place) (listOf t i) ⊎ Before (y .place) (x .place) (listOf t i) → Before (y .place) (x .place) (listOf t i)
+      go (inl b) =
+          let z = rw (lt-ltb i (smallBins (tableOf (t .heap))) small) at (stands x y bx by b) in
+          let a = early x on (bx .0) in
+          let c = lates y off in
+          let q = only x bx in
+          let r = only y by in
+          absurd (omega arith)
+      go (inr b) = b
+
+late-placed : (s t : State) → Passing t → (late : Entry → ℕ) → QueuedIn late (t .words) (t .heap)
+    → ((x : Entry) → On s x → On t x → late x ≡ 0) → ((y : Entry) → (On s y → ⊥) → late y ≡ 1) → Placed s t
+late-placed s t p late queued early lates =
+    record { behind = late-behind s t p late queued early lates; ahead = late-ahead s t p late queued early lates }
 
 -- a block is granted, and `ss` written into it
 filled-queued : {ws : List ℕ} {h : Heap} {n : ℕ} (room : Grantable ws h n) (ss : List Store) (w : Within (theGrant room .granted) ss)
     (late : Entry → ℕ) → Lateness ws h late → QueuedIn late (filledWords room ss w) (grantedHeap room)
-filled-queued room ss w late t i l large =
+filled-queued room ss w late t i l =
     let f = granted-filled room ss w in
-    rw (f .chain, f .lists i) (grant-queued room late t i l large)
+    rw (f .chain, f .lists i) (grant-queued room late t i l)
 
 -- a block moves: late are all chunks but those that are on the chain after the grant and were on it before
 module _ {ws : List ℕ} {h : Heap} (p : Passes ws h) {n : ℕ} {e : Entry} (moves : Moving ws h n e) where
@@ -156,14 +197,12 @@ module _ {ws : List ℕ} {h : Heap} (p : Passes ws h) {n : ℕ} {e : Entry} (mov
         atMost = λ x. late-few (has x second && has x first);
         others = λ x k. rw (not-so (has-iff x second) k) refl;
         queued =
-            λ i l large.
+            λ i l.
             record {
               stand =
                   λ x y m k s t b.
-                  let q = filled-queued (moves .room) (copies moves) (copies-within moves) (lateFor first) (none-late ws h p) i l large .stand x y m k s t b in
-                  let a = same-late x m in
-                  let c = same-late y k in
-                  omega arith;
+                  let q = filled-queued (moves .room) (copies moves) (copies-within moves) (lateFor first) (none-late ws h p) i l .stand x y m k s t b in
+                  rw (same-late x m, same-late y k) q;
             };
       }
 
@@ -208,9 +247,9 @@ module _ {ws : List ℕ} {h : Heap} (p : Passes ws h) {n : ℕ} {e : Entry} (mov
           let s = one-chunk (final .words) (final .heap) final-passes x new on new-stays (q ∙ sym (granted-place (moves .room))) in
           new-is-new (subst (λ (y : Entry). Mem y first) s m)
 
-  move-behind : Behind (record { words = ws; heap = h }) final
-  move-behind =
-      behind-late (record { words = ws; heap = h }) final final-passes lateBoth
+  move-placed : Placed (record { words = ws; heap = h }) final
+  move-placed =
+      late-placed (record { words = ws; heap = h }) final final-passes lateBoth
       (free-queued (copiedWords moves) (copiedHeap moves) (copied-passes moves) old (still-live moves) lateBoth both-late)
       (λ x on stays. same-late x (between x on stays) ∙ early-there x first on)
       (λ y off. rw (not-so (has-iff y first) off) (neither (has y second)))
@@ -230,26 +269,30 @@ module _ (ws : List ℕ) (h : Heap) (p : Passes ws h) where
   abbrev drafted : Draft → State
   drafted d = record { words = written ws (d .stores); heap = d .heap }
 
-  -- a draft in which late chunks stand behind the others
-  queued-behind : (t : State) → Passing t → QueuedIn (lateFor es) (t .words) (t .heap) → Behind before t
-  queued-behind t passes queued =
-      behind-late before t passes (lateFor es) queued (λ x on _. early-there x es on) (λ y off. late-elsewhere y es off)
+  -- a draft in which late chunks stand as they should
+  queued-placed : (t : State) → Passing t → QueuedIn (lateFor es) (t .words) (t .heap) → Placed before t
+  queued-placed t passes queued =
+      late-placed before t passes (lateFor es) queued (λ x on _. early-there x es on) (λ y off. late-elsewhere y es off)
 
   -- no chunk is new
-  nothing-new : (t : State) → ((y : Entry) → On t y → On before y) → Behind before t
-  nothing-new t same i l large x y (ox, mx) (oy, my) e on off = absurd (off (same y oy))
+  nothing-new : (t : State) → ((y : Entry) → On t y → On before y) → Placed before t
+  nothing-new t same =
+      record {
+        behind = λ i l large x y bx (oy, my) e on off. absurd (off (same y oy));
+        ahead = λ i l small x y bx (oy, my) on off. absurd (off (same y oy));
+      }
 
   -- a block is granted, and `ss` written into it
-  granted-behind : {n : ℕ} (room : Grantable ws h n) (ss : List Store) (w : Within (theGrant room .granted) ss)
-      → Behind before (record { words = filledWords room ss w; heap = grantedHeap room })
-  granted-behind room ss w =
+  granted-placed : {n : ℕ} (room : Grantable ws h n) (ss : List Store) (w : Within (theGrant room .granted) ss)
+      → Placed before (record { words = filledWords room ss w; heap = grantedHeap room })
+  granted-placed room ss w =
       let f = granted-filled room ss w in
-      queued-behind (record { words = filledWords room ss w; heap = grantedHeap room }) (f .passes) (filled-queued room ss w (lateFor es) (none-late ws h p))
+      queued-placed (record { words = filledWords room ss w; heap = grantedHeap room }) (f .passes) (filled-queued room ss w (lateFor es) (none-late ws h p))
 
   -- a live block is freed; its chunk gives its tail back
-  freed-behind : (b : ℕ) → isLive (asRead ws h) b ≡ true → Behind before (drafted (freeBlock b (asRead ws h)))
-  freed-behind b l =
-      queued-behind (drafted (freeBlock b (asRead ws h))) (free-kept ws h p b l .passes) (free-queued ws h p b l (lateFor es) (none-late ws h p))
+  freed-placed : (b : ℕ) → isLive (asRead ws h) b ≡ true → Placed before (drafted (freeBlock b (asRead ws h)))
+  freed-placed b l =
+      queued-placed (drafted (freeBlock b (asRead ws h))) (free-kept ws h p b l .passes) (free-queued ws h p b l (lateFor es) (none-late ws h p))
 
   -- the live block at b is to have z bytes
   module _ (b : ℕ) (l : isLive (asRead ws h) b ≡ true) (z : ℕ) where
@@ -259,92 +302,98 @@ module _ (ws : List ℕ) (h : Heap) (p : Passes ws h) where
     abbrev n : ℕ
     n = need overhead z
 
-    shrunk-behind : n + 24 ≤ at .here .size → Behind before (drafted (shrunk at n (asRead ws h) .draft))
-    shrunk-behind spare =
+    shrunk-placed : n + 24 ≤ at .here .size → Placed before (drafted (shrunk at n (asRead ws h) .draft))
+    shrunk-placed spare =
         let shrinks = block-shrinks p b l z spare in
-        queued-behind (drafted (shrunk at n (asRead ws h) .draft)) (shrink-kept shrinks .passes) (shrink-queued shrinks (lateFor es) (none-late ws h p))
+        queued-placed (drafted (shrunk at n (asRead ws h) .draft)) (shrink-kept shrinks .passes) (shrink-queued shrinks (lateFor es) (none-late ws h p))
 
-    moved-behind : nowhere (sourceOf n (asRead ws h)) ≡ false → at .here .size < n → Behind before (drafted (moved ws at n (asRead ws h) .draft))
-    moved-behind some less =
+    moved-placed : nowhere (sourceOf n (asRead ws h)) ≡ false → at .here .size < n → Placed before (drafted (moved ws at n (asRead ws h) .draft))
+    moved-placed some less =
         let moves = block-moves p b l z some less in
-        rw (moved-reread moves .0, moved-words moves) (move-behind p moves)
+        rw (moved-reread moves .0, moved-words moves) (move-placed p moves)
 
-    resized-behind : (ltb (at .here .size) n && nowhere (sourceOf n (asRead ws h))) ≡ false → Behind before (drafted (resized ws at n (asRead ws h) .draft))
+    resized-placed : (ltb (at .here .size) n && nowhere (sourceOf n (asRead ws h))) ≡ false → Placed before (drafted (resized ws at n (asRead ws h) .draft))
     unfolding asRead
-    resized-behind q =
-        resized-so (λ x. Behind before (drafted (x .draft))) ws at n (asRead ws h)
-        (λ less. moved-behind (rw (lt-ltb (at .here .size) n less) at q) less) shrunk-behind (nothing-new before (λ y on. on))
+    resized-placed q =
+        resized-so (λ x. Placed before (drafted (x .draft))) ws at n (asRead ws h)
+        (λ less. moved-placed (rw (lt-ltb (at .here .size) n less) at q) less) shrunk-placed (nothing-new before (λ y on. on))
 
   -- a refusal leaves the heap as it was
-  judged-behind : (came : Heap) (o : Outcome) (ts : Refusals) → (Failed ts → Behind before (stateLeft ws h o)) → Behind before (stateLeft ws h (judged came ts o))
-  judged-behind came o ts = judged-so (λ x. Behind before (stateLeft ws h x)) came o ts (λ r. nothing-new before (λ y on. on))
+  judged-placed : (came : Heap) (o : Outcome) (ts : Refusals) → (Failed ts → Placed before (stateLeft ws h o)) → Placed before (stateLeft ws h (judged came ts o))
+  judged-placed came o ts = judged-so (λ x. Placed before (stateLeft ws h x)) came o ts (λ r. nothing-new before (λ y on. on))
 
-  with-behind : (fill : Entry → List Store) → ((e : Entry) → Within e (fill e)) → (z : ℕ) → Behind before (stateLeft ws h (allocateWith fill ws h z))
-  with-behind fill within z =
+  with-placed : (fill : Entry → List Store) → ((e : Entry) → Within e (fill e)) → (z : ℕ) → Placed before (stateLeft ws h (allocateWith fill ws h z))
+  with-placed fill within z =
       let e = grant (need overhead z) (asRead ws h) .granted in
-      judged-behind h (allocated fill (asRead ws h) z) (allocateRefusals (heapFails ws h) (asRead ws h) z)
-      (λ (_, (_, (some, _))). granted-behind (need-grantable z p some) (fill e) (within e))
+      judged-placed h (allocated fill (asRead ws h) z) (allocateRefusals (heapFails ws h) (asRead ws h) z)
+      (λ (_, (_, (some, _))). granted-placed (need-grantable z p some) (fill e) (within e))
 
-  allocate-behind : (z : ℕ) → Behind before (stateLeft ws h (allocate ws h z))
+  allocate-placed : (z : ℕ) → Placed before (stateLeft ws h (allocate ws h z))
   unfolding allocate
-  allocate-behind = with-behind asFound (λ e. tt)
+  allocate-placed = with-placed asFound (λ e. tt)
 
-  cleared-behind : (count size : ℕ) → Behind before (stateLeft ws h (allocateCleared ws h count size))
+  cleared-placed : (count size : ℕ) → Placed before (stateLeft ws h (allocateCleared ws h count size))
   unfolding allocateCleared
-  cleared-behind count size = with-behind cleared cleared-within (count * size)
+  cleared-placed count size = with-placed cleared cleared-within (count * size)
 
-  free-behind : (b : ℕ) → Behind before (stateLeft ws h (free ws h b))
+  free-placed : (b : ℕ) → Placed before (stateLeft ws h (free ws h b))
   unfolding free asRead
-  free-behind b =
-      judged-behind h (freed (asRead ws h) b) (freeRefusals (heapFails ws h) (asRead ws h) b) (λ (_, (l, _)). go (eqb b 0) l)
+  free-placed b =
+      judged-placed h (freed (asRead ws h) b) (freeRefusals (heapFails ws h) (asRead ws h) b) (λ (_, (l, _)). go (eqb b 0) l)
     where
-      go : (t : Bool) → (not t && not (isLive (asRead ws h) b)) ≡ false → Behind before (drafted (cond t (asRead ws h) (freeBlock b (asRead ws h))))
+      go : (t : Bool) → (not t && not (isLive (asRead ws h) b)) ≡ false → Placed before (drafted (cond t (asRead ws h) (freeBlock b (asRead ws h))))
       go true l = nothing-new before (λ y on. on)
-      go false l = freed-behind b (not-false (isLive (asRead ws h) b) l)
+      go false l = freed-placed b (not-false (isLive (asRead ws h) b) l)
 
-  resize-behind : (b z : ℕ) → Behind before (stateLeft ws h (resize ws h b z))
+  resize-placed : (b z : ℕ) → Placed before (stateLeft ws h (resize ws h b z))
   unfolding resize
-  resize-behind b z =
-      judged-behind h (resizedTo ws (asRead ws h) b z) (resizeRefusals (heapFails ws h) (asRead ws h) b z)
-      (λ (_, (_, (l, (room, _)))). resized-behind b (not-false (isLive (asRead ws h) b) l) z room)
+  resize-placed b z =
+      judged-placed h (resizedTo ws (asRead ws h) b z) (resizeRefusals (heapFails ws h) (asRead ws h) b z)
+      (λ (_, (_, (l, (room, _)))). resized-placed b (not-false (isLive (asRead ws h) b) l) z room)
 
-  reallocate-behind : (b z : ℕ) → Behind before (stateLeft ws h (reallocate ws h b z))
+  reallocate-placed : (b z : ℕ) → Placed before (stateLeft ws h (reallocate ws h b z))
   unfolding reallocate
-  reallocate-behind b z = go (eqb b 0)
+  reallocate-placed b z = go (eqb b 0)
     where
-      go : (t : Bool) → Behind before (stateLeft ws h (cond t (allocate ws h z) (resize ws h b z)))
-      go true = allocate-behind z
-      go false = resize-behind b z
+      go : (t : Bool) → Placed before (stateLeft ws h (cond t (allocate ws h z) (resize ws h b z)))
+      go true = allocate-placed z
+      go false = resize-placed b z
 
   -- a fresh heap has nothing in its bins
-  setup-behind : (table : List ℕ) (donor : ℕ) (merge : Bool) → Behind before (stateLeft ws h (opened (heapBytes (length ws)) table donor merge))
+  setup-placed : (table : List ℕ) (donor : ℕ) (merge : Bool) → Placed before (stateLeft ws h (opened (heapBytes (length ws)) table donor merge))
   unfolding members
-  setup-behind table donor merge i l large x y (ox, mx) (oy, my) e on off =
-      absurd (List·Memᴰ·not-nil (rw (zero-at 32 i, read-none) at my))
+  setup-placed table donor merge =
+      record {
+        behind = λ i l large x y bx (oy, my) e on off. absurd (none-in i (y .place) my);
+        ahead = λ i l small x y bx (oy, my) on off. absurd (none-in i (y .place) my);
+      }
+    where
+      none-in : (i c : ℕ) → Mem c (listOf (stateLeft ws h (opened (heapBytes (length ws)) table donor merge)) i) → ⊥
+      none-in i c m = List·Memᴰ·not-nil (rw (zero-at 32 i, read-none) at m)
 
   -- a call that changes nothing
-  told-behind : (a : Answer) → Behind before (stateLeft ws h (unchanged h a))
-  told-behind a = rw (same-record h a) (nothing-new before (λ y on. on))
+  told-placed : (a : Answer) → Placed before (stateLeft ws h (unchanged h a))
+  told-placed a = rw (same-record h a) (nothing-new before (λ y on. on))
 
-  step-behind : (call : Call) → Behind before (stateLeft ws h (step call ws h))
+  step-placed : (call : Call) → Placed before (stateLeft ws h (step call ws h))
   unfolding step setup check askChunk askBin setMerge
-  step-behind (Setup table donor merge) =
-      judged-behind empty (opened (heapBytes (length ws)) table donor merge) (setupRefusals ws table donor) (λ _. setup-behind table donor merge)
-  step-behind (Allocate z) = allocate-behind z
-  step-behind (AllocateCleared count size) = cleared-behind count size
-  step-behind (Free b) = free-behind b
-  step-behind (Reallocate b z) = reallocate-behind b z
-  step-behind (SetMerge on) = judged-behind h (unchanged (withMerge h on) Done) (heapFails ws h ∷ []) (λ _. nothing-new (record { words = ws; heap = withMerge h on }) (λ y there. there))
-  step-behind Check = told-behind (checked ws h)
-  step-behind (AskChunk q c) =
+  step-placed (Setup table donor merge) =
+      judged-placed empty (opened (heapBytes (length ws)) table donor merge) (setupRefusals ws table donor) (λ _. setup-placed table donor merge)
+  step-placed (Allocate z) = allocate-placed z
+  step-placed (AllocateCleared count size) = cleared-placed count size
+  step-placed (Free b) = free-placed b
+  step-placed (Reallocate b z) = reallocate-placed b z
+  step-placed (SetMerge on) = judged-placed h (unchanged (withMerge h on) Done) (heapFails ws h ∷ []) (λ _. nothing-new (record { words = ws; heap = withMerge h on }) (λ y there. there))
+  step-placed Check = told-placed (checked ws h)
+  step-placed (AskChunk q c) =
       let d = asRead ws h in
       let answers = chunkAnswers d (askedSpot d q c) in
-      judged-behind h (asked h q answers) (askRefusals (heapFails ws h) q answers (isThere d q c)) (λ _. told-behind (answerTo q answers))
-  step-behind (AskBin q i) =
+      judged-placed h (asked h q answers) (askRefusals (heapFails ws h) q answers (isThere d q c)) (λ _. told-placed (answerTo q answers))
+  step-placed (AskBin q i) =
       let answers = binAnswers (asRead ws h .lists i) in
-      judged-behind h (asked h q answers) (askRefusals (heapFails ws h) q answers (ltb i (h .bins))) (λ _. told-behind (answerTo q answers))
-  step-behind (Patrol f) =
-      patrol-so ws h p (λ o. Behind before (stateLeft ws h o)) (λ r. nothing-new before (λ y on. on))
+      judged-placed h (asked h q answers) (askRefusals (heapFails ws h) q answers (ltb i (h .bins))) (λ _. told-placed (answerTo q answers))
+  step-placed (Patrol f) =
+      patrol-so ws h p (λ o. Placed before (stateLeft ws h o)) (λ r. nothing-new before (λ y on. on))
       (λ c t there. nothing-new (record { words = ws; heap = withPatrol h c }) (λ y on. on)) f
 
 pub order : Order ours
@@ -353,7 +402,8 @@ order s p =
     record {
       now = in-order s p;
       left = λ call. in-order (after ours call s) (kept .calls call s p);
-      behind = step-behind (s .words) (s .heap) p;
+      behind = λ call. step-placed (s .words) (s .heap) p call .behind;
+      ahead = λ call. step-placed (s .words) (s .heap) p call .ahead;
     }
 
 -- A heap with a list that is not in order, as older firmware left them, is refused 4 by every call that asks the check: by every way that gives

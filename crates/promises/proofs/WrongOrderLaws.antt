@@ -1,24 +1,51 @@
--- Each of the two wrong programs of request Five breaks the promise `Order`, shown on heaps of the demonstration's setup with merging off: bins of
--- 24, 32, 40 and 128, so that bin 2 is outside the small array. Assumes nothing.
+-- Each of the four wrong ways of putting a chunk into its bin breaks the promise `Order`, shown on heaps of the demonstration's setup with merging
+-- off: bins of 24, 32, 40 and 128, so that bins 0 and 1 are the small array. Assumes nothing.
 use mathlib.Core.Path.{_≡_, refl, sym, _∙_}
 use mathlib.Core.Bool.{true, false, _&&_, false≢true}
 use mathlib.Core.List.{[], _∷_}
-use lib.Dec.{eqb, leb}
+use Prim.Native.Nat.{ℕ, suc}
+use lib.Dec.{eqb, leb, ltb}
 use Rattle.lists.specs.Lists.{any, ascending}
 use Rattle.lists.proofs.AscendingLaws.{ascending-iff, before, before-iff}
-use Rattle.lists.proofs.ListsLaws.{at-most, both, is-member}
+use Rattle.lists.proofs.ListsLaws.{at-most, less, both, is-member}
 use Rattle.record.specs.Heap.{tableOf}
 use Rattle.record.specs.Table.{smallBins}
 use Rattle.rules.specs.Shape.{Entry, entry, shape}
 use Rattle.rules.specs.Kinds.{unused, sizeOn}
 use Rattle.rules.specs.Check.{passes}
-use Rattle.rules.specs.Calls.{Allocate, Free, SetMerge, State}
+use Rattle.rules.specs.Calls.{Call, Allocate, Free, SetMerge, State}
 use Rattle.rules.proofs.CasesLaws.{computes}
+use Rattle.promises.specs.Ways.{Way}
 use Rattle.promises.specs.Kept.{after}
-use Rattle.promises.specs.Order.{listOf, Order}
-use Rattle.promises.specs.Wrong.{beforeEquals, atTheTail}
+use Rattle.promises.specs.Order.{listOf, On, InBin, Order}
+use Rattle.promises.specs.Wrong.{beforeEquals, atTheTail, smallAtTheTail, largeAtTheHead}
 use Rattle.promises.proofs.OrderLaws.{has, has-iff}
 use Rattle.promises.proofs.WrongLaws.{heapAfter, passing}
+
+-- A call leads from the state s to the state t: the chunk y comes into bin i, where the chunk x was. Shown by tests
+record Comes (s t : State) (i : ℕ) (x y : Entry) : Type 0 where
+  passes : passes (s .words) (s .heap) ≡ true
+  there : has x (shape (s .words) (s .heap .bytes)) ≡ true
+  notThere : has y (shape (s .words) (s .heap .bytes)) ≡ false
+  stays : has x (shape (t .words) (t .heap .bytes)) ≡ true
+  comes : has y (shape (t .words) (t .heap .bytes)) ≡ true
+  bin : leb (suc i) (t .heap .bins) ≡ true
+  list : (any (eqb (x .place)) (listOf t i) && any (eqb (y .place)) (listOf t i)) ≡ true
+
+module _ {s t : State} {i : ℕ} {x y : Entry} (c : Comes s t i x y) where
+  stays-in : InBin t i x
+  stays-in =
+      (has-iff x (shape (t .words) (t .heap .bytes)) .0 (c .stays), both (is-member (x .place) (listOf t i)) (is-member (y .place) (listOf t i)) .0 (c .list) .0)
+
+  comes-in : InBin t i y
+  comes-in =
+      (has-iff y (shape (t .words) (t .heap .bytes)) .0 (c .comes), both (is-member (x .place) (listOf t i)) (is-member (y .place) (listOf t i)) .0 (c .list) .1)
+
+  was : On s x
+  was = has-iff x (shape (s .words) (s .heap .bytes)) .0 (c .there)
+
+  was-not : On s y → ⊥
+  was-not m = false≢true (sym (c .notThere) ∙ has-iff y (shape (s .words) (s .heap .bytes)) .1 m)
 
 -- 16: two blocks of 40 bytes are granted from the top, at 72 and at 112, and freed: the second is put before the first
 abbrev one : State
@@ -27,61 +54,76 @@ one = heapAfter (Allocate 32 ∷ Allocate 32 ∷ SetMerge false ∷ Free 80 ∷ 
 abbrev two : State
 two = after beforeEquals (Free 120) one
 
-abbrev earlier : Entry
-earlier = entry 72 40 unused
-
-abbrev later : Entry
-later = entry 112 40 unused
-
-one-passes : passes (one .words) (one .heap) ≡ true
+equal-comes : Comes one two 2 (entry 72 40 unused) (entry 112 40 unused)
 unfolding computes
-one-passes = refl
+equal-comes = record { passes = refl; there = refl; notThere = refl; stays = refl; comes = refl; bin = refl; list = refl }
 
-record Ahead : Type 0 where
-  there : has earlier (shape (one .words) (one .heap .bytes)) ≡ true
-  notThere : has later (shape (one .words) (one .heap .bytes)) ≡ false
-  stays : has earlier (shape (two .words) (two .heap .bytes)) ≡ true
-  comes : has later (shape (two .words) (two .heap .bytes)) ≡ true
-  bin : (leb 3 (two .heap .bins) && leb (smallBins (tableOf (two .heap))) 2) ≡ true
-  list : (any (eqb 72) (listOf two 2) && any (eqb 112) (listOf two 2)) ≡ true
-  standing : before 72 112 (listOf two 2) ≡ false
-
-ahead : Ahead
+stands-first : (leb (smallBins (tableOf (two .heap))) 2 ≡ true) × (before 72 112 (listOf two 2) ≡ false)
 unfolding computes
-ahead = record { there = refl; notThere = refl; stays = refl; comes = refl; bin = refl; list = refl; standing = refl }
+stands-first = (refl, refl)
 
 pub order-refutes-before-equals : Order beforeEquals → ⊥
 order-refutes-before-equals promised =
-    let chain = shape (two .words) (two .heap .bytes) in
-    let (inside, large) = both (at-most 3 (two .heap .bins)) (at-most (smallBins (tableOf (two .heap))) 2) .0 (ahead .bin) in
-    let (first, second) = both (is-member 72 (listOf two 2)) (is-member 112 (listOf two 2)) .0 (ahead .list) in
-    let b =
-    promised one (passing one one-passes) .behind (Free 120) 2 inside large earlier later
-    (has-iff earlier chain .0 (ahead .stays), first) (has-iff later chain .0 (ahead .comes), second) refl
-    (has-iff earlier (shape (one .words) (one .heap .bytes)) .0 (ahead .there))
-    (λ m. false≢true (sym (ahead .notThere) ∙ has-iff later (shape (one .words) (one .heap .bytes)) .1 m)) in
-    false≢true (sym (ahead .standing) ∙ before-iff 72 112 (listOf two 2) .1 b)
+    let c = equal-comes in
+    let inside = at-most 3 (two .heap .bins) .0 (c .bin) in
+    let large = at-most (smallBins (tableOf (two .heap))) 2 .0 (stands-first .0) in
+    let b = promised one (passing one (c .passes)) .behind (Free 120) 2 inside large (entry 72 40 unused) (entry 112 40 unused) (stays-in c) (comes-in c) refl (was c) (was-not c) in
+    false≢true (sym (stands-first .1) ∙ before-iff 72 112 (listOf two 2) .1 b)
+
+-- 31: a block of 24 bytes is granted from the donor, at 8, and one from the top, at 72; freed in this order, the second is put behind the first
+abbrev little : State
+little = heapAfter (Allocate 16 ∷ Allocate 16 ∷ SetMerge false ∷ Free 16 ∷ [])
+
+abbrev lastIn : State
+lastIn = after smallAtTheTail (Free 80) little
+
+small-comes : Comes little lastIn 0 (entry 8 24 unused) (entry 72 24 unused)
+unfolding computes
+small-comes = record { passes = refl; there = refl; notThere = refl; stays = refl; comes = refl; bin = refl; list = refl }
+
+stands-last : (ltb 0 (smallBins (tableOf (lastIn .heap))) ≡ true) × (before 72 8 (listOf lastIn 0) ≡ false)
+unfolding computes
+stands-last = (refl, refl)
+
+pub order-refutes-small-at-the-tail : Order smallAtTheTail → ⊥
+order-refutes-small-at-the-tail promised =
+    let c = small-comes in
+    let inside = at-most 1 (lastIn .heap .bins) .0 (c .bin) in
+    let small = less 0 (smallBins (tableOf (lastIn .heap))) .0 (stands-last .0) in
+    let b = promised little (passing little (c .passes)) .ahead (Free 80) 0 inside small (entry 8 24 unused) (entry 72 24 unused) (stays-in c) (comes-in c) (was c) (was-not c) in
+    false≢true (sym (stands-last .1) ∙ before-iff 72 8 (listOf lastIn 0) .1 b)
+
+-- a call leaves bin 2 with a list that is not in order of size. Shown by tests
+record Descends (way : Way) (s : State) (call : Call) : Type 0 where
+  passes : passes (s .words) (s .heap) ≡ true
+  bin : leb 3 (after way call s .heap .bins) ≡ true
+  list : ascending (sizeOn (shape (after way call s .words) (after way call s .heap .bytes))) (listOf (after way call s) 2) ≡ false
+
+-- no way that keeps `Order` does that
+kept-in-order : (way : Way) → Order way → (s : State) (call : Call) → Descends way s call → ⊥
+kept-in-order way promised s call d =
+    let t = after way call s in
+    let up = promised s (passing s (d .passes)) .left call 2 (at-most 3 (t .heap .bins) .0 (d .bin)) in
+    false≢true (sym (d .list) ∙ ascending-iff (sizeOn (shape (t .words) (t .heap .bytes))) (listOf t 2) .1 up)
 
 -- 17: blocks of 48 and 40 bytes, at 72 and at 120, are freed in this order: the smaller chunk is put behind the larger one
 abbrev large : State
 large = heapAfter (Allocate 40 ∷ Allocate 32 ∷ SetMerge false ∷ Free 80 ∷ [])
 
-abbrev unordered : State
-unordered = after atTheTail (Free 128) large
-
-large-passes : passes (large .words) (large .heap) ≡ true
+smaller-behind : Descends atTheTail large (Free 128)
 unfolding computes
-large-passes = refl
-
-has-bin : leb 3 (unordered .heap .bins) ≡ true
-unfolding computes
-has-bin = refl
-
-descends : ascending (sizeOn (shape (unordered .words) (unordered .heap .bytes))) (listOf unordered 2) ≡ false
-unfolding computes
-descends = refl
+smaller-behind = record { passes = refl; bin = refl; list = refl }
 
 pub order-refutes-at-the-tail : Order atTheTail → ⊥
-order-refutes-at-the-tail promised =
-    let up = promised large (passing large large-passes) .left (Free 128) 2 (at-most 3 (unordered .heap .bins) .0 has-bin) in
-    false≢true (sym descends ∙ ascending-iff (sizeOn (shape (unordered .words) (unordered .heap .bytes))) (listOf unordered 2) .1 up)
+order-refutes-at-the-tail promised = kept-in-order atTheTail promised large (Free 128) smaller-behind
+
+-- 32: the two are freed in the other order: the larger chunk is put before the smaller one
+abbrev smaller : State
+smaller = heapAfter (Allocate 40 ∷ Allocate 32 ∷ SetMerge false ∷ Free 128 ∷ [])
+
+larger-before : Descends largeAtTheHead smaller (Free 80)
+unfolding computes
+larger-before = record { passes = refl; bin = refl; list = refl }
+
+pub order-refutes-large-at-the-head : Order largeAtTheHead → ⊥
+order-refutes-large-at-the-head promised = kept-in-order largeAtTheHead promised smaller (Free 80) larger-before

@@ -1,5 +1,5 @@
--- Order (document 02, request Five): in every heap that passes, the list of each bin is in non-descending order of size; and a chunk that a call
--- puts into a bin outside the small array stands behind those of equal size.
+-- Order (document 02, request Five): in every heap that passes, the list of each bin is in non-descending order of size; a chunk that a call puts
+-- into a bin outside the small array stands behind those of equal size, and one that it puts into a bin of the small array before those that were there.
 use mathlib.Core.Path.{_≡_}
 use mathlib.Core.List.{List}
 use Prim.Native.Nat.{ℕ, _≤_, _<_}
@@ -51,11 +51,13 @@ Steady s t =
     → (x y : Entry) → InBin t i x → InBin t i y → On s x → On s y → Before (x .place) (y .place) (listOf s i)
     → Before (x .place) (y .place) (listOf t i)
 
--- the promise in one state: its lists are in order, and those that any call leaves; what a call puts stands behind its equals
+-- the promise in one state: its lists are in order, and those that any call leaves; what a call puts stands behind its equals, and before them in the
+-- small array
 pub record OrderAt (way : Way) (s : State) : Type 0 where
   pub now : InOrder s
   pub left : (call : Call) → InOrder (after way call s)
   pub behind : (call : Call) → Behind s (after way call s)
+  pub ahead : (call : Call) → Ahead s (after way call s)
 
 -- the promise, on every heap that passes
 abbrev pub Order : Way → Type 0
