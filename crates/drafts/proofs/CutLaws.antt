@@ -229,6 +229,12 @@ module _ (k : Kind) (low : List Entry) (e : Entry) (high : List Entry) {n : ℕ}
   cut-in-two l =
       rw (add-zero (e .place), sub-zero (e .size), le-leb (n + 24) (e .size) l, ne-eqb n 0 (λ z. omega arith), ne-eqb (e .size - n) 0 (λ z. omega arith))
 
+  pub cut-whole : n ≤ e .size → e .size < n + 24 → chunksOf (cut e 0 n) ≡ entry (e .place) (e .size) used ∷ []
+  unfolding cut
+  cut-whole m l =
+      let z : e .size - e .size ≡ 0 = omega arith in
+      rw (add-zero (e .place), sub-zero (e .size), lt-leb (n + 24) (e .size) l, ne-eqb (e .size) 0 (λ q. omega arith), z)
+
   pub grants-part : n + 24 ≤ e .size → ruledCut ≡ partly k low e high n d
   unfolding grantAt cut
   grants-part l =

@@ -4,7 +4,8 @@ use mathlib.Core.Path.{_≡_, sym, ap, subst, _∙_}
 use mathlib.Core.Logic.{_≢_, _⊎_, inl, inr}
 use mathlib.Core.Bool.{true, cond, false≢true}
 use mathlib.Core.List.{List, [], _∷_, _++_}
-use Prim.Native.Nat.{ℕ, _≤_}
+use Prim.Native.Nat.{ℕ, _+_, _≤_, _<_}
+use native.Mathlib.Decide.{ℕ-discrete}
 use native.Mathlib.Nat.{add-zero}
 use native.Mathlib.Omega.{arith}
 use lib.Dec.{eqb}
@@ -78,6 +79,10 @@ module _ {ws : List ℕ} {h : Heap} {n : ℕ} (room : Grantable ws h n) where
   pub grant-queued : StaysQueued ws h (theGrant .draft)
   grant-queued = rw grant-is (done .queued)
 
+  -- the parts stand where the source stood
+  pub granted-chain : theGrant .draft .chain ≡ low ++ chunksOf parts ++ high
+  granted-chain = rw grant-is (done .chain)
+
   -- the new record finds the same chunks live
   same-live : (e : Entry) → live (theGrant .draft .heap) e ≡ live h e
   same-live e = pictured-live ws h (room .well) (theGrant .draft) grant-kept e
@@ -87,13 +92,21 @@ module _ {ws : List ℕ} {h : Heap} {n : ℕ} (room : Grantable ws h n) where
   granted-in = granted-among cutting (omega arith)
 
   pub granted-there : Mem (theGrant .granted) (theGrant .draft .chain)
-  granted-there = rw (grant-is, done .chain) (middle-in low (chunksOf parts) high granted-in)
+  granted-there = rw granted-chain (rw grant-is (middle-in low (chunksOf parts) high granted-in))
 
   pub granted-live : live (theGrant .draft .heap) (theGrant .granted) ≡ true
   granted-live = same-live (theGrant .granted) ∙ rw grant-is (cut-live chunk cutting (room .eight) (room .large))
 
   pub granted-large : n ≤ theGrant .granted .size
   granted-large = rw grant-is (cutting .enough)
+
+  -- what is granted beyond n is too little for a chunk
+  pub granted-few : theGrant .granted .size < n + 24
+  granted-few = rw grant-is (go (ℕ-discrete (parts .above .size) 0))
+    where
+      go : Dec (parts .above .size ≡ 0) → parts .granted .size < n + 24
+      go (yes z) = omega (arith, cutting .sum, cutting .near z)
+      go (no some) = omega (arith, cutting .exact (omega arith))
 
   -- no live chunk is the source
   other : (e : Entry) → Mem e es → live h e ≡ true → e .place ≢ sourceChunk .place
@@ -109,7 +122,7 @@ module _ {ws : List ℕ} {h : Heap} {n : ℕ} (room : Grantable ws h n) where
 
   -- every chunk but the source stays
   pub others-there : (e : Entry) → Mem e (shape ws (h .bytes)) → e .place ≢ sourceChunk .place → Mem e (theGrant .draft .chain)
-  others-there e m n = rw (grant-is, done .chain) (outer-in low (chunksOf parts) high (outer (inner chunk) e m n))
+  others-there e m n = rw granted-chain (outer-in low (chunksOf parts) high (outer (inner chunk) e m n))
 
   -- every live chunk stays
   pub live-stays : (e : Entry) → Mem e (shape ws (h .bytes)) → live h e ≡ true

@@ -8,7 +8,7 @@ use Prim.Native.Nat.{ℕ, _+_, _*_, _≤_, _<_}
 use native.Mathlib.Decide.{ℕ-discrete}
 use native.Mathlib.Omega.{arith}
 use lib.IntN.{ℤ}
-use borrow.Author.Tests.{ne-eqb, lt-ltb}
+use borrow.Author.Tests.{ne-eqb, lt-ltb, not-false}
 use Rattle.drafts.proofs.SourceLaws.{Grantable, need-grantable}
 use Rattle.record.specs.declared.answers.Answer.{Answer}
 use Rattle.record.specs.declared.answers.Answer.the-variants.{Done, Granted, Returned}
@@ -31,7 +31,7 @@ use Rattle.rules.specs.Cut.{Grant}
 use Rattle.rules.specs.Outcome.{Outcome, Refusals, judged, heapFails, unchanged, made, grants, changeOf}
 use Rattle.rules.specs.Allocate.{grant, asFound, cleared, allocateWith, allocate, allocateCleared, allocateRefusals}
 use Rattle.rules.specs.Free.{isLive, blockSpot, freeBlock, free}
-use Rattle.rules.specs.Reallocate.{shrunk, moved, resized, resize, reallocate, resizeRefusals}
+use Rattle.rules.specs.Reallocate.{shrunk, moved, resized, resize, reallocate, resizeRefusals, resizedTo}
 use Rattle.rules.specs.Merge.{setMerge, check}
 use Rattle.rules.specs.Ask.{askChunk, askBin}
 use Rattle.rules.specs.Patrol.{patrol}
@@ -53,7 +53,7 @@ use Rattle.promises.proofs.ReasonLaws.{live-iff, one-block, here-holds}
 use Rattle.promises.proofs.ResizedLaws.{resized-so}
 
 -- a call that granted a block was accepted: all its tests for refusal failed
-accepted : (h : Heap) (o : Outcome) {block : Block} {change : ℤ} (ts : Refusals) → judged h ts o .answer ≡ Granted block change
+pub accepted : (h : Heap) (o : Outcome) {block : Block} {change : ℤ} (ts : Refusals) → judged h ts o .answer ≡ Granted block change
     → Failed ts × (judged h ts o ≡ o)
 accepted h o ts q = accepted-made h o ts (accepts (ap (λ (a : Answer). figuresOf a .refusal) q))
 
@@ -64,10 +64,10 @@ granted-block before e q = ap (λ (a : Answer). figuresOf a .offset) q
 module _ {ws : List ℕ} {h : Heap} (p : Passes ws h) {block : Block} {change : ℤ} where
   -- a new block; `fill` is written into it
   module _ (fill : Entry → List Store) (within : (e : Entry) → Within e (fill e)) (z : ℕ) (q : allocateWith fill ws h z .answer ≡ Granted block change) where
-    abbrev n : ℕ
+    abbrev pub n : ℕ
     n = need overhead z
 
-    abbrev made-of : Outcome
+    abbrev pub made-of : Outcome
     made-of = made (grants 0 (grant n (asRead ws h) .granted)) (alsoWrites (fill (grant n (asRead ws h) .granted)) (grant n (asRead ws h) .draft))
 
     taken : Failed (allocateRefusals (heapFails ws h) (asRead ws h) z) × (allocateWith fill ws h z ≡ made-of)
@@ -81,14 +81,16 @@ module _ {ws : List ℕ} {h : Heap} (p : Passes ws h) {block : Block} {change : 
     pub block-is : blockOf (grant n (asRead ws h) .granted) ≡ block .0
     block-is = granted-block 0 (grant n (asRead ws h) .granted) (sym (ap (λ (o : Outcome). o .answer) (taken .1)) ∙ q)
 
+    -- and what holds of what the rule's draft leaves holds of what the call leaves
+    pub granted-left : (P : ℕ → Left → Type 0) → P (blockOf (grant n (asRead ws h) .granted)) (leftBy ws made-of) → P (block .0) (leftBy ws (allocateWith fill ws h z))
+    granted-left P t = rw (taken .1, ← block-is) t
+
     with-apart : NewApart ws h n (block .0) (leftBy ws (allocateWith fill ws h z))
-    with-apart =
-        rw (taken .1, ← block-is) (new-apart grantable (fill (grant n (asRead ws h) .granted)) (within _) (made-of .answer))
+    with-apart = granted-left (NewApart ws h n) (new-apart grantable (fill (grant n (asRead ws h) .granted)) (within _) (made-of .answer))
 
   -- a cleared block
   cleared-clear : (z : ℕ) → allocateWith cleared ws h z .answer ≡ Granted block change → Clear (block .0) (leftBy ws (allocateWith cleared ws h z))
-  cleared-clear z q =
-      rw (taken cleared cleared-within z q .1, ← block-is cleared cleared-within z q) (new-clear (grantable cleared cleared-within z q))
+  cleared-clear z q = granted-left cleared cleared-within z q Clear (new-clear (grantable cleared cleared-within z q))
 
 -- the live block at b, whose chunk is e
 module _ {ws : List ℕ} {h : Heap} (p : Passes ws h) {b : ℕ} {e : Entry} (k : HoldsBlock ws h b e) where
@@ -104,24 +106,24 @@ module _ {ws : List ℕ} {h : Heap} (p : Passes ws h) {b : ℕ} {e : Entry} (k :
   free-left = rw (passes-iff ws h .1 p, ne-eqb b 0 some-block, is-live) refl
 
   -- the chunk that the rule finds is e
-  abbrev old : Entry
+  abbrev pub old : Entry
   old = blockSpot (asRead ws h) b .here
 
-  old-holds : HoldsBlock ws h b old
+  pub old-holds : HoldsBlock ws h b old
   old-holds = here-holds ws h p b (e, k)
 
-  old-is : old ≡ e
+  pub old-is : old ≡ e
   old-is = one-block ws h p b old e old-holds k
 
   -- it is reallocated
   module _ {block : Block} {change : ℤ} (z : ℕ) (q : ours (Reallocate b z) ws h .answer ≡ Granted block change) where
-    abbrev wanted : ℕ
+    abbrev pub wanted : ℕ
     wanted = need overhead z
 
-    abbrev result : Grant
+    abbrev pub result : Grant
     result = resized ws (blockSpot (asRead ws h) b) wanted (asRead ws h)
 
-    abbrev outcome : Outcome
+    abbrev pub outcome : Outcome
     outcome = made (grants (old .size) (result .granted)) (result .draft)
 
     abbrev tests : Refusals
@@ -140,6 +142,10 @@ module _ {ws : List ℕ} {h : Heap} (p : Passes ws h) {b : ℕ} {e : Entry} (k :
 
     resized-block : blockOf (result .granted) ≡ block .0
     resized-block = granted-block (old .size) (result .granted) (sym (ap (λ (x : Left). x .answer) resized-left) ∙ q)
+
+    -- and what holds of what the rule's draft leaves holds of what the call leaves
+    pub reallocated-left : (P : ℕ → Left → Type 0) → P (blockOf (result .granted)) (leftBy ws outcome) → P (block .0) (ours (Reallocate b z) ws h)
+    reallocated-left P t = rw (resized-left, ← resized-block) t
 
     -- it outgrows its chunk and moves
     module _ (less : e .size < wanted) where
@@ -192,19 +198,19 @@ module _ {ws : List ℕ} {h : Heap} (p : Passes ws h) {b : ℕ} {e : Entry} (k :
 
       -- a tail is split off and given back
       module _ (l : wanted + 24 ≤ old .size) where
-        shrinking : ShrinkingBlock ws h b wanted
+        pub shrinking : ShrinkingBlock ws h b wanted
         shrinking = block-shrinks p b is-live z l
 
-        abbrev shrinks : Grant
+        abbrev pub shrinks : Grant
         shrinks = shrunk (blockSpot (asRead ws h) b) wanted (asRead ws h)
 
-        abbrev shrunkWords : List ℕ
+        abbrev pub shrunkWords : List ℕ
         shrunkWords = written ws (shrinks .draft .stores)
 
         shrunk-chain : shape shrunkWords (shrinks .draft .heap .bytes) ≡ shrinks .draft .chain
         shrunk-chain = shrink-kept shrinking .chain
 
-        shrunk-stays : Stays ws wanted b e shrunkWords (shrinks .draft .heap) (shrinks .granted)
+        pub shrunk-stays : Stays ws wanted b e shrunkWords (shrinks .draft .heap) (shrinks .granted)
         shrunk-stays =
             let t = shrink-there shrinking in
             record {
@@ -255,6 +261,14 @@ module _ {ws : List ℕ} {h : Heap} (p : Passes ws h) {b : ℕ} {e : Entry} (k :
       stays-apart : let left = ours (Reallocate b z) ws h in
           (block .0 ≡ b) × ((y : Entry) × Stays ws wanted b e (left .words) (left .heap) y) × KeepsOthers ws h b left × NoneNewBut ws h b left
       stays-apart = let (place, stays, keeps, none) = result-stays in rw resized-left (sym resized-block ∙ place, stays, keeps, none)
+
+-- a block that was reallocated was live
+pub was-live : {ws : List ℕ} {h : Heap} (b z : ℕ) {block : Block} {change : ℤ} → b ≢ 0 → ours (Reallocate b z) ws h .answer ≡ Granted block change
+    → (e : Entry) × HoldsBlock ws h b e
+unfolding ours step reallocate resize
+was-live {ws} {h} b z some q =
+    let (_, (_, (l, _))) = accepted h (resizedTo ws (asRead ws h) b z) (resizeRefusals (heapFails ws h) (asRead ws h) b z) (rw (ne-eqb b 0 some) at q) .0 in
+    live-iff ws h b .0 (not-false (isLive (asRead ws h) b) l)
 
 -- a question changes nothing, answered or refused
 unchanged-judged : (h : Heap) (a : Answer) (ts : Refusals) → judged h ts (unchanged h a) ≡ unchanged h (judged h ts (unchanged h a) .answer)

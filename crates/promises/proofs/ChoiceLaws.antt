@@ -31,12 +31,11 @@ use Rattle.rules.specs.Check.{Passes}
 use Rattle.rules.specs.Draft.{asRead}
 use Rattle.rules.specs.Serve.{ownBin, largerBin, chosen}
 use Rattle.rules.specs.Allocate.{sourceOf}
-use Rattle.rules.proofs.SpotLaws.{one-chunk, one-around}
+use Rattle.rules.proofs.SpotLaws.{one-chunk}
 use Rattle.promises.specs.Ways.{ours}
-use Rattle.promises.specs.Room.{OnChain}
-use Rattle.promises.specs.Choice.{LiesIn, sameBin, inOwnBin, rankAs, rank, LowestRank, DonorLast, DonorBeforeLarger, InTurn, Choice}
+use Rattle.promises.specs.Choice.{sameBin, inOwnBin, rankAs, rank, LowestRank, DonorLast, DonorBeforeLarger, InTurn, Choice}
 use Rattle.promises.proofs.ServeLaws as serve
-use Rattle.promises.proofs.NewBlocksLaws.{grantedBlock, lies-in-source, each-new-block}
+use Rattle.promises.proofs.NewBlocksLaws.{grantedBlock, source-alone, each-new-block}
 
 -- one bin for both sizes
 same-bin : (a b : Binned) → sameBin a b ≡ true → a ≡ b
@@ -171,15 +170,9 @@ module _ (ws : List ℕ) (h : Heap) (n b : ℕ) (lowest : LowestRank ws h n b) w
 
 -- n bytes are granted
 module _ {ws : List ℕ} {h : Heap} {n : ℕ} (room : Grantable ws h n) where
-  -- no chunk but the source has the block
-  source-alone : (from : Entry) → OnChain ws h from → LiesIn (grantedBlock room) from → from ≡ sourceChunk room
-  source-alone from m (low, high) =
-      let (lower, upper) = lies-in-source room in
-      one-around ws h (room .well) (grantedBlock room) from (sourceChunk room) m (can room .member) (omega arith, high) (omega arith, upper)
-
   granted-lowest : LowestRank ws h n (grantedBlock room)
   granted-lowest from m lies =
-      rw (source-alone from m lies) (chosen-lowest ws h (room .well) n (room .large) (room .some) (sourceChunk room) (can room))
+      rw (source-alone room from m lies) (chosen-lowest ws h (room .well) n (room .large) (room .some) (sourceChunk room) (can room))
 
   granted-in-turn : InTurn ws h n (grantedBlock room)
   granted-in-turn = in-turn ws h n (grantedBlock room) granted-lowest

@@ -49,10 +49,10 @@ keeps-on ws us vs g h e a b = record { held = b .held; same = λ k l. b .same k 
 
 -- n bytes are granted
 module _ {ws : List ℕ} {h : Heap} {n : ℕ} (room : Grantable ws h n) where
-  abbrev new : Entry
+  abbrev pub new : Entry
   new = granting.new room
 
-  abbrev grantedHeap : Heap
+  abbrev pub grantedHeap : Heap
   grantedHeap = granting.grantedHeap room
 
   abbrev from : Entry
@@ -74,13 +74,13 @@ module _ {ws : List ℕ} {h : Heap} {n : ℕ} (room : Grantable ws h n) where
 
   -- stores ss into the new block
   module _ (ss : List Store) (w : Within new ss) where
-    abbrev filledWords : List ℕ
+    abbrev pub filledWords : List ℕ
     filledWords = granting.filledWords room ss w
 
     abbrev sameChain : shape filledWords (grantedHeap .bytes) ≡ shape (granting.grantedWords room) (grantedHeap .bytes)
     sameChain = granting.granted-filled room ss w .chain
 
-    new-held : HoldsBlock filledWords grantedHeap (blockOf new) new
+    pub new-held : HoldsBlock filledWords grantedHeap (blockOf new) new
     new-held = record { member = rw sameChain (granting.new-there room); live = granting.new-live room; block = refl }
 
     -- they are to no word of a live block
@@ -159,20 +159,20 @@ module _ (ws : List ℕ) (h : Heap) (p : Passes ws h) (b : ℕ) (l : isLive (asR
 
 -- the block of the chunk e moves
 module _ {ws : List ℕ} {h : Heap} {n : ℕ} {e : Entry} (moves : Moving ws h n e) where
-  abbrev to : Entry
+  abbrev pub to : Entry
   to = moving.to moves
 
   -- the words and the record after the copy, and after the old block was freed
-  abbrev copiedWords : List ℕ
+  abbrev pub copiedWords : List ℕ
   copiedWords = moving.copiedWords moves
 
-  abbrev copiedHeap : Heap
+  abbrev pub copiedHeap : Heap
   copiedHeap = moving.copiedHeap moves
 
-  abbrev movedWords : List ℕ
+  abbrev pub movedWords : List ℕ
   movedWords = moving.movedWords moves
 
-  abbrev movedHeap : Heap
+  abbrev pub movedHeap : Heap
   movedHeap = freeBlock (blockOf e) (moving.copiedOver moves) .heap
 
   abbrev copies : List Store
@@ -194,7 +194,7 @@ module _ {ws : List ℕ} {h : Heap} {n : ℕ} {e : Entry} (moves : Moving ws h n
       (others-kept copiedWords copiedHeap (moving.copied-passes moves) (blockOf e) (moving.still-live moves) d k j o)
 
   -- the free keeps the new block
-  to-kept : Keeps copiedWords movedWords movedHeap to
+  pub to-kept : Keeps copiedWords movedWords movedHeap to
   to-kept =
       let r = new-held (moves .room) copies within in
       moved-keeps to (r .member) (r .live) (λ q. granted-new (moves .room) e (moves .member) (moves .live) (omega arith))

@@ -20,6 +20,7 @@ pub mod ApartLaws
 pub mod NewBlocksLaws
 pub mod ChoiceLaws
 pub mod BestFitLaws
+pub mod SplittingLaws
 pub mod OrderLaws
 pub mod RunsLaws
 pub mod PatrolLaws
@@ -36,4 +37,5 @@ pub mod WrongToldLaws
 pub mod WrongChoiceLaws
 pub mod WrongOrderLaws
 pub mod WrongBestFitLaws
+pub mod WrongSplittingLaws
 pub mod SignLaws

@@ -1,12 +1,13 @@
 -- What holds of every grant of the rules holds of each new block (`each-new-block`): allocate, cleared allocate, reallocate of block 0 and of a
--- block that moves all grant by one rule. The granted block lies in the chunk that was chosen (`lies-in-source`). Assumes nothing.
+-- block that moves all grant by one rule. The granted block lies in the chunk that was chosen (`lies-in-source`), and in no other (`source-alone`). Assumes
+-- nothing.
 use mathlib.Core.Path.{_≡_, subst}
 use mathlib.Core.List.{List}
 use Prim.Native.Nat.{ℕ, _*_}
 use native.Mathlib.Omega.{arith}
 use lib.IntN.{ℤ}
 use Rattle.drafts.proofs.FillLaws.{Within}
-use Rattle.drafts.proofs.GrantKept.{sourceChunk, theGrant}
+use Rattle.drafts.proofs.GrantKept.{sourceChunk, can, theGrant}
 use Rattle.drafts.proofs.SourceLaws.{Grantable}
 use Rattle.record.specs.declared.answers.Answer.the-variants.{Granted}
 use Rattle.record.specs.declared.heap.Heap.{Heap}
@@ -19,7 +20,9 @@ use Rattle.rules.specs.Serve.{need}
 use Rattle.rules.specs.Allocate.{asFound, cleared, allocateWith, allocate, allocateCleared}
 use Rattle.rules.specs.Reallocate.{reallocate}
 use Rattle.rules.specs.Calls.{step}
+use Rattle.rules.proofs.SpotLaws.{one-around}
 use Rattle.promises.specs.Ways.{Way, ours}
+use Rattle.promises.specs.Room.{OnChain}
 use Rattle.promises.specs.NewBlocks.{EachNewBlock}
 use Rattle.promises.specs.Choice.{LiesIn}
 use Rattle.promises.proofs.GrantedLaws.{cut-from, cleared-within}
@@ -32,6 +35,11 @@ module _ {ws : List ℕ} {h : Heap} {n : ℕ} (room : Grantable ws h n) where
 
   pub lies-in-source : LiesIn grantedBlock (sourceChunk room)
   lies-in-source = let c = cut-from room in (omega (arith, c .starts), omega (arith, c .ends, c .enough, room .large))
+
+  pub source-alone : (from : Entry) → OnChain ws h from → LiesIn grantedBlock from → from ≡ sourceChunk room
+  source-alone from m (low, high) =
+      let (lower, upper) = lies-in-source in
+      one-around ws h (room .well) grantedBlock from (sourceChunk room) m (can room .member) (omega arith, high) (omega arith, upper)
 
 module _ (P : List ℕ → Heap → ℕ → ℕ → Type 0) (holds : (ws : List ℕ) (h : Heap) (n : ℕ) (room : Grantable ws h n) → P ws h n (grantedBlock room))
     (ws : List ℕ) (h : Heap) (p : Passes ws h) where

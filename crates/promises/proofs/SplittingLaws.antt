@@ -1,0 +1,163 @@
+-- The rules keep the promise `Splitting` (`splitting`): the chunk of a granted or resized block has fewer than 24 bytes more than needed, and where a
+-- new block is granted the chain changes at its chunk alone, which is split in two or granted whole. Assumes nothing.
+use mathlib.Core.Path.{_≡_, ap, _∙_}
+use mathlib.Core.List.{List, _∷_, _++_, append-assoc}
+use Prim.Native.Nat.{ℕ, _+_, _*_, _≤_, _<_}
+use native.Mathlib.Decide.{ℕ-discrete}
+use native.Mathlib.Omega.{arith}
+use lib.IntN.{ℤ}
+use borrow.Author.Tests.{eq-eqb}
+use Rattle.drafts.specs.Sources.{kindIn}
+use Rattle.drafts.proofs.CutLaws.{cut-in-two, cut-whole}
+use Rattle.drafts.proofs.FillLaws.{Within}
+use Rattle.drafts.proofs.GrantKept.{source, sourceChunk, can, parts, theGrant, granted-chain, granted-few}
+use Rattle.drafts.proofs.GrantedChunk.{grantedHeap, granted-pictured, filledWords, granted-filled}
+use Rattle.drafts.proofs.SourceLaws.{Grantable}
+use Rattle.lists.proofs.SplitLaws.{in-split}
+use Rattle.record.specs.declared.answers.Answer.the-variants.{Granted}
+use Rattle.record.specs.declared.heap.Heap.{Heap}
+use Rattle.region.specs.declared.Block.{Block}
+use Rattle.region.specs.Words.{Store}
+use Rattle.rules.specs.Shape.{Entry, shape}
+use Rattle.rules.specs.Kinds.{overhead, blockOf}
+use Rattle.rules.specs.Check.{Passes}
+use Rattle.rules.specs.Draft.{Spot, asRead}
+use Rattle.rules.specs.Serve.{need}
+use Rattle.rules.specs.Cut.{Grant, chunksOf}
+use Rattle.rules.specs.Outcome.{made, grants}
+use Rattle.rules.specs.Allocate.{asFound, cleared, allocateWith, allocate, allocateCleared}
+use Rattle.rules.specs.Free.{blockSpot}
+use Rattle.rules.specs.Reallocate.{shrunk, moved, reallocate}
+use Rattle.rules.specs.Statements.{Left, leftBy}
+use Rattle.rules.specs.Calls.{Call, Reallocate, step}
+use Rattle.rules.proofs.SpotLaws.{spot-cut}
+use Rattle.promises.specs.Ways.{ours}
+use Rattle.promises.specs.Room.{HoldsBlock}
+use Rattle.promises.specs.Choice.{LiesIn}
+use Rattle.promises.specs.Splitting.{AsksFor, allocates, allocatesCleared, reallocates, GrantsAlone, allocated, allocatedCleared, noBlock, SplitAs, Splitting}
+use Rattle.promises.proofs.ReasonLaws.{one-block}
+use Rattle.promises.proofs.ResizedLaws.{resized-by}
+use Rattle.promises.proofs.GrantedLaws.{cleared-within, new-held, to, to-kept}
+use Rattle.promises.proofs.KeptLaws.{kept}
+use Rattle.promises.proofs.ApartLaws.{grantable, granted-left, old-holds, old-is, moving, reallocated-left, shrinks, shrunk-stays, was-live}
+use Rattle.promises.proofs.NewBlocksLaws.{grantedBlock, source-alone}
+
+-- the block at b is live afterwards, in a chunk of fewer than n + 24 bytes
+abbrev Little : ℕ → ℕ → Left → Type 0
+Little n b left = (e : Entry) × HoldsBlock (left .words) (left .heap) b e × (e .size < n + 24)
+
+-- the chunk in which the block at b lies, on the chain of before, is split for n or granted whole
+abbrev Split : List ℕ → Heap → ℕ → ℕ → Left → Type 0
+Split ws h n b left =
+    (low : List Entry) (from : Entry) (high : List Entry) → shape ws (h .bytes) ≡ low ++ from ∷ high → LiesIn b from
+    → SplitAs n low from high (shape (left .words) (left .heap .bytes))
+
+-- n bytes are granted
+module _ {ws : List ℕ} {h : Heap} {n : ℕ} (room : Grantable ws h n) where
+  abbrev from : Entry
+  from = sourceChunk room
+
+  -- the source stands between `low` and `high`
+  module _ (low high : List Entry) (split : shape ws (h .bytes) ≡ low ++ from ∷ high) where
+    parts-between : (cs : List Entry) → chunksOf (parts room) ≡ cs → theGrant room .draft .chain ≡ low ++ (cs ++ high)
+    parts-between cs q =
+        granted-chain room ∙ ap (λ (s : Spot). s .low ++ chunksOf (parts room) ++ s .high) (spot-cut ws h (room .well) low from high split)
+        ∙ ap (λ (xs : List Entry). low ++ xs ++ high) q ∙ append-assoc low cs high
+
+    source-splits : SplitAs n low from high (theGrant room .draft .chain)
+    source-splits =
+        let kind = kindIn (source room) in
+        record {
+          split = λ l. parts-between _ (cut-in-two kind low from high (asRead ws h) (room .large) l);
+          whole = λ l. parts-between _ (cut-whole kind low from high (asRead ws h) (room .large) (can room .enough) l);
+        }
+
+  -- stores `ss` into the new block
+  module _ (ss : List Store) (w : Within (theGrant room .granted) ss) where
+    chain-filled : shape (filledWords room ss w) (grantedHeap room .bytes) ≡ theGrant room .draft .chain
+    chain-filled = granted-filled room ss w .chain ∙ granted-pictured room .chain
+
+    filled-splits : (low : List Entry) (c : Entry) (high : List Entry) → shape ws (h .bytes) ≡ low ++ c ∷ high → LiesIn (grantedBlock room) c
+        → SplitAs n low c high (shape (filledWords room ss w) (grantedHeap room .bytes))
+    filled-splits low c high split lies =
+        let q = source-alone room c (in-split low c high split) lies in
+        rw (chain-filled, q) (source-splits low high (rw q at split))
+
+-- the call grants a block
+module _ {ws : List ℕ} {h : Heap} (p : Passes ws h) {block : Block} {change : ℤ} where
+  -- a new one; `fill` is written into it
+  module _ (fill : Entry → List Store) (within : (e : Entry) → Within e (fill e)) (z : ℕ) (q : allocateWith fill ws h z .answer ≡ Granted block change) where
+    abbrev room : Grantable ws h (need overhead z)
+    room = grantable p fill within z q
+
+    abbrev new : Entry
+    new = theGrant room .granted
+
+    new-little : Little (need overhead z) (block .0) (leftBy ws (allocateWith fill ws h z))
+    new-little = granted-left p fill within z q (Little (need overhead z)) (new, new-held room (fill new) (within new), granted-few room)
+
+    new-split : Split ws h (need overhead z) (block .0) (leftBy ws (allocateWith fill ws h z))
+    new-split = granted-left p fill within z q (Split ws h (need overhead z)) (filled-splits room (fill new) (within new))
+
+  -- the live block at b, in the chunk e, is resized
+  module _ {b : ℕ} {e : Entry} (k : HoldsBlock ws h b e) (z : ℕ) (q : ours (Reallocate b z) ws h .answer ≡ Granted block change) where
+    abbrev n : ℕ
+    n = need overhead z
+
+    abbrev at : Spot
+    at = blockSpot (asRead ws h) b
+
+    -- what holds of a resized block
+    abbrev Resized : Grant → Type 0
+    Resized g = Little n (blockOf (g .granted)) (leftBy ws (made (grants (at .here .size) (g .granted)) (g .draft)))
+
+    -- it moves, it gives its tail back, it stays
+    moved-little : (less : e .size < n) → Resized (moved ws at n (asRead ws h))
+    moved-little less =
+        let moves = moving p k z q less in
+        (to moves, to-kept moves .held, granted-few (moves .room))
+
+    shrunk-little : n + 24 ≤ at .here .size → Resized (shrunk at n (asRead ws h))
+    shrunk-little spare =
+        let fits : n ≤ e .size = omega (arith, ap (λ (x : Entry). x .size) (old-is p k)) in
+        rw (old-holds p k .block) (shrinks p k z q fits spare .granted, shrunk-stays p k z q fits spare .held, omega arith)
+
+    same-little : at .here .size < n + 24 → Resized (record { granted = at .here; draft = asRead ws h })
+    unfolding asRead
+    same-little few = rw (old-holds p k .block) (at .here, old-holds p k, few)
+
+    resized-little : Little n (block .0) (ours (Reallocate b z) ws h)
+    resized-little =
+        reallocated-left p k z q (Little n)
+        (resized-by Resized ws at n (asRead ws h) (λ less. moved-little (rw (old-is p k) at less)) shrunk-little (λ _. same-little))
+
+  -- the heap passes afterwards, so no other chunk holds the block
+  little-alone : (call : Call) (n : ℕ) → ours call ws h .answer ≡ Granted block change → Little n (block .0) (ours call ws h)
+      → (e : Entry) → HoldsBlock (ours call ws h .words) (ours call ws h .heap) (block .0) e → e .size < n + 24
+  little-alone call n q (d, m, few) e k =
+      let left = ours call ws h in
+      let well : Passes (left .words) (left .heap) = rw q at (kept .calls call (record { words = ws; heap = h }) p) in
+      rw (one-block (left .words) (left .heap) well (block .0) e d k m) few
+
+  few-bytes : {call : Call} {z : ℕ} → AsksFor call z → ours call ws h .answer ≡ Granted block change → Little (need overhead z) (block .0) (ours call ws h)
+  unfolding ours step allocate allocateCleared reallocate
+  few-bytes (allocates {z = z}) q = new-little asFound (λ e. tt) z q
+  few-bytes (allocatesCleared {count = count} {size = size}) q = new-little cleared cleared-within (count * size) q
+  few-bytes (reallocates {b = b} {z = z}) q = go (ℕ-discrete b 0)
+    where
+      go : Dec (b ≡ 0) → Little (need overhead z) (block .0) (ours (Reallocate b z) ws h)
+      go (yes none) = rw (eq-eqb b 0 none) (new-little asFound (λ e. tt) z (rw (eq-eqb b 0 none) at q))
+      go (no some) = let (e, k) = was-live b z some q in resized-little k z q
+
+  splits : {call : Call} {z : ℕ} → GrantsAlone call z → ours call ws h .answer ≡ Granted block change → Split ws h (need overhead z) (block .0) (ours call ws h)
+  unfolding ours step allocate allocateCleared reallocate
+  splits (allocated {z = z}) q = new-split asFound (λ e. tt) z q
+  splits (allocatedCleared {count = count} {size = size}) q = new-split cleared cleared-within (count * size) q
+  splits (noBlock {z = z}) q = new-split asFound (λ e. tt) z q
+
+pub splitting : Splitting ours
+splitting ws h p =
+    record {
+      few = λ call z asks block change q. little-alone p call (need overhead z) q (few-bytes p asks q);
+      chain = λ call z alone block change q. splits p alone q;
+    }
