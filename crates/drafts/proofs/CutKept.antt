@@ -51,7 +51,7 @@ module _ {ws : List ℕ} {h : Heap} {low : List Entry} {e : Entry} {high : List 
   -- e is cut, at any place; its free parts have to settle
   module _ {skip n : ℕ} {parts : Parts} (c : Cutting e skip n parts)
       (skips : skip % 8 ≡ 0) (room : 0 < skip → 24 ≤ skip) (eight : n % 8 ≡ 0) (large : 24 ≤ n) where
-    pub lies : (x : Entry) → Mem x (chunksOf parts) → PartIn e x
+    lies : (x : Entry) → Mem x (chunksOf parts) → PartIn e x
     lies = let i = inside ws h well e member in part-in c (i .place) (i .size) skips room eight large
 
     laid : (x : Entry) → Mem x (chunksOf parts) → Laid (h .bytes) x

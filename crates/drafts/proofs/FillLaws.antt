@@ -36,6 +36,11 @@ filled-within e value n l = go n 0 (omega arith)
     go zero i r = tt
     go (suc n) i r = ((omega arith, omega arith), go n (suc i) (omega arith))
 
+-- no word past them is written
+pub fill-off : (value : ℕ → ℕ) (b n i k : ℕ) → i + n ≤ k → Off (b / 4 + k) (fillFrom b i value n)
+fill-off value b zero i k l = tt
+fill-off value b (suc n) i k l = (omega arith, fill-off value b n (suc i) k (omega arith))
+
 -- each word is read back
 pub fill-reads : (value : ℕ → ℕ) (b n i : ℕ) (ws : List ℕ) → b / 4 + i + n ≤ length ws → (k : ℕ) → i ≤ k → k < i + n
     → word (written ws (fillFrom b i value n)) b k ≡ value k

@@ -8,7 +8,7 @@ use Prim.Native.Nat.{ℕ, _+_, _*_, _/_, _%_, _≤_, _<_}
 use native.Mathlib.Decide.{ℕ-discrete, decLt}
 use native.Mathlib.Omega.{arith}
 use lib.Dec.{eqb}
-use borrow.Author.Tests.{eqb-true}
+use borrow.Author.Tests.{eq-eqb, eqb-true}
 use Rattle.lists.specs.Lists.{Mem, headOr, lastOr, upTo, past}
 use Rattle.lists.proofs.ListsLaws.{each-cons}
 use Rattle.lists.proofs.MembersLaws.{last-member}
@@ -138,6 +138,20 @@ module _ (P : ℕ → Type 0) where
           let f : MemberLinks xs = λ c m. s .members i c (before-from (eqb (e .place)) (d .lists i) m) in
           let g : MemberLinks ys = λ c m. s .members i c (after-from (eqb (e .place)) (d .lists i) m) in
           relist-spared i (xs ++ ys) (meet xs ys) d s (links-both xs ys f g) (meet-falls xs ys f g)
+
+  -- so it is if P holds of the bin links of those that are left
+  pub left-spared : (e : Entry) (d : Draft) → Fall P (d .stores) → ((i : ℕ) → MemberLinks (leaveBin e d .lists i)) → Spared (leaveBin e d)
+  unfolding leaveBin leave
+  left-spared e d f members = record { stores = go (binOf (tableOf (d .heap)) (e .size)) members; members = members }
+    where
+      go : (b : Binned) → ((i : ℕ) → MemberLinks (onBin (λ i. leave i (e .place)) b d .lists i)) → Fall P (onBin (λ i. leave i (e .place)) b d .stores)
+      go (Bin i) g =
+          let xs : List ℕ = upTo (eqb (e .place)) (d .lists i) in
+          let ys : List ℕ = past (eqb (e .place)) (d .lists i) in
+          let all : MemberLinks (xs ++ ys) = rw (eq-eqb i i refl) at (g i) in
+          fall-both P (d .stores) (meet xs ys) f
+          (meet-falls xs ys (λ c m. all c (Memᴰ·append-left ys m)) (λ c m. all c (Memᴰ·append-right xs m)))
+      go NoBin g = f
 
   -- chunks are linked in: P holds of their header words and of the backward link of the chunk above them
   headers-fall : (p : ℕ) (es : List Entry) → ((e : Entry) → Mem e es → HeaderWords e) → Fall P (headers p es)

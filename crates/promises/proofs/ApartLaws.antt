@@ -149,7 +149,7 @@ module _ {ws : List ℕ} {h : Heap} (p : Passes ws h) {b : ℕ} {e : Entry} (k :
 
     -- it outgrows its chunk and moves
     module _ (less : e .size < wanted) where
-      abbrev left : Left
+      abbrev pub left : Left
       left = ours (Reallocate b z) ws h
 
       outgrown : old .size < wanted
@@ -160,7 +160,7 @@ module _ {ws : List ℕ} {h : Heap} (p : Passes ws h) {b : ℕ} {e : Entry} (k :
           let (_, (_, (_, (room, _)))) = resize-taken .0 in
           block-moves p b is-live z (rw (lt-ltb (old .size) wanted outgrown) at room) outgrown
 
-      abbrev moves : Grant
+      abbrev pub moves : Grant
       moves = moved ws (blockSpot (asRead ws h) b) wanted (asRead ws h)
 
       moved-is : result ≡ moves
@@ -171,22 +171,22 @@ module _ {ws : List ℕ} {h : Heap} (p : Passes ws h) {b : ℕ} {e : Entry} (k :
       pub moved-block : blockOf (moves .granted) ≡ block .0
       moved-block = ap (λ (x : Grant). blockOf (x .granted)) (sym moved-is) ∙ resized-block
 
-      moved-left : leftBy ws (made (grants (old .size) (moves .granted)) (moves .draft)) ≡ left
-      moved-left = sym (resized-left ∙ ap (λ (x : Grant). leftBy ws (made (grants (old .size) (x .granted)) (x .draft))) moved-is)
+      -- and what holds of what the rule's move leaves holds of what the call leaves
+      abbrev pub leftMoved : Left
+      leftMoved = leftBy ws (made (grants (old .size) (moves .granted)) (moves .draft))
+
+      pub moved-left : (P : ℕ → Left → Type 0) → P (blockOf (moves .granted)) leftMoved → P (block .0) left
+      moved-left P t = reallocated-left P (rw moved-is t)
 
       -- the promise about a moved block
-      abbrev Moved : ℕ → ℕ → Entry → Left → Type 0
-      Moved d c x y = New ws h wanted d y × KeepsOthers ws h c y × Gone c y × NoneNewBut ws h d y × SameWords ws c (y .words) d (blockWords x)
+      abbrev Moved : ℕ → Entry → ℕ → Left → Type 0
+      Moved c x d y = New ws h wanted d y × KeepsOthers ws h c y × Gone c y × NoneNewBut ws h d y × SameWords ws c (y .words) d (blockWords x)
 
-      moves-apart : Moved (block .0) b e left
+      moves-apart : Moved b e (block .0) left
       moves-apart =
-          let to : ℕ = blockOf (moves .granted) in
-          let r : Moved to (blockOf old) old (leftBy ws (made (grants (old .size) (moves .granted)) (moves .draft))) =
-          moved-apart moving (grants (old .size) (moves .granted)) in
-          subst (λ (d : ℕ). Moved d b e left) moved-block
-          (subst (λ (x : Entry). Moved to b x left) old-is
-          (subst (λ (c : ℕ). Moved to c old left) (old-holds .block)
-          (subst (λ (y : Left). Moved to (blockOf old) old y) moved-left r)))
+          moved-left (Moved b e)
+          (subst (λ (x : Entry). Moved b x (blockOf (moves .granted)) leftMoved) old-is
+          (subst (λ (c : ℕ). Moved c old (blockOf (moves .granted)) leftMoved) (old-holds .block) (moved-apart moving (grants (old .size) (moves .granted)))))
 
     -- its chunk has room for it
     module _ (fits : wanted ≤ e .size) where

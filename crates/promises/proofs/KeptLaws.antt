@@ -1,11 +1,12 @@
 -- The check is an invariant (`kept`): an accepted setup makes a heap that passes, and every call and every write inside a live block
--- leaves one that passes. Assumes nothing.
+-- leaves one that passes. So a block that a call grants has one chunk (`of-its-chunk`). Assumes nothing.
 use mathlib.Core.Path.{_≡_, refl}
 use mathlib.Core.Bool.{Bool, true, false, not, cond, _&&_}
 use mathlib.Core.List.{List, [], _∷_}
 use Prim.Native.Nat.{ℕ, _*_, _<_}
 use native.Mathlib.Omega.{arith}
 use lib.Dec.{eqb, ltb}
+use lib.IntN.{ℤ}
 use lib.ListN.{length}
 use borrow.Author.Tests.{lt-ltb, not-false}
 use Rattle.drafts.proofs.SourceLaws.{need-grantable}
@@ -17,6 +18,7 @@ use Rattle.record.specs.declared.heap.Heap.{Heap}
 use Rattle.record.specs.Heap.{empty, withMerge, withPatrol}
 use Rattle.record.specs.Table.{validTable}
 use Rattle.record.proofs.TableLaws.{valid-iff}
+use Rattle.region.specs.declared.Block.{Block}
 use Rattle.region.specs.Words.{Store, written}
 use Rattle.drafts.proofs.ReleaseKept.{free-kept}
 use Rattle.drafts.proofs.ShrinkKept.{shrink-kept}
@@ -40,9 +42,10 @@ use Rattle.rules.proofs.OutcomeLaws.{Failed, judged-so}
 use Rattle.rules.proofs.PatrolSound.{patrol-so}
 use Rattle.drafts.proofs.FillLaws.{Within, written-inside}
 use Rattle.promises.specs.Ways.{ours}
+use Rattle.promises.specs.Room.{HoldsBlock}
 use Rattle.promises.specs.Kept.{Passing, Accepted, OnLiveBlocks, afterStores, Kept}
 use Rattle.promises.proofs.JudgedLaws.{accepted-made}
-use Rattle.promises.proofs.ReasonLaws.{fitting-iff, length-in}
+use Rattle.promises.proofs.ReasonLaws.{fitting-iff, length-in, one-block}
 use Rattle.promises.proofs.ResizedLaws.{resized-so}
 use Rattle.promises.proofs.GrantedLaws.{cleared-within}
 use Rattle.promises.proofs.FreshLaws.{fresh-passes}
@@ -232,3 +235,13 @@ kept =
       calls = λ call s p. step-passes (s .words) (s .heap) p call;
       writes = stores-pass;
     }
+
+-- what holds of a chunk that holds the granted block holds of every one that does
+pub of-its-chunk : (Q : Entry → Type 0) {ws : List ℕ} {h : Heap} → Passes ws h → (call : Call) {block : Block} {change : ℤ}
+    → let left = ours call ws h in
+    left .answer ≡ Granted block change → ((d : Entry) × HoldsBlock (left .words) (left .heap) (block .0) d × Q d)
+    → (e : Entry) → HoldsBlock (left .words) (left .heap) (block .0) e → Q e
+of-its-chunk Q {ws} {h} p call {block} q (d, m, holds) e k =
+    let left = ours call ws h in
+    let well : Passes (left .words) (left .heap) = rw q at (kept .calls call (record { words = ws; heap = h }) p) in
+    rw (one-block (left .words) (left .heap) well (block .0) e d k m) holds

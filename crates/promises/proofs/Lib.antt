@@ -21,6 +21,7 @@ pub mod NewBlocksLaws
 pub mod ChoiceLaws
 pub mod BestFitLaws
 pub mod SplittingLaws
+pub mod AsFoundLaws
 pub mod OrderLaws
 pub mod RunsLaws
 pub mod PatrolLaws
@@ -38,4 +39,5 @@ pub mod WrongChoiceLaws
 pub mod WrongOrderLaws
 pub mod WrongBestFitLaws
 pub mod WrongSplittingLaws
+pub mod WrongAsFoundLaws
 pub mod SignLaws

@@ -35,10 +35,9 @@ use Rattle.promises.specs.Ways.{ours}
 use Rattle.promises.specs.Room.{HoldsBlock}
 use Rattle.promises.specs.Choice.{LiesIn}
 use Rattle.promises.specs.Splitting.{AsksFor, allocates, allocatesCleared, reallocates, GrantsAlone, allocated, allocatedCleared, noBlock, SplitAs, Splitting}
-use Rattle.promises.proofs.ReasonLaws.{one-block}
 use Rattle.promises.proofs.ResizedLaws.{resized-by}
 use Rattle.promises.proofs.GrantedLaws.{cleared-within, new-held, to, to-kept}
-use Rattle.promises.proofs.KeptLaws.{kept}
+use Rattle.promises.proofs.KeptLaws.{of-its-chunk}
 use Rattle.promises.proofs.ApartLaws.{grantable, granted-left, old-holds, old-is, moving, reallocated-left, shrinks, shrunk-stays, was-live}
 use Rattle.promises.proofs.NewBlocksLaws.{grantedBlock, source-alone}
 
@@ -131,14 +130,6 @@ module _ {ws : List ℕ} {h : Heap} (p : Passes ws h) {block : Block} {change : 
         reallocated-left p k z q (Little n)
         (resized-by Resized ws at n (asRead ws h) (λ less. moved-little (rw (old-is p k) at less)) shrunk-little (λ _. same-little))
 
-  -- the heap passes afterwards, so no other chunk holds the block
-  little-alone : (call : Call) (n : ℕ) → ours call ws h .answer ≡ Granted block change → Little n (block .0) (ours call ws h)
-      → (e : Entry) → HoldsBlock (ours call ws h .words) (ours call ws h .heap) (block .0) e → e .size < n + 24
-  little-alone call n q (d, m, few) e k =
-      let left = ours call ws h in
-      let well : Passes (left .words) (left .heap) = rw q at (kept .calls call (record { words = ws; heap = h }) p) in
-      rw (one-block (left .words) (left .heap) well (block .0) e d k m) few
-
   few-bytes : {call : Call} {z : ℕ} → AsksFor call z → ours call ws h .answer ≡ Granted block change → Little (need overhead z) (block .0) (ours call ws h)
   unfolding ours step allocate allocateCleared reallocate
   few-bytes (allocates {z = z}) q = new-little asFound (λ e. tt) z q
@@ -158,6 +149,6 @@ module _ {ws : List ℕ} {h : Heap} (p : Passes ws h) {block : Block} {change : 
 pub splitting : Splitting ours
 splitting ws h p =
     record {
-      few = λ call z asks block change q. little-alone p call (need overhead z) q (few-bytes p asks q);
+      few = λ call z asks block change q. of-its-chunk (λ e. e .size < need overhead z + 24) p call q (few-bytes p asks q);
       chain = λ call z alone block change q. splits p alone q;
     }
