@@ -33,10 +33,10 @@
 /** @name Version
  *  Of this header and of the archive that it belongs to.
  *  @{ */
-#define KZ_VERSION_MAJOR 0
-#define KZ_VERSION_MINOR 2
-#define KZ_VERSION_PATCH 0
-#define KZ_VERSION "0.2.0"
+#define KZ_VERSION_MAJOR 0 /**< Raised where programs have to be changed, from 1 on. */
+#define KZ_VERSION_MINOR 2 /**< Raised where something is added; below 1.0.0 also where programs have to be changed. */
+#define KZ_VERSION_PATCH 0 /**< Raised else. */
+#define KZ_VERSION "0.2.0" /**< All three. */
 /** @} */
 
 /** The most bins that a heap may have: the length of the record's three arrays. */
@@ -84,6 +84,7 @@ typedef struct kz_counts {
     uint32_t free;     /**< Free bytes: of ordinary chunks, donor and top. used + free + 16 are the heap bytes. */
 } kz_counts;
 
+/** @cond */
 /* The compiled functions know these types as arrays of words, one after the other. */
 #if defined(__cplusplus) && __cplusplus >= 201103L
 #define KZ_LAID_OUT(type, words) static_assert(sizeof(type) == 4 * (words), "padding in " #type)
@@ -96,6 +97,7 @@ KZ_LAID_OUT(kz_record, 7 + 3 * KZ_MOST_BINS);
 KZ_LAID_OUT(kz_answer, 5);
 KZ_LAID_OUT(kz_counts, 5);
 #undef KZ_LAID_OUT
+/** @endcond */
 
 /** @name Questions about a chunk
  *  For kz_ask_chunk(), which is given the chunk's place; for #KZ_ASK_CHUNK the place is a block's. The answer is the value, or
@@ -126,17 +128,17 @@ KZ_LAID_OUT(kz_counts, 5);
  *  zeros. Manual 6 has what to do about each (the operator's card). No call gives 9: the name that it had, KZ_NO_BIN_TAKES, is
  *  gone, and the number is not used again.
  *  @{ */
-#define KZ_ACCEPTED 0
-#define KZ_REGION_LENGTH 1
-#define KZ_BAD_TABLE 2
-#define KZ_DONOR_SIZE 3
-#define KZ_HEAP_FAILS 4
-#define KZ_BLOCK_SIZE 5
-#define KZ_NOT_LIVE 6
-#define KZ_NO_ROOM 7
-#define KZ_NOT_THERE 8
-#define KZ_RUN_SIZE 10
-#define KZ_BEYOND_MENDING 12
+#define KZ_ACCEPTED 0        /**< The call was carried out. */
+#define KZ_REGION_LENGTH 1   /**< Setup: under 10 or over 16,384 words. */
+#define KZ_BAD_TABLE 2       /**< Setup: the bin table is not valid. */
+#define KZ_DONOR_SIZE 3      /**< Setup: the donor is not 0, and is below 24, no multiple of 8, or above the heap bytes less 40. */
+#define KZ_HEAP_FAILS 4      /**< The heap fails the check. */
+#define KZ_BLOCK_SIZE 5      /**< The size, or the product, is 0 or over 65,488. */
+#define KZ_NOT_LIVE 6        /**< There is no live block: a double free, or a place that was never a block. */
+#define KZ_NO_ROOM 7         /**< No chunk of the heap can serve the size. */
+#define KZ_NOT_THERE 8       /**< A question: no such chunk, live block, bin or question. */
+#define KZ_RUN_SIZE 10       /**< Patrol: a run of no chunks. */
+#define KZ_BEYOND_MENDING 12 /**< Patrol: a link is broken, and the way back from the end does not lead to it. */
 /** @} */
 
 #ifdef __cplusplus

@@ -1,4 +1,4 @@
--- Apart (document 01, "The calls", "Tempting shortcuts"): on a heap that passes, a new block overlaps no live one, and every live block
+-- Apart (manual 5; document 01, "The calls", "Tempting shortcuts"): on a heap that passes, a new block overlaps no live one, and every live block
 -- but the one that is freed or reallocated keeps its place, its length and its words.
 use mathlib.Core.Path.{_≡_}
 use mathlib.Core.Logic.{_⊎_, _≢_}

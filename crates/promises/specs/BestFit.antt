@@ -1,4 +1,4 @@
--- BestFit (document 02, request Six): on a heap that passes, a block that is granted from a bin comes from a smallest ordinary chunk that can
+-- BestFit (manual 5.2; document 02, request Six): on a heap that passes, a block that is granted from a bin comes from a smallest ordinary chunk that can
 -- serve its need. Said of the chain alone: the lists of the bins do not occur.
 use mathlib.Core.Path.{_≡_}
 use mathlib.Core.Logic.{_⊎_}

@@ -1,4 +1,4 @@
--- Choice (document 01, "The calls": the order in which Allocate tries; document 02, request Four: the donor for large needs): on a heap
+-- Choice (manual 5.2; document 01, "The calls": the order in which Allocate tries; document 02, request Four: the donor for large needs): on a heap
 -- that passes, a block is granted from a chunk that is tried first among those that can serve its need.
 use mathlib.Core.Path.{_≡_}
 use mathlib.Core.Logic.{_⊎_}

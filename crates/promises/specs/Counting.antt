@@ -1,4 +1,4 @@
--- Counts (document 01, "The check"): the check's four counts follow the chain and the lists, and used + free + 16 = heap bytes.
+-- Counts (manual 5.7; document 01, "The check"): the check's four counts follow the chain and the lists, and used + free + 16 = heap bytes.
 use mathlib.Core.Path.{_≡_}
 use mathlib.Core.List.{List}
 use Prim.Native.Nat.{ℕ, _+_, _*_}

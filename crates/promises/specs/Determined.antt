@@ -1,4 +1,4 @@
--- Determined (document 01, "How far each statement reaches"): what a public call ensures admits one answer, one record
+-- Determined (manual 7; document 01, "How far each statement reaches"): what a public call ensures admits one answer, one record
 -- and one content of the region.
 use mathlib.Core.Path.{_≡_}
 use mathlib.Core.List.{List}

@@ -1,4 +1,4 @@
--- A full patrol (document 02, request Two): runs of f chunks each, none of them refused, up to the one that handles the end chunk.
+-- A full patrol (manual 9; document 02, request Two): runs of f chunks each, none of them refused, up to the one that handles the end chunk.
 use mathlib.Core.Path.{_≡_}
 use Prim.Native.Nat.{ℕ}
 use Rattle.record.specs.declared.answers.Answer.the-variants.{Told}

@@ -1,4 +1,4 @@
--- Kept (document 01, "The check"; demand 3 speaks of every heap that a run leads to): the check is an invariant. An accepted setup makes
+-- Kept (manual 4; document 01, "The check"; demand 3 speaks of every heap that a run leads to): the check is an invariant. An accepted setup makes
 -- a heap that passes, and every call and every write into a live block leaves one that passes.
 use mathlib.Core.Path.{_≡_}
 use mathlib.Core.Bool.{Bool, true}

@@ -1,4 +1,4 @@
--- Mended (document 02, request Two): a heap that passed the check was damaged in links and free sizes, its record whole, its patrol at the
+-- Mended (manual 9; document 02, request Two): a heap that passed the check was damaged in links and free sizes, its record whole, its patrol at the
 -- start. A full patrol, with any number of chunks a run, undoes the damage exactly where each chunk's next one is still found; and so
 -- in the document's two cases.
 use mathlib.Core.Path.{_≡_}

@@ -1,4 +1,4 @@
--- Odd (document 01, "Words, chunks, blocks"): no call reads or writes an odd last word of the region.
+-- Odd (manual 2.1; document 01, "Words, chunks, blocks"): no call reads or writes an odd last word of the region.
 use mathlib.Core.Path.{_≡_}
 use mathlib.Core.List.{List}
 use Prim.Native.Nat.{ℕ, _*_, _/_}

@@ -1,4 +1,4 @@
--- Order (document 02, request Five): in every heap that passes, the list of each bin is in non-descending order of size; a chunk that a call puts
+-- Order (manual 3.3; document 02, request Five): in every heap that passes, the list of each bin is in non-descending order of size; a chunk that a call puts
 -- into a bin outside the small array stands behind those of equal size, and one that it puts into a bin of the small array before those that were there.
 use mathlib.Core.Path.{_≡_}
 use mathlib.Core.List.{List}

@@ -1,4 +1,4 @@
--- Refused (document 01, "Numbers of refusal"; document 02, request Two): a call is refused exactly with the first number whose reason holds,
+-- Refused (manual 6; document 01, "Numbers of refusal"; document 02, request Two): a call is refused exactly with the first number whose reason holds,
 -- and a refused call changes nothing. The reasons stand in the order of the document's table.
 use mathlib.Core.Path.{_≡_}
 use mathlib.Core.Logic.{_↔_, _⊎_, _≢_}

@@ -1,4 +1,4 @@
--- Room (document 01, "The calls": Allocate, Cleared allocate, Reallocate; "Numbers of refusal", number 7):
+-- Room (manual 5.2, 6; document 01, "The calls": Allocate, Cleared allocate, Reallocate; "Numbers of refusal", number 7):
 -- on a heap that passes, a request is refused for lack of room exactly when no chunk of the chain can serve its need.
 use mathlib.Core.Path.{_≡_}
 use mathlib.Core.Logic.{_↔_}

@@ -1,4 +1,4 @@
--- Rounds (document 02, request Two): on a heap that passes, a run of the patrol writes nothing and goes on by exactly the chunks that it was
+-- Rounds (manual 9; document 02, request Two): on a heap that passes, a run of the patrol writes nothing and goes on by exactly the chunks that it was
 -- asked for; from the start the patrol reaches the end in k/f runs, rounded up, for k chunks and f a run, and is at the start again.
 use mathlib.Core.Path.{_≡_}
 use Prim.Native.Nat.{ℕ, zero, suc, _+_, _-_, _/_, _≤_, _<_}

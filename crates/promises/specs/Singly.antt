@@ -1,4 +1,4 @@
--- Singly (document 02, request Two): a run of f chunks is f runs of one, where all of those are accepted.
+-- Singly (manual 5.9; document 02, request Two): a run of f chunks is f runs of one, where all of those are accepted.
 use mathlib.Core.Path.{_≡_}
 use Prim.Native.Nat.{ℕ, suc}
 use Rattle.record.specs.declared.answers.Answer.the-variants.{Told}

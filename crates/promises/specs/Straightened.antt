@@ -1,4 +1,4 @@
--- Straightened (beyond document 02, request Two): on every region, a full patrol from the start that is not refused leaves links that go up
+-- Straightened (manual 9; beyond document 02, request Two): on every region, a full patrol from the start that is not refused leaves links that go up
 -- from the start to the end chunk, each backward link and each free size right; the next full patrol writes nothing.
 use mathlib.Core.Path.{_≡_}
 use mathlib.Core.Bool.{false}

@@ -1,4 +1,4 @@
--- Questions (document 01, "The calls": Questions; document 02, request One): on a heap that passes, what each of the nine questions
+-- Questions (manual 5.8; document 01, "The calls": Questions; document 02, request One): on a heap that passes, what each of the nine questions
 -- about a chunk and of the three about a bin is answered, over the chain and the bins' lists. Where there is no such chunk, block or bin,
 -- the answer is none, which is not 0.
 use mathlib.Core.Path.{_≡_}

@@ -1,4 +1,4 @@
--- Zero is a real place (document 02, request One): 0 is the place of the start and the number of a bin. Where there is no chunk or bin to
+-- Zero is a real place (manual 5.8; document 02, request One): 0 is the place of the start and the number of a bin. Where there is no chunk or bin to
 -- name, a question is answered none, which is told apart from 0.
 use mathlib.Core.Path.{_≡_}
 use mathlib.Core.Bool.{true}

@@ -1,4 +1,4 @@
--- The rule for a bin, proved once for any valid table (document 01, "The bin table and the record"):
+-- The rule for a bin, proved once for any valid table (manual 3.1; document 01, "The bin table and the record"):
 -- which sizes have a bin, which bin it is, and how bins and sizes lie to each other. Assumes nothing.
 use Prim.Native.Nat.{ℕ, zero, suc, _+_, _*_, _-_, _/_, _%_, _≤_, _<_}
 use native.Mathlib.Nat.{add-zero, add-suc}

@@ -1,5 +1,5 @@
 -- The number of each refusal, and the figures that each answer stands for
--- (document 01, "Numbers of refusal", "The calls", "The check"; document 02, request One: an answer of none).
+-- (manual 5, 6; document 01, "Numbers of refusal", "The calls", "The check"; document 02, request One: an answer of none).
 use mathlib.Core.Bool.{Bool, true, false}
 use Prim.Native.Nat.{ℕ}
 use lib.IntN.{ℤ, pos}

@@ -1,4 +1,4 @@
--- The record (document 01, "The bin table and the record"): its empty value, its summary, its setters, its table and its places
+-- The record (manual 3.4; document 01, "The bin table and the record"): its empty value, its summary, its setters, its table and its places
 -- for bins. All the fields are listed in this file, in the record of a fresh heap and in the flat record of the C interface alone:
 -- every other definition names the fields that it uses.
 use Prim.Native.Nat.{ℕ}

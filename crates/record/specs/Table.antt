@@ -1,4 +1,4 @@
--- The bin table (document 01, "The bin table and the record"): which tables are valid, the bin of a size, the small array.
+-- The bin table (manual 3.1, 3.2; document 01, "The bin table and the record"): which tables are valid, the bin of a size, the small array.
 use mathlib.Core.Path.{_≡_}
 use mathlib.Core.Bool.{Bool, true, false, cond, _&&_, _||_}
 use mathlib.Core.List.{List, [], _∷_}

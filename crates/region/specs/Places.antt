@@ -1,4 +1,4 @@
--- From a chunk's place to its block's, eight bytes above it, and back (document 01, "Words, chunks, blocks").
+-- From a chunk's place to its block's, eight bytes above it, and back (manual 2.3; document 01, "Words, chunks, blocks").
 -- The code counts in 32 bits, so both conversions saturate at the ends of that range.
 use Prim.Native.Nat.{ℕ, _+_, _-_, min}
 

@@ -1,5 +1,5 @@
 -- The region as a list of words. A word is named by its chunk's place and its number in the header
--- (document 01, "Words, chunks, blocks"). A read outside the region gives 0, and a store there does nothing.
+-- (manual 2.1, 2.2; document 01, "Words, chunks, blocks"). A read outside the region gives 0, and a store there does nothing.
 use Prim.Native.Nat.{ℕ, _+_, _/_}
 use mathlib.Core.List.{List, [], _∷_}
 use lib.ListN.{getD, set}

@@ -1,4 +1,4 @@
--- The order of the bins' lists (document 02, request Five). The check asks for it outside the small array; a bin of the small array has one size,
+-- The order of the bins' lists (manual 3.3; document 02, request Five). The check asks for it outside the small array; a bin of the small array has one size,
 -- so that to ask for it of every bin is the same (`every-bin-iff`). One after the other the bins are one list in order (`bins-in-order`). Assumes
 -- nothing.
 use mathlib.Core.Path.{_≡_, sym, ap, _∙_}

@@ -1,4 +1,4 @@
--- Allocate and cleared allocate (document 01, "The calls"); refusals 4, 5, 7.
+-- Allocate and cleared allocate (manual 5.2, 5.3; document 01, "The calls"); refusals 4, 5, 7.
 use mathlib.Core.Bool.{Bool, not}
 use mathlib.Core.List.{List, [], _∷_, map}
 use Prim.Native.Nat.{ℕ, _*_}

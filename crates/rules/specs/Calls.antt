@@ -1,4 +1,4 @@
--- Calls as data, the step that one makes, and runs of calls (document 01, "The calls"; document 02, request Two).
+-- Calls as data, the step that one makes, and runs of calls (manual 5; document 01, "The calls"; document 02, request Two).
 use mathlib.Core.Bool.{Bool}
 use mathlib.Core.List.{List, [], _∷_}
 use Prim.Native.Nat.{ℕ}

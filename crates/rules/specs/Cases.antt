@@ -1,4 +1,4 @@
--- The fourteen proved cases (document 01, "The demonstration" and "Both sides") as one table:
+-- The fourteen proved cases (manual 13; document 01, "The demonstration" and "Both sides") as one table:
 -- the region, the calls before, the call, and every fact that the document states of it. Then cases of our own for the donor, for the order in bins and for
 -- the fit.
 use mathlib.Core.Bool.{Bool, true, false, cond, _&&_}

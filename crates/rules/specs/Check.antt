@@ -1,4 +1,4 @@
--- The check (document 01, "The check" and the sections that it refers to): the invariant of a heap, part by part in the
+-- The check (manual 4; document 01, "The check" and the sections that it refers to): the invariant of a heap, part by part in the
 -- document's order, each part also as a test; and the four counts.
 use mathlib.Core.Path.{_≡_}
 use mathlib.Core.Bool.{Bool, true, false, not, _&&_, _||_}
@@ -158,7 +158,7 @@ abbrev pub belongsTo : Heap → ℕ → Entry → Bool
 belongsTo h i e = ordinary h e && isBin i (binOf (tableOf h) (e .size))
 
 -- The list cs of bin i: doubly linked, its last member at the tail; no member twice; each member an ordinary chunk of the chain
--- that belongs to bin i, as its bin word says; outside the small array in non-descending order of size (document 02, request Five).
+-- that belongs to bin i, as its bin word says; outside the small array in non-descending order of size (manual 3.3; document 02, request Five).
 -- (No field for the head: `binList` begins there.)
 pub record Listed (ws : List ℕ) (h : Heap) (es : List Entry) (i : ℕ) (cs : List ℕ) : Type 0 where
   pub tail : getD (h .tails) i 0 ≡ lastOr 0 cs
@@ -194,7 +194,7 @@ usedBytes h es = total (λ e. e .size) (keep (live h) es)
 abbrev pub freeBytes : Heap → List Entry → ℕ
 freeBytes h es = total (λ e. e .size) (keep (isFree h) es)
 
--- A chunk of the chain is at c; start and end count. The patrol's place has to be such a place (document 02, request Two).
+-- A chunk of the chain is at c; start and end count. The patrol's place has to be such a place (manual 4; document 02, request Two).
 abbrev pub IsChunk : List Entry → ℕ → Type 0
 IsChunk es c = (e : Entry) × Mem e es × (e .place ≡ c)
 

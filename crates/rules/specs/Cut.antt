@@ -1,4 +1,4 @@
--- Splitting a free chunk to grant a part of it (document 01, "The calls": Allocate).
+-- Splitting a free chunk to grant a part of it (manual 5.2; document 01, "The calls": Allocate).
 use mathlib.Core.Bool.{not, cond}
 use mathlib.Core.List.{List, [], _∷_}
 use Prim.Native.Nat.{ℕ, _+_, _-_}

@@ -1,5 +1,5 @@
 -- A draft: the record, chain, lists and stores of a heap that a call is building. A step changes them together.
--- The steps here take a chunk out of a bin, put one into a bin, and link chunks into the chain (document 01, "The calls").
+-- The steps here take a chunk out of a bin, put one into a bin, and link chunks into the chain (manual 5; document 01, "The calls").
 use mathlib.Core.Bool.{Bool, true, false, cond}
 use mathlib.Core.List.{List, [], _∷_, _++_}
 use Prim.Native.Nat.{ℕ, _+_, _*_, _-_}
@@ -84,7 +84,7 @@ abbrev pub larger : List Entry → Entry → ℕ → Bool
 larger es e c = ltb (e .size) (sizeOn es c)
 
 -- the chunk e is put into bin i: at the head of a bin of the small array (last in, first out); in any other before the first larger chunk,
--- and so behind those of equal size (document 02, request Five)
+-- and so behind those of equal size (manual 3.3; document 02, request Five)
 unfoldable pub putInto : ℕ → Entry → Draft → Draft
 putInto i e d =
     let cs = d .lists i in

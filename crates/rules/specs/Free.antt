@@ -1,4 +1,4 @@
--- Free (document 01, "The calls"); refusals 4, 6.
+-- Free (manual 5.4; document 01, "The calls"); refusals 4, 6.
 use mathlib.Core.Bool.{Bool, not, cond, _&&_}
 use mathlib.Core.List.{List, [], _∷_}
 use Prim.Native.Nat.{ℕ}

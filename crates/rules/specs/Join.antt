@@ -1,4 +1,4 @@
--- Joining a chunk with its free neighbours (coalescing), and giving it back (document 01, "The calls": Free).
+-- Joining a chunk with its free neighbours (coalescing), and giving it back (manual 5.4; document 01, "The calls": Free).
 use mathlib.Core.Bool.{cond, _&&_}
 use mathlib.Core.List.{List, [], _∷_, _++_}
 use Prim.Native.Nat.{ℕ, _-_}
@@ -57,7 +57,7 @@ leaveBins (e ∷ es) d = leaveBins es (leaveBin e d)
 unfoldable pub movedDown : Entry → ℕ → ℕ
 movedDown e c = cond (ltb (e .place) c && ltb c (chunkEnd e)) (e .place) c
 
--- the patrol's place where the chunk e joined others (document 02, request Two)
+-- the patrol's place where the chunk e joined others (manual 5.4; document 02, request Two)
 abbrev pub swallowing : Entry → Draft → Draft
 swallowing e d = patrolsAt (movedDown e (d .heap .patrol .0)) d
 

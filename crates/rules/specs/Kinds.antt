@@ -1,4 +1,4 @@
--- The kind of a chunk, and its block (document 01, "Words, chunks, blocks").
+-- The kind of a chunk, and its block (manual 2.3, 2.4; document 01, "Words, chunks, blocks").
 -- The eight bytes between a chunk's place and its block's stand in `overhead` and nowhere else in the rules.
 use mathlib.Core.Bool.{Bool, true, false, cond}
 use mathlib.Core.List.{List}

@@ -1,4 +1,4 @@
--- The merge setting and the check as calls (document 01, "The calls", "The check"); refusal 4.
+-- The merge setting and the check as calls (manual 5.6, 5.7; document 01, "The calls", "The check"); refusal 4.
 use mathlib.Core.Bool.{Bool, cond}
 use mathlib.Core.List.{List, [], _∷_}
 use Prim.Native.Nat.{ℕ}

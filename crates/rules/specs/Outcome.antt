@@ -1,4 +1,4 @@
--- The outcome of a call: its answer, the record, and the words that it writes, in order (document 01, "Numbers of refusal").
+-- The outcome of a call: its answer, the record, and the words that it writes, in order (manual 6; document 01, "Numbers of refusal").
 use mathlib.Core.Bool.{Bool, true, false, not}
 use mathlib.Core.List.{List, [], _∷_}
 use Prim.Native.Nat.{ℕ}

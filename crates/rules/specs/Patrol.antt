@@ -1,4 +1,4 @@
--- The patrol (document 02, request Two): a run handles a given number of chunks, going up from the patrol's place, and mends links and
+-- The patrol (manual 5.9; document 02, request Two): a run handles a given number of chunks, going up from the patrol's place, and mends links and
 -- free sizes; refusals 10, 4, 12. It is for damaged heaps, so it does not ask for the check: each chunk is judged by the words as the
 -- run finds them. `end` is the place of the end chunk throughout.
 use mathlib.Core.Bool.{Bool, true, false, not, cond, _&&_, _||_}

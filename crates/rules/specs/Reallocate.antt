@@ -1,4 +1,4 @@
--- Reallocate (document 01, "The calls"); refusals 4, 5, 6, 7.
+-- Reallocate (manual 5.5; document 01, "The calls"); refusals 4, 5, 6, 7.
 use mathlib.Core.Bool.{Bool, not, cond, _&&_}
 use mathlib.Core.List.{List, [], _∷_, _++_, map}
 use Prim.Native.Nat.{ℕ, _+_, _-_}

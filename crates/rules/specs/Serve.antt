@@ -1,4 +1,4 @@
--- The need of a request, the chunks that can serve it, and the one that is chosen (document 01, "The calls": Allocate; the donor
+-- The need of a request, the chunks that can serve it, and the one that is chosen (manual 5.2; document 01, "The calls": Allocate; the donor
 -- serves every need since request Four of document 02).
 use mathlib.Core.Bool.{Bool, true, false, not, cond, _&&_, _||_}
 use mathlib.Core.List.{List, [], _∷_}

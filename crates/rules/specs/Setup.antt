@@ -1,4 +1,4 @@
--- Setup (document 01, "The calls"): on any region; refusals 1, 2, 3.
+-- Setup (manual 5.1; document 01, "The calls"): on any region; refusals 1, 2, 3.
 use mathlib.Core.Bool.{Bool, not, cond, _&&_, _||_}
 use mathlib.Core.List.{List, [], _∷_, _++_}
 use Prim.Native.Nat.{ℕ, _+_, _-_, _%_}

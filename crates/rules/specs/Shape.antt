@@ -1,4 +1,4 @@
--- How the region is read (document 01, "Words, chunks, blocks"): the chunks in address order, as a list of entries (the chain),
+-- How the region is read (manual 2; document 01, "Words, chunks, blocks"): the chunks in address order, as a list of entries (the chain),
 -- and a bin's free list, as a list of places. Every rule is stated over these two.
 use mathlib.Core.Bool.{true, false, _&&_}
 use mathlib.Core.List.{List, [], _∷_}

@@ -46,11 +46,17 @@ fn c_name(refusal: Refusal) -> String {
 
 const HEADER: &str = include_str!("../../../include/kruzhvela.h");
 
+/// A line of the header without the comment at its end.
+fn without_comment(line: &str) -> &str {
+    line.split("/**<").next().unwrap_or(line).trim_end()
+}
+
 /// The header has these names and numbers, from `KZ_ACCEPTED` to the last definition that follows it, and no others.
 #[test]
 fn the_header_has_the_same_numbers() {
     let from = HEADER.find("#define KZ_ACCEPTED").expect("the refusals begin with KZ_ACCEPTED");
-    let defined: Vec<&str> = HEADER[from..].lines().take_while(|line| line.starts_with("#define")).collect();
+    let lines = HEADER[from..].lines().take_while(|line| line.starts_with("#define"));
+    let defined: Vec<&str> = lines.map(without_comment).collect();
     let mut expected = vec!["#define KZ_ACCEPTED 0".to_string()];
     expected.extend(NUMBERS.map(|(number, refusal)| format!("#define {} {number}", c_name(refusal))));
     assert_eq!(defined, expected);
@@ -69,8 +75,9 @@ fn the_header_has_the_same_sentences() {
 #[test]
 fn the_header_has_the_same_version() {
     let version = env!("CARGO_PKG_VERSION");
-    assert!(HEADER.contains(&format!("#define KZ_VERSION \"{version}\"\n")));
+    let lines: Vec<&str> = HEADER.lines().map(without_comment).collect();
+    assert!(lines.contains(&format!("#define KZ_VERSION \"{version}\"").as_str()));
     for (name, number) in ["MAJOR", "MINOR", "PATCH"].iter().zip(version.split('.')) {
-        assert!(HEADER.contains(&format!("#define KZ_VERSION_{name} {number}\n")), "{name}");
+        assert!(lines.contains(&format!("#define KZ_VERSION_{name} {number}").as_str()), "{name}");
     }
 }
