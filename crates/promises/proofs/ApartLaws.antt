@@ -39,7 +39,7 @@ use Rattle.rules.specs.Statements.{Left, leftBy}
 use Rattle.rules.specs.Calls.{Call, Setup, Allocate, AllocateCleared, Free, Reallocate, SetMerge, Check, AskChunk, AskBin, Patrol, step}
 use Rattle.rules.proofs.CheckLaws.{passes-iff}
 use Rattle.rules.proofs.SpotLaws.{inside}
-use Rattle.rules.proofs.OutcomeLaws.{Failed, judged-so}
+use Rattle.rules.proofs.OutcomeLaws.{Failed}
 use Rattle.rules.proofs.PatrolSound.{patrol-so}
 use Rattle.drafts.proofs.FillLaws.{Within}
 use Rattle.promises.specs.Ways.{ours}
@@ -48,7 +48,7 @@ use Rattle.promises.specs.Refusing.{isSetup, refusedRecord}
 use Rattle.promises.specs.Apart.{SameWords, Keeps, KeepsAll, KeepsOthers, Gone, NoneNew, NoneNewBut, New, Clear, Stays, onlyLooks, Apart}
 use Rattle.promises.proofs.RefusingLaws.{refusing}
 use Rattle.promises.proofs.GrantedLaws.{NewApart, kept-still, new-apart, new-clear, cleared-within, others-kept, none-others, moved-apart}
-use Rattle.promises.proofs.JudgedLaws.{accepts, accepted-made}
+use Rattle.promises.proofs.JudgedLaws.{accepts, accepted-made, unchanged-judged}
 use Rattle.promises.proofs.ReasonLaws.{live-iff, one-block, here-holds}
 use Rattle.promises.proofs.ResizedLaws.{resized-so}
 
@@ -269,10 +269,6 @@ unfolding ours step reallocate resize
 was-live {ws} {h} b z some q =
     let (_, (_, (l, _))) = accepted h (resizedTo ws (asRead ws h) b z) (resizeRefusals (heapFails ws h) (asRead ws h) b z) (rw (ne-eqb b 0 some) at q) .0 in
     live-iff ws h b .0 (not-false (isLive (asRead ws h) b) l)
-
--- a question changes nothing, answered or refused
-unchanged-judged : (h : Heap) (a : Answer) (ts : Refusals) → judged h ts (unchanged h a) ≡ unchanged h (judged h ts (unchanged h a) .answer)
-unchanged-judged h a ts = judged-so (λ x. x ≡ unchanged h (x .answer)) h (unchanged h a) ts (λ r. refl) (λ _. refl)
 
 -- where nothing is written every live block is kept, and none is new
 still : (ws : List ℕ) (h : Heap) → KeepsAll ws h (leftBy ws (unchanged h Done)) × NoneNew ws h (leftBy ws (unchanged h Done))

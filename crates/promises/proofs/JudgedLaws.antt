@@ -17,7 +17,7 @@ use Rattle.record.specs.declared.heap.Heap.{Heap}
 use Rattle.record.specs.Answers.{figuresOf}
 use Rattle.record.proofs.AnswersLaws.{numbered}
 use Rattle.rules.specs.Check.{Passes, passes}
-use Rattle.rules.specs.Outcome.{Outcome, Refusals, judged}
+use Rattle.rules.specs.Outcome.{Outcome, Refusals, judged, unchanged}
 use Rattle.rules.specs.Calls.{Call, Patrol, step}
 use Rattle.rules.proofs.CheckLaws.{passes-iff}
 use Rattle.rules.proofs.OutcomeLaws.{Failed, judged-so}
@@ -33,6 +33,10 @@ accepts z r q = omega (arith, numbered r .0, sym (ap (λ (x : Answer). figuresOf
 pub accepted-made : (h : Heap) (o : Outcome) (ts : Refusals) → Accepted (judged h ts o .answer) → Failed ts × (judged h ts o ≡ o)
 accepted-made h o ts =
     judged-so (λ x. Accepted (x .answer) → Failed ts × (x ≡ o)) h o ts (λ r a. absurd (a r refl)) (λ k a. (k, refl))
+
+-- a call that only answers changes nothing, accepted or refused
+pub unchanged-judged : (h : Heap) (a : Answer) (ts : Refusals) → judged h ts (unchanged h a) ≡ unchanged h (judged h ts (unchanged h a) .answer)
+unchanged-judged h a ts = judged-so (λ x. x ≡ unchanged h (x .answer)) h (unchanged h a) ts (λ r. refl) (λ _. refl)
 
 -- each test decides its reason among the reasons B, if the reasons before it do not hold
 abbrev pub Decided : (Refusal → Type 0) → Refusals → Type 0

@@ -15,6 +15,8 @@ pub mod GrantedLaws
 pub mod InsideLaws
 pub mod OddLaws
 pub mod FreshLaws
+pub mod LookingLaws
+pub mod AnsweringLaws
 pub mod KeptLaws
 pub mod ApartLaws
 pub mod NewBlocksLaws
