@@ -1,5 +1,6 @@
 pub mod NeedLaws
 pub mod PutLaws
+pub mod StepLaws
 pub mod QueueLaws
 pub mod LivesLaws
 pub mod LayoutLaws

@@ -59,6 +59,13 @@ module _ {ws : List ℕ} {h : Heap} {low : List Entry} {e : Entry} {high : List 
   pub own-used : usedBytes h (e ∷ []) ≡ e .size
   own-used = rw (chunk .live) (add-zero (e .size))
 
+  pub own-among-used : e .size ≤ h .used
+  own-among-used =
+      let a = used-parts h low (e ∷ []) high in
+      let s = own-used in
+      let u = used-with in
+      omega arith
+
   -- given back, e leaves a gap
   fill-laid : Laid (h .bytes) (gapChunk (e .place) (chunkEnd e))
   fill-laid =

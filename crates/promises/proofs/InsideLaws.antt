@@ -19,7 +19,7 @@ use Rattle.region.proofs.PrefixLaws.{Below, below-both}
 use Rattle.region.proofs.WordsLaws.{fall-so, length-written}
 use Rattle.rules.specs.Shape.{Entry, heapBytes, chunkEnd}
 use Rattle.rules.specs.Kinds.{blockOf, blockEnd, blockWords, overhead}
-use Rattle.rules.specs.Check.{Passes, passes}
+use Rattle.rules.specs.Check.{Passes}
 use Rattle.rules.specs.Draft.{Draft, Spot, asRead, alsoWrites}
 use Rattle.rules.specs.Serve.{nowhere, need}
 use Rattle.rules.specs.Cut.{Grant}
@@ -31,7 +31,6 @@ use Rattle.rules.specs.Setup.{setup, donorFits, setupRefusals, opened}
 use Rattle.rules.specs.Merge.{setMerge, check}
 use Rattle.rules.specs.Ask.{askChunk, askBin, chunkAnswers, askedSpot, isAsked, isThere, answerTo, binAnswers}
 use Rattle.rules.specs.Calls.{Call, Setup, Allocate, AllocateCleared, Free, Reallocate, SetMerge, Check, AskChunk, AskBin, Patrol, step}
-use Rattle.rules.proofs.CheckLaws.{passes-iff}
 use Rattle.rules.proofs.SpotLaws.{inside}
 use Rattle.rules.proofs.OutcomeLaws.{Failed, judged-so}
 use Rattle.rules.proofs.SetupLaws.{first-below}
@@ -43,7 +42,7 @@ use Rattle.drafts.proofs.GrantSpared.{grant-inside}
 use Rattle.drafts.proofs.ReleaseSpared.{free-inside, shrink-inside}
 use Rattle.drafts.proofs.WantedLaws.{block-moves, block-shrinks}
 use Rattle.drafts.proofs.MovedLaws.{fits, copiedOver, copiedWords, copiedHeap, copied-passes, still-live, moved-reread}
-use Rattle.promises.proofs.ReasonLaws.{Fitting, fitting-iff, length-in}
+use Rattle.promises.proofs.ReasonLaws.{not-failing, Fitting, fitting-iff, length-in}
 use Rattle.promises.proofs.ResizedLaws.{resized-so}
 
 -- stores into a block are below its end
@@ -119,9 +118,6 @@ module _ (ws : List ℕ) (h : Heap) where
   abbrev even : ℕ
   even = length ws / 2 * 2
 
-  passing : not (passes ws h) ≡ false → Passes ws h
-  passing q = passes-iff ws h .0 (not-false (passes ws h) q)
-
   heap-even : Passes ws h → h .bytes / 4 ≡ even
   heap-even p = omega arith
 
@@ -132,7 +128,7 @@ module _ (ws : List ℕ) (h : Heap) where
       → Below even (allocateWith fill ws h z .stores)
   with-below fill z b =
       judged-below even h (allocated fill (asRead ws h) z) (allocateRefusals (heapFails ws h) (asRead ws h) z)
-      (λ (f, (_, (some, _))). let p = passing f in rw (← heap-even p) (b p some))
+      (λ (f, (_, (some, _))). let p = not-failing ws h f in rw (← heap-even p) (b p some))
 
   allocate-below : (z : ℕ) → Below even (allocate ws h z .stores)
   unfolding allocate
@@ -145,7 +141,7 @@ module _ (ws : List ℕ) (h : Heap) where
   free-all-below : (b : ℕ) → Below even (free ws h b .stores)
   unfolding free asRead
   free-all-below b =
-      judged-below even h (freed (asRead ws h) b) (freeRefusals (heapFails ws h) (asRead ws h) b) (λ (f, (l, _)). go (passing f) (eqb b 0) l)
+      judged-below even h (freed (asRead ws h) b) (freeRefusals (heapFails ws h) (asRead ws h) b) (λ (f, (l, _)). go (not-failing ws h f) (eqb b 0) l)
     where
       go : Passes ws h → (t : Bool) → (not t && not (isLive (asRead ws h) b)) ≡ false
           → Below even (cond t (asRead ws h) (freeBlock b (asRead ws h)) .stores)
@@ -157,7 +153,7 @@ module _ (ws : List ℕ) (h : Heap) where
   resize-below b z =
       judged-below even h (resizedTo ws (asRead ws h) b z) (resizeRefusals (heapFails ws h) (asRead ws h) b z)
       (λ (f, (_, (l, (room, _)))).
-      let p = passing f in
+      let p = not-failing ws h f in
       rw (← heap-even p) (resized-below ws h p b (not-false (isLive (asRead ws h) b) l) z room))
 
   reallocate-below : (b z : ℕ) → Below even (reallocate ws h b z .stores)

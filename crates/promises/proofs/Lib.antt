@@ -17,6 +17,7 @@ pub mod OddLaws
 pub mod FreshLaws
 pub mod LookingLaws
 pub mod AnsweringLaws
+pub mod BalancedLaws
 pub mod KeptLaws
 pub mod ApartLaws
 pub mod NewBlocksLaws

@@ -9,7 +9,7 @@ use native.Mathlib.Decide.{ℕ-discrete, decLt}
 use native.Mathlib.Omega.{arith}
 use lib.Dec.{leb, ltb}
 use lib.ListN.{length}
-use borrow.Author.Tests.{eq-eqb, ne-eqb}
+use borrow.Author.Tests.{eq-eqb, ne-eqb, not-false}
 use Rattle.lists.proofs.ListsLaws.{Decides, number-is, at-most, less, meaning, both, or-else, denied, for-some}
 use Rattle.record.specs.declared.heap.Heap.{Heap}
 use Rattle.rules.specs.Shape.{Entry, shape, heapBytes}
@@ -24,13 +24,16 @@ use Rattle.rules.proofs.SpotLaws.{one-chunk, spot-splits, spot-member}
 use Rattle.promises.specs.Room.{HoldsBlock}
 use Rattle.promises.specs.Refusing.{WrongDonor, AskedOf}
 
--- a heap that does not fail passes
+-- a heap that does not fail passes; so does one for which the test for refusal 4 fails
 pub passes? : (ws : List ℕ) (h : Heap) → ((Passes ws h → ⊥) → ⊥) → Passes ws h
 passes? ws h n = go (passes ws h) refl
   where
     go : (t : Bool) → passes ws h ≡ t → Passes ws h
     go true e = passes-iff ws h .0 e
     go false e = absurd (n (λ p. false≢true (sym e ∙ passes-iff ws h .1 p)))
+
+pub not-failing : (ws : List ℕ) (h : Heap) → not (passes ws h) ≡ false → Passes ws h
+not-failing ws h q = passes-iff ws h .0 (not-false (passes ws h) q)
 
 -- z is not in the range from 1 to `most`
 pub range-iff : (most z : ℕ) → Decides (not (leb 1 z && leb z most)) ((z ≡ 0) ⊎ (most < z))
