@@ -43,4 +43,5 @@ pub mod WrongOrderLaws
 pub mod WrongBestFitLaws
 pub mod WrongSplittingLaws
 pub mod WrongAsFoundLaws
+pub mod WrongAnswersLaws
 pub mod SignLaws
