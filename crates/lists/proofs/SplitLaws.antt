@@ -24,6 +24,12 @@ module _ {A : Type 0} (o : A) where
       go x [] = refl
       go x (y ∷ ys) = ap (λ (l : List A). x ∷ l) (go y ys)
 
+-- all but the last of a list with one member appended
+pub but-last : {A : Type 0} (xs : List A) (y : A) → butLast (xs ++ y ∷ []) ≡ xs
+but-last [] y = refl
+but-last (x ∷ []) y = refl
+but-last {A} (x ∷ z ∷ xs) y = ap (λ (l : List A). x ∷ l) (but-last (z ∷ xs) y)
+
 -- the first member stays when a list is appended, and the default for the last does not matter
 pub first-stays : {A : Type 0} (b : A) (xs ys : List A) → (xs ≡ [] → ⊥) → headOr b (xs ++ ys) ≡ headOr b xs
 first-stays b [] ys n = absurd (n refl)

@@ -97,11 +97,11 @@ module _ {ws : List ℕ} {h : Heap} (p : Passes ws h) {b : ℕ} {e : Entry} (k :
   some-block : b ≢ 0
   some-block q = omega arith
 
-  is-live : isLive (asRead ws h) b ≡ true
+  pub is-live : isLive (asRead ws h) b ≡ true
   is-live = live-iff ws h b .1 (e, k)
 
   -- what freeing it leaves
-  free-left : ours (Free b) ws h ≡ leftBy ws (made (Returned (changeOf (blockSpot (asRead ws h) b .here .size) 0)) (freeBlock b (asRead ws h)))
+  pub free-left : ours (Free b) ws h ≡ leftBy ws (made (Returned (changeOf (blockSpot (asRead ws h) b .here .size) 0)) (freeBlock b (asRead ws h)))
   unfolding ours step free
   free-left = rw (passes-iff ws h .1 p, ne-eqb b 0 some-block, is-live) refl
 
@@ -137,7 +137,7 @@ module _ {ws : List ℕ} {h : Heap} (p : Passes ws h) {b : ℕ} {e : Entry} (k :
     resize-taken : Failed tests × (judged h tests outcome ≡ outcome)
     resize-taken = accepted h outcome tests (sym (ap (λ (x : Left). x .answer) resize-left) ∙ q)
 
-    resized-left : ours (Reallocate b z) ws h ≡ leftBy ws outcome
+    pub resized-left : ours (Reallocate b z) ws h ≡ leftBy ws outcome
     resized-left = resize-left ∙ ap (leftBy ws) (resize-taken .1)
 
     resized-block : blockOf (result .granted) ≡ block .0

@@ -20,6 +20,7 @@ pub mod AnsweringLaws
 pub mod BalancedLaws
 pub mod KeptLaws
 pub mod ApartLaws
+pub mod CoalescingLaws
 pub mod NewBlocksLaws
 pub mod ChoiceLaws
 pub mod BestFitLaws

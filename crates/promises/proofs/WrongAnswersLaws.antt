@@ -1,7 +1,7 @@
 -- Wrong ways of answering that change what they should leave, or answer what is not so: each breaks `Answering`, `Balanced` or `Looking`, shown on
 -- heaps of the demonstration's setup. Assumes nothing.
 use mathlib.Core.Path.{_≡_, refl, sym, ap, _∙_}
-use mathlib.Core.Bool.{Bool, true, false, false≢true}
+use mathlib.Core.Bool.{true, false, false≢true}
 use mathlib.Core.List.{[], _∷_}
 use Prim.Native.Nat.{ℕ}
 use native.Mathlib.Omega.{arith}
@@ -9,8 +9,7 @@ use lib.IntN.{ℤ, pos, natAbs}
 use lib.ListN.{getD}
 use Rattle.record.specs.declared.heap.Heap.{Heap}
 use Rattle.record.specs.Answers.{figuresOf}
-use Rattle.rules.specs.Outcome.{changeOf}
-use Rattle.rules.specs.Calls.{Call, Allocate, Free, SetMerge, Check, AskBin, State}
+use Rattle.rules.specs.Calls.{Allocate, Free, SetMerge, Check, AskBin, State}
 use Rattle.rules.proofs.CasesLaws.{computes}
 use Rattle.promises.specs.Ways.{ours}
 use Rattle.promises.specs.Answering.{JustDone, ABlock, Answering}
