@@ -45,4 +45,5 @@ pub mod WrongBestFitLaws
 pub mod WrongSplittingLaws
 pub mod WrongAsFoundLaws
 pub mod WrongAnswersLaws
+pub mod WrongCoalescingLaws
 pub mod SignLaws
