@@ -1,30 +1,34 @@
--- An accepted setup makes a heap that passes, whatever the region held (`fresh-passes`). Assumes nothing.
+-- An accepted setup makes a heap that passes, whatever the region held (`fresh-passes`), with the chain of a fresh heap (`fresh-chain`) and empty bins
+-- (`lists-empty`). It leaves what lies above the header of a free chunk (`fresh-found`). Assumes nothing.
 use mathlib.Core.Path.{_≡_, refl, sym, ap, _∙_}
 use mathlib.Core.Logic.{_≢_, inl, inr}
 use mathlib.Core.Bool.{Bool, false, false≢true}
 use mathlib.Core.List.{List, [], _∷_, _++_, List·Memᴰ·head, List·Memᴰ·tail, List·Memᴰ·not-nil}
-use Prim.Native.Nat.{ℕ, _+_, _-_, _%_, _≤_, _<_}
+use Prim.Native.Nat.{ℕ, _+_, _*_, _-_, _%_, _≤_, _<_}
 use native.Mathlib.Omega.{arith}
 use lib.ListN.{length, length-append, getD, replicate, length-replicate}
 use lib.Seq.{take-append-seam, getD-append-add}
-use borrow.Author.Tests.{ne-eqb}
+use borrow.Author.Tests.{ne-eqb, not-false}
 use Rattle.lists.specs.Lists.{Mem, lastOr}
 use Rattle.lists.proofs.ListsLaws.{each-cons, zero-at}
 use Rattle.record.specs.declared.heap.Heap.{Heap}
-use Rattle.record.specs.Table.{ValidTable}
-use Rattle.region.specs.Words.{Store, put, written, forward, backward}
-use Rattle.region.proofs.WordsLaws.{got, length-written}
-use Rattle.rules.specs.Shape.{Entry, entry, members, binList, heapBytes}
+use Rattle.record.specs.Table.{ValidTable, validTable}
+use Rattle.record.proofs.TableLaws.{valid-iff}
+use Rattle.region.specs.Words.{Store, put, word, written, forward, backward}
+use Rattle.region.proofs.WordsLaws.{off, got, length-written}
+use Rattle.rules.specs.Shape.{Entry, entry, shape, members, binList, heapBytes}
 use Rattle.rules.specs.Kinds.{ordinary, live, outside}
 use Rattle.rules.specs.Check.{Fits, Tabled, Unbinned, TopIs, DonorIs, Listed, usedBytes, Passes, PassesAs}
 use Rattle.rules.specs.Draft.{headers, noBinWords}
-use Rattle.rules.specs.Setup.{fresh, firstHeaders}
+use Rattle.rules.specs.Setup.{donorFits, fresh, firstHeaders, setupRefusals}
+use Rattle.rules.proofs.OutcomeLaws.{Failed}
 use Rattle.rules.proofs.KindsLaws.{kind-start, kind-end, kind-top, kind-donor}
 use Rattle.rules.proofs.ShapeLaws.{read-none}
 use Rattle.rules.proofs.TiledLaws.{Tiled}
 use Rattle.drafts.proofs.LayoutLaws.{Laid, Layout, laid-between}
 use Rattle.drafts.proofs.HeaderLaws.{Header, Headed, headed-joined, headed-backed, reads-as, headed-chained, headed-sound, PassByHeader, headed-keeps, headers-written}
-use Rattle.promises.proofs.ReasonLaws.{Fitting}
+use Rattle.promises.specs.Fresh.{firstChain}
+use Rattle.promises.proofs.ReasonLaws.{length-in, Fitting, fitting-iff}
 
 -- a table filled up with zeros reads 0 past its sizes
 zero-past : (t : List ℕ) (n i : ℕ) → length t ≤ i → getD (t ++ replicate n 0) i 0 ≡ 0
@@ -76,6 +80,15 @@ module _ (ws table : List ℕ) (merge : Bool) (valid : ValidTable table) (enough
         tailsEnd = λ i l. zero-at 32 i;
       }
 
+  -- every list is empty
+  pub lists-empty : (donor i : ℕ) → binList (words donor) (opened donor) i ≡ []
+  unfolding members
+  lists-empty donor i = rw (zero-at 32 i) (read-none (words donor) bytes)
+
+  -- a layout with its headers is the chain
+  chain-read : (donor : ℕ) (es : List Entry) → Layout bytes es → Headed (words donor) outside es outside → shape (words donor) bytes ≡ es
+  chain-read donor es y k = reads-as (words donor) bytes es (omega arith) y k
+
   -- the chunk is neither ordinary nor live
   abbrev Neither : ℕ → Entry → Type 0
   Neither donor e = (ordinary (opened donor) e ≡ false) × (live (opened donor) e ≡ false)
@@ -85,13 +98,9 @@ module _ (ws table : List ℕ) (merge : Bool) (valid : ValidTable table) (enough
       (top : (e : Entry) × Mem e es × TopIs (words donor) (opened donor) e)
       (given : 0 < opened donor .donor .0 → (e : Entry) × Mem e es × DonorIs (words donor) (opened donor) e)
       (none : (e : Entry) → Mem e es → Neither donor e) where
-    list-read : (i : ℕ) → binList (words donor) (opened donor) i ≡ []
-    unfolding members
-    list-read i = rw (zero-at 32 i) (read-none (words donor) bytes)
-
     listed : (i : ℕ) → Listed (words donor) (opened donor) es i (binList (words donor) (opened donor) i)
     listed i =
-        rw (list-read i)
+        rw (lists-empty donor i)
         (record {
           tail = zero-at 32 i;
           links = tt;
@@ -119,7 +128,7 @@ module _ (ws table : List ℕ) (merge : Bool) (valid : ValidTable table) (enough
         }
 
     passes : Passes (words donor) (opened donor)
-    passes = rw (reads-as (words donor) bytes es (omega arith) y k) passes-so
+    passes = rw (chain-read donor es y k) passes-so
 
   -- the chunks of a fresh heap
   abbrev start : Entry
@@ -168,6 +177,10 @@ module _ (ws table : List ℕ) (merge : Bool) (valid : ValidTable table) (enough
     top-neither =
         rw (← kind-top bytes (opened donor .donor .0) (8 + donor) (topOf donor) (λ q. omega arith) (λ q. omega arith) (λ q. omega arith) refl) (refl, refl)
 
+  -- a free chunk keeps what lies above its header of six words
+  abbrev Found : ℕ → Entry → Type 0
+  Found donor e = e .flags ≡ 0 → (k : ℕ) → 6 ≤ k → 4 * k < e .size → word (words donor) (e .place) k ≡ word ws (e .place) k
+
   -- without a donor: start, top and end
   abbrev plain : List Entry
   plain = start ∷ topOf 0 ∷ end ∷ []
@@ -209,6 +222,11 @@ module _ (ws table : List ℕ) (merge : Bool) (valid : ValidTable table) (enough
       (λ some. absurd (omega arith))
       (each-cons (start-neither 0 (omega arith) (omega arith))
       (each-cons (top-neither 0 (omega arith) (omega arith)) (each-cons (end-neither 0 (omega arith) (omega arith)) (no-more (Neither 0)))))
+
+  plain-found : (e : Entry) → Mem e plain → Found 0 e
+  plain-found =
+      each-cons (λ f. absurd (omega arith))
+      (each-cons (λ f k six less. off (firstHeaders bytes 0) ws 8 k (omega arith)) (each-cons (λ f. absurd (omega arith)) (no-more (Found 0))))
 
   -- with a donor
   module _ (donor : ℕ) (large : 24 ≤ donor) (eight : donor % 8 ≡ 0) (room : donor + 40 ≤ bytes) where
@@ -285,6 +303,46 @@ module _ (ws table : List ℕ) (merge : Bool) (valid : ValidTable table) (enough
         (each-cons (start-neither donor eight room)
         (each-cons donor-neither (each-cons (top-neither donor eight room) (each-cons (end-neither donor eight room) (no-more (Neither donor))))))
 
+    donated-found : (e : Entry) → Mem e donated → Found donor e
+    donated-found =
+        each-cons (λ f. absurd (omega arith))
+        (each-cons (λ f k six less. rw stores-are (off stores ws 8 k (omega arith)))
+        (each-cons (λ f k six less. rw stores-are (off stores ws (8 + donor) k (omega arith)))
+        (each-cons (λ f. absurd (omega arith)) (no-more (Found donor)))))
+
+    donated-is : firstChain bytes donor ≡ donated
+    donated-is = rw (ne-eqb donor 0 some)
+
+  pub fresh-chain : (donor : ℕ) → Fitting ws donor → shape (words donor) bytes ≡ firstChain bytes donor
+  fresh-chain donor (inl z) = rw z (chain-read 0 plain plain-laid plain-headed)
+  fresh-chain donor (inr ((large, eight), room)) =
+      let r : donor + 40 ≤ bytes = omega arith in
+      chain-read donor (donated donor large eight r) (donated-laid donor large eight r) (donated-headed donor large eight r)
+      ∙ sym (donated-is donor large eight r)
+
+  pub fresh-found : (donor : ℕ) → Fitting ws donor → (e : Entry) → Mem e (firstChain bytes donor) → Found donor e
+  fresh-found donor (inl z) = rw z plain-found
+  fresh-found donor (inr ((large, eight), room)) =
+      let r : donor + 40 ≤ bytes = omega arith in
+      rw (donated-is donor large eight r) (donated-found donor large eight r)
+
   pub fresh-passes : (donor : ℕ) → Fitting ws donor → Passes (words donor) (opened donor)
   fresh-passes donor (inl z) = rw z plain-passes
   fresh-passes donor (inr ((large, eight), room)) = donated-passes donor large eight (omega arith)
+
+-- what an accepted setup was given
+pub record Openable (ws table : List ℕ) (donor : ℕ) : Type 0 where
+  pub valid : ValidTable table
+  pub enough : 10 ≤ length ws
+  pub few : length ws ≤ 16384
+  pub fitting : Fitting ws donor
+
+pub openable : (ws table : List ℕ) (donor : ℕ) → Failed (setupRefusals ws table donor) → Openable ws table donor
+openable ws table donor (size, (t, (d, _))) =
+    let n = length-in ws size in
+    record {
+      valid = valid-iff table .0 (not-false (validTable table) t);
+      enough = n .0;
+      few = n .1;
+      fitting = fitting-iff ws donor .0 (not-false (donorFits (heapBytes (length ws)) donor) d);
+    }

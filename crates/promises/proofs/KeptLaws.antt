@@ -4,7 +4,6 @@ use mathlib.Core.Path.{_≡_, refl}
 use mathlib.Core.Bool.{Bool, true, false, not, cond, _&&_}
 use mathlib.Core.List.{List, [], _∷_}
 use Prim.Native.Nat.{ℕ, _*_, _<_}
-use native.Mathlib.Omega.{arith}
 use lib.Dec.{eqb, ltb}
 use lib.IntN.{ℤ}
 use lib.ListN.{length}
@@ -16,8 +15,6 @@ use Rattle.record.specs.declared.answers.Answer.{Answer}
 use Rattle.record.specs.declared.answers.Answer.the-variants.{Done, Granted, Returned, Told, ToldNone, Counted, Refused}
 use Rattle.record.specs.declared.heap.Heap.{Heap}
 use Rattle.record.specs.Heap.{empty, withMerge, withPatrol}
-use Rattle.record.specs.Table.{validTable}
-use Rattle.record.proofs.TableLaws.{valid-iff}
 use Rattle.region.specs.declared.Block.{Block}
 use Rattle.region.specs.Words.{Store, written}
 use Rattle.drafts.proofs.ReleaseKept.{free-kept}
@@ -30,7 +27,7 @@ use Rattle.rules.specs.Check.{Passes}
 use Rattle.rules.specs.Draft.{Draft, Spot, asRead}
 use Rattle.rules.specs.Serve.{need, nowhere}
 use Rattle.rules.specs.Outcome.{Outcome, Refusals, judged, heapFails, unchanged}
-use Rattle.rules.specs.Setup.{setup, donorFits, fresh, firstHeaders, setupRefusals, opened}
+use Rattle.rules.specs.Setup.{setup, fresh, firstHeaders, setupRefusals, opened}
 use Rattle.rules.specs.Allocate.{sourceOf, grant, asFound, cleared, allocateWith, allocate, allocateCleared, allocateRefusals, allocated}
 use Rattle.rules.specs.Free.{isLive, blockSpot, freeBlock, free, freeRefusals, freed}
 use Rattle.rules.specs.Reallocate.{moved, resized, resize, reallocate, resizeRefusals, resizedTo}
@@ -45,10 +42,10 @@ use Rattle.promises.specs.Ways.{ours}
 use Rattle.promises.specs.Room.{HoldsBlock}
 use Rattle.promises.specs.Kept.{Passing, Accepted, OnLiveBlocks, afterStores, Kept}
 use Rattle.promises.proofs.JudgedLaws.{accepted-made}
-use Rattle.promises.proofs.ReasonLaws.{fitting-iff, length-in, one-block}
+use Rattle.promises.proofs.ReasonLaws.{one-block}
 use Rattle.promises.proofs.ResizedLaws.{resized-so}
 use Rattle.promises.proofs.GrantedLaws.{cleared-within}
-use Rattle.promises.proofs.FreshLaws.{fresh-passes}
+use Rattle.promises.proofs.FreshLaws.{fresh-passes, openable}
 
 -- the state that an outcome leaves for the next call
 abbrev pub stateLeft : List ℕ → Heap → Outcome → State
@@ -71,10 +68,9 @@ same-record h (Refused r) = refl
 -- an accepted setup makes a heap that passes
 setup-passes : (ws table : List ℕ) (donor : ℕ) (merge : Bool) → Failed (setupRefusals ws table donor)
     → Passes (written ws (firstHeaders (heapBytes (length ws)) donor)) (fresh (heapBytes (length ws)) table donor merge)
-setup-passes ws table donor merge (size, (t, (d, _))) =
-    let n = length-in ws size in
-    fresh-passes ws table merge (valid-iff table .0 (not-false (validTable table) t)) (omega arith) (omega arith) donor
-    (fitting-iff ws donor .0 (not-false (donorFits (heapBytes (length ws)) donor) d))
+setup-passes ws table donor merge f =
+    let o = openable ws table donor f in
+    fresh-passes ws table merge (o .valid) (o .enough) (o .few) donor (o .fitting)
 
 setup-kept : (table : List ℕ) (donor : ℕ) (merge : Bool) (ws : List ℕ) (h : Heap) → Accepted (ours (Setup table donor merge) ws h .answer)
     → Passes (ours (Setup table donor merge) ws h .words) (ours (Setup table donor merge) ws h .heap)

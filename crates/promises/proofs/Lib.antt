@@ -15,6 +15,7 @@ pub mod GrantedLaws
 pub mod InsideLaws
 pub mod OddLaws
 pub mod FreshLaws
+pub mod FreshHeapLaws
 pub mod LookingLaws
 pub mod AnsweringLaws
 pub mod BalancedLaws
