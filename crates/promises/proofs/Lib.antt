@@ -4,6 +4,7 @@ pub mod JudgedLaws
 pub mod BlockReasons
 pub mod PatrolReasons
 pub mod RefusingLaws
+pub mod PlacesApartLaws
 pub mod ResizedLaws
 pub mod RoomLaws
 pub mod CountingLaws
