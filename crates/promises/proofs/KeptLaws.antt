@@ -1,6 +1,6 @@
 -- The check is an invariant (`kept`): an accepted setup makes a heap that passes, and every call and every write inside a live block
 -- leaves one that passes. So a block that a call grants has one chunk (`of-its-chunk`). Assumes nothing.
-use mathlib.Core.Path.{_≡_, refl}
+use mathlib.Core.Path.{_≡_, refl, _∙_}
 use mathlib.Core.Bool.{Bool, true, false, not, cond, _&&_}
 use mathlib.Core.List.{List, [], _∷_}
 use Prim.Native.Nat.{ℕ, _*_, _<_}
@@ -211,11 +211,13 @@ module _ (ws : List ℕ) (h : Heap) (p : Passes ws h) where
   step-passes (Patrol f) = patrol-passes f
 
 -- after a store into a live block the heap is read as before, so the next store is into a live block too
-stores-pass : (ss : List Store) (s : State) → Passing s → OnLiveBlocks s ss → Passing (afterStores ss s)
-stores-pass [] s p o = p
-stores-pass (x ∷ ss) s p ((e, m, l, (lo, hi)), o) =
+pub stores-read : (ss : List Store) (s : State) → Passing s → OnLiveBlocks s ss
+    → Passing (afterStores ss s) × (shape (afterStores ss s .words) (s .heap .bytes) ≡ shape (s .words) (s .heap .bytes))
+stores-read [] s p o = (p, refl)
+stores-read (x ∷ ss) s p ((e, m, l, (lo, hi)), o) =
     let f = written-inside p m l (x ∷ []) ((lo, hi), tt) in
-    stores-pass ss (afterStores (x ∷ []) s) (f .passes) (still ss o (f .chain))
+    let r = stores-read ss (afterStores (x ∷ []) s) (f .passes) (still ss o (f .chain)) in
+    (r .0, r .1 ∙ f .chain)
   where
     still : (ys : List Store) → OnLiveBlocks s ys
         → shape (afterStores (x ∷ []) s .words) (s .heap .bytes) ≡ shape (s .words) (s .heap .bytes)
@@ -229,7 +231,7 @@ kept =
     record {
       setup = setup-kept;
       calls = λ call s p. step-passes (s .words) (s .heap) p call;
-      writes = stores-pass;
+      writes = λ ss s p o. stores-read ss s p o .0;
     }
 
 -- what holds of a chunk that holds the granted block holds of every one that does

@@ -4,6 +4,7 @@ pub mod JudgedLaws
 pub mod BlockReasons
 pub mod PatrolReasons
 pub mod RefusingLaws
+pub mod RefusedLaws
 pub mod PlacesApartLaws
 pub mod ResizedLaws
 pub mod RoomLaws
@@ -29,6 +30,7 @@ pub mod BestFitLaws
 pub mod SplittingLaws
 pub mod AsFoundLaws
 pub mod OrderLaws
+pub mod FreedTwiceLaws
 pub mod RunsLaws
 pub mod PatrolLaws
 pub mod FullPatrolLaws
@@ -48,4 +50,5 @@ pub mod WrongSplittingLaws
 pub mod WrongAsFoundLaws
 pub mod WrongAnswersLaws
 pub mod WrongCoalescingLaws
+pub mod WrongPlacesLaws
 pub mod SignLaws
