@@ -134,6 +134,11 @@ over-donor =
       notFree = refl;
     }
 
+freed-held : HoldsBlock (above .words) (above .heap) 80 freed
+freed-held =
+    let u = over-donor in
+    record { member = in-split (start ∷ lowest ∷ donor ∷ []) freed (next ∷ last) (u .chain); live = u .lives; block = refl }
+
 -- six chunks are left
 six-left : length (chainLeft (joinsDonorBelow (Free 80) (above .words) (above .heap))) ≡ 6
 unfolding computes ours
@@ -146,7 +151,5 @@ fewer e six seven = omega (arith, ap length e)
 pub coalescing-refutes-joining-the-donor-below : Coalescing joinsDonorBelow → ⊥
 coalescing-refutes-joining-the-donor-below promised =
     let u = over-donor in
-    let low : List Entry = start ∷ lowest ∷ [] in
-    let k : HoldsBlock (above .words) (above .heap) 80 freed = record { member = in-split (low ++ donor ∷ []) freed (next ∷ last) (u .chain); live = u .lives; block = refl } in
-    let g = promised (above .words) (above .heap) (u .passes) .free 80 low donor freed next last (u .chain) k in
+    let g = promised (above .words) (above .heap) (u .passes) .free 80 (start ∷ lowest ∷ []) donor freed next last (u .chain) freed-held in
     fewer (g .alone (u .notOrdinary) (u .notFree)) six-left refl
