@@ -1,5 +1,5 @@
--- Each of the first five wrong programs breaks a promise, shown on the demonstration's heap. Those of document 02 are in `WrongPatrolLaws`,
--- `WrongToldLaws`, `WrongChoiceLaws`, `WrongOrderLaws` and `WrongBestFitLaws`. Assumes nothing.
+-- Each of the first five wrong programs breaks a promise, shown on the demonstration's heap. Each other one is refuted in the file of the promise that it
+-- breaks, `Wrong..Laws`; docs/PROMISES.md, "Wrong ways", has them all. Assumes nothing.
 use mathlib.Core.Path.{_≡_, refl, sym, ap, _∙_}
 use mathlib.Core.Logic.{_⊎_, inl, inr}
 use mathlib.Core.Bool.{true, not, _||_, false≢true}
