@@ -1,4 +1,4 @@
--- The numbers in answers: no refusal has 0, which means accepted (`numbered`), and no answer has 9, which request Seven of document 02 took out
+-- The numbers in answers: no refusal has 0, which means accepted (`numbered`), and no answer has 9, which request Seven of document 02 took out (manual 6)
 -- (`not-nine`). Assumes nothing.
 use mathlib.Core.Logic.{_≢_}
 use Prim.Native.Nat.{_<_}

@@ -9,7 +9,7 @@ use Rattle.record.specs.declared.answers.Counts.{Counts}
 use Rattle.record.specs.declared.answers.Refusal.{Refusal}
 use Rattle.record.specs.declared.answers.Refusal.the-variants.{RegionLength, BadTable, DonorSize, HeapFails, BlockSize, NotLive, NoRoom, NotThere, RunSize, BeyondMending}
 
--- as the table of document 01 and request Two of document 02 number them; request Seven took 9 out, and no other number moved
+-- as the table of document 01 and request Two of document 02 number them (manual 6); request Seven took 9 out, and no other number moved
 abbrev pub numberOf : Refusal → ℕ
 numberOf RegionLength = 1
 numberOf BadTable = 2

@@ -1,5 +1,5 @@
 -- Questions about a chunk and about a bin (manual 5.8; document 01, "The calls": Questions); refusals 4, then 8.
--- What is asked for is a value or none, and none is not 0 (document 02, request One): 0 is the start's place and a bin's number.
+-- What is asked for is a value or none, and none is not 0 (manual 5.8; document 02, request One): 0 is the start's place and a bin's number.
 use mathlib.Core.Bool.{Bool, true, false, not, cond, _&&_, _||_}
 use mathlib.Core.List.{List, [], _∷_, map}
 use mathlib.Core.Option.{Option, some, none}

@@ -99,7 +99,7 @@ cases =
     ∷ given 64 (opening ∷ []) (Allocate 65489) (Refuses 5 ∷ [])
     ∷ []
 
--- The donor for a need that is not small (document 02, request Four), on the demonstration's fresh heap, whose donor has 64 bytes:
+-- The donor for a need that is not small (manual 5.2; document 02, request Four), on the demonstration's fresh heap, whose donor has 64 bytes:
 -- it stays whole as long as the top serves; where the top has too little it serves 40 bytes, which leave it 24, and not 48
 abbrev pub donorCases : List Case
 donorCases =
@@ -109,7 +109,7 @@ donorCases =
     ∷ given 64 (opening ∷ Allocate 112 ∷ []) (Allocate 33) (Refuses 7 ∷ [])
     ∷ []
 
--- The order in bin 2, which is outside the small array (document 02, request Five), with merging off: a freed chunk of 40 bytes goes behind one of
+-- The order in bin 2, which is outside the small array (manual 3.3; document 02, request Five), with merging off: a freed chunk of 40 bytes goes behind one of
 -- 40, and before one of 48; the rest of a cut and the tail of a resize, 48 bytes each, go before a chunk of 104. The small bin 1 is last in, first out
 abbrev pub orderCases : List Case
 orderCases =
@@ -122,7 +122,7 @@ orderCases =
     ∷ given 64 (opening ∷ Allocate 24 ∷ Allocate 24 ∷ SetMerge false ∷ Free 16 ∷ []) (Free 80) (Bin 1 (72 ∷ 8 ∷ []) ∷ Sound ∷ [])
     ∷ []
 
--- The fit (document 02, request Six), with merging off and chunks of 48 and 40 bytes, at 72 and 120, in bin 2. For 40 bytes the one of 40 is taken; so
+-- The fit (manual 5.2; document 02, request Six), with merging off and chunks of 48 and 40 bytes, at 72 and 120, in bin 2. For 40 bytes the one of 40 is taken; so
 -- it is, whole, for 24 bytes that neither bin 0 nor the donor can serve. A chunk of 24 bytes in bin 0 is taken before one of bin 2
 abbrev pub fitCases : List Case
 fitCases =
