@@ -21,6 +21,7 @@ pub mod FreshHeapLaws
 pub mod LookingLaws
 pub mod AnsweringLaws
 pub mod BalancedLaws
+pub mod FieldsLaws
 pub mod KeptLaws
 pub mod ApartLaws
 pub mod CoalescingLaws
