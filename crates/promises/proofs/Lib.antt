@@ -50,6 +50,7 @@ pub mod WrongBestFitLaws
 pub mod WrongSplittingLaws
 pub mod WrongAsFoundLaws
 pub mod WrongAnswersLaws
+pub mod WrongFieldsLaws
 pub mod WrongCoalescingLaws
 pub mod WrongPlacesLaws
 pub mod SignLaws

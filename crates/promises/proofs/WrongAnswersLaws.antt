@@ -20,7 +20,7 @@ use Rattle.promises.proofs.JudgedLaws.{accepts}
 use Rattle.promises.proofs.WrongLaws.{heapAfter}
 
 -- the fresh heap
-abbrev opened : State
+abbrev pub opened : State
 opened = heapAfter []
 
 -- 22: allocate answers that it is done
@@ -80,7 +80,7 @@ setting-accepted : figuresOf (idleSetting (SetMerge false) (opened .words) (open
 unfolding computes ours
 setting-accepted = refl
 
-is-on : opened .heap .merge ≡ true
+pub is-on : opened .heap .merge ≡ true
 unfolding computes
 is-on = refl
 
