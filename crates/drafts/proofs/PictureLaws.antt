@@ -10,6 +10,7 @@ use lib.ListN.{length}
 use Rattle.lists.specs.Lists.{Mem, Before}
 use Rattle.lists.proofs.AscendingLaws.{before-members, before-ascending}
 use Rattle.record.specs.declared.heap.Heap.{Heap}
+use Rattle.record.specs.Heap.{tableOf}
 use Rattle.region.specs.Words.{written}
 use Rattle.region.proofs.WordsLaws.{length-written}
 use Rattle.rules.specs.Shape.{Entry, shape, members, binList}
@@ -34,9 +35,10 @@ pub record Pictured (ws : List ℕ) (d : Draft) : Type 0 where
   pub chain : shape (written ws (d .stores)) (d .heap .bytes) ≡ d .chain
   pub lists : (i : ℕ) → binList (written ws (d .stores)) (d .heap) i ≡ d .lists i
 
--- late chunks still stand as they should among the others of equal size when the draft, made on the heap h, is written
-abbrev pub StaysQueued : List ℕ → Heap → Draft → Type 0
-StaysQueued ws h d = (late : Entry → ℕ) → Lateness ws h late → QueuedIn late (written ws (d .stores)) (d .heap)
+-- when the draft, made on the heap h, is written, the table is the same, and late chunks still stand as they should among the others of equal size
+pub record StaysQueued (ws : List ℕ) (h : Heap) (d : Draft) : Type 0 where
+  pub table : tableOf (d .heap) ≡ tableOf h
+  pub stand : (late : Entry → ℕ) → Lateness ws h late → QueuedIn late (written ws (d .stores)) (d .heap)
 
 -- a draft that is complete: all chunks es of its chain stay, in a layout, with right headers; donor, top, used bytes and the patrol's place
 -- are right
@@ -172,7 +174,11 @@ module _ {ws : List ℕ} {h : Heap} (p : Passes ws h) {es : List Entry} {d : Dra
 
   -- and its lists stand as the draft's do
   pub picture-queued : StaysQueued ws h d
-  picture-queued late t = rw (f .heap) (λ i l. rw (chain-read, list-read i) (f .queue late t i l))
+  picture-queued =
+      record {
+        table = ap tableOf (f .heap);
+        stand = λ late t. rw (f .heap) (λ i l. rw (chain-read, list-read i) (f .queue late t i l));
+      }
 
 -- a picture's record has the heap bytes of before, so it finds the same chunks live
 pub pictured-live : (ws : List ℕ) (h : Heap) → Passes ws h → (d : Draft) → Pictured ws d → (e : Entry) → live (d .heap) e ≡ live h e

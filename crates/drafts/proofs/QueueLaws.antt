@@ -42,22 +42,22 @@ pub record Lateness (ws : List ℕ) (h : Heap) (late : Entry → ℕ) : Type 0 w
   pub others : (e : Entry) → (Mem e (shape ws (h .bytes)) → ⊥) → late e ≡ 1
   pub queued : QueuedIn late ws h
 
--- on a heap that passes, chunks all of which came late stand in order of size alone
+-- on a heap that passes, no chunk is larger than one behind it in its list
+pub none-larger : (ws : List ℕ) (h : Heap) → Passes ws h → (i : ℕ) → i < h .bins → (x y : Entry) → Mem x (shape ws (h .bytes)) → Mem y (shape ws (h .bytes))
+    → Before (x .place) (y .place) (binList ws h i) → x .size ≤ y .size
+none-larger ws h p i l x y m k b =
+    let s = ascending-before (sizeOn (shape ws (h .bytes))) (x .place) (y .place) (binList ws h i) (lists-in-order ws h p i l) b in
+    let q = size-on ws h p (x .place) x m (omega arith) in
+    let r = size-on ws h p (y .place) y k (omega arith) in
+    omega arith
+
+-- so chunks all of which came late stand in order of size alone
 pub all-late : (ws : List ℕ) (h : Heap) → Passes ws h → Lateness ws h (λ e. 1)
 all-late ws h p =
     record {
       atMost = λ e. omega arith;
       others = λ e n. omega arith;
-      queued =
-          λ i l.
-          record {
-            stand =
-                λ x y m k _ _ b.
-                let s = ascending-before (sizeOn (shape ws (h .bytes))) (x .place) (y .place) (binList ws h i) (lists-in-order ws h p i l) b in
-                let q = size-on ws h p (x .place) x m (omega arith) in
-                let r = size-on ws h p (y .place) y k (omega arith) in
-                omega arith;
-          };
+      queued = λ i l. record { stand = λ x y m k _ _ b. let s = none-larger ws h p i l x y m k b in omega arith };
     }
 
 -- a chunk leaves, the chunk e is put between two parts, and the test becomes another one

@@ -7,7 +7,7 @@ use Prim.Native.Nat.{ℕ, _≤_}
 use native.Mathlib.Omega.{arith}
 use lib.Dec.{eqb, leb}
 use borrow.Author.Tests.{leb-false}
-use Rattle.lists.specs.Lists.{Mem, headOr, any, keep, Before, Ascending, ascending, upTo, onFrom}
+use Rattle.lists.specs.Lists.{Mem, headOr, any, keep, Before, Ascending, ascending, Distinct, upTo, onFrom}
 use Rattle.lists.proofs.ListsLaws.{Decides, number-is, at-most, both, or-else, for-each, is-member}
 
 module _ {A : Type 0} where
@@ -26,6 +26,17 @@ module _ {A : Type 0} where
       further : Before x y zs ⊎ Before y x zs → Before x y (z ∷ zs) ⊎ Before y x (z ∷ zs)
       further (inl b) = inl (inr b)
       further (inr b) = inr (inr b)
+
+  -- where no member occurs twice, none stands before itself, and what stands behind a member stands behind those before it
+  pub before-itself : (x : A) (zs : List A) → Distinct zs → Before x x zs → ⊥
+  before-itself x (z ∷ zs) (new, rest) (inl (q, m)) = new (rw q at m)
+  before-itself x (z ∷ zs) (new, rest) (inr b) = before-itself x zs rest b
+
+  pub before-through : (x y w : A) (zs : List A) → Distinct zs → Before x y zs → Before y w zs → Before x w zs
+  before-through x y w (z ∷ zs) (new, rest) (inl (q, m)) (inl (r, k)) = inl (q, k)
+  before-through x y w (z ∷ zs) (new, rest) (inl (q, m)) (inr c) = inl (q, before-members y w zs c .1)
+  before-through x y w (z ∷ zs) (new, rest) (inr b) (inl (r, k)) = absurd (new (rw r at (before-members x y zs b .1)))
+  before-through x y w (z ∷ zs) (new, rest) (inr b) (inr c) = inr (before-through x y w zs rest b c)
 
   -- a member of the first of two parts stands before one of the second
   pub before-across : {x y : A} (xs ys : List A) → Mem x xs → Mem y ys → Before x y (xs ++ ys)

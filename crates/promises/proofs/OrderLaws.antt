@@ -1,17 +1,18 @@
--- The bins' lists are in order in every heap that passes, and what a call puts stands behind its equals, in the small array before them (`order`). A
--- chunk is late if it was not on the chain before the call; late chunks stand behind the others of equal size, in the small array before them
--- (`QueueLaws` of `drafts`). Assumes nothing.
+-- The bins' lists are in order in every heap that passes, and what a call puts stands behind its equals, in the small array before them; what was in a list
+-- and stays there keeps its order (`order`). Late chunks stand behind the others of equal size, in the small array before them (`QueueLaws` of `drafts`), and
+-- which ones are late may be chosen: those that were not on the chain before the call, or also those that stood behind some chunk. Assumes nothing.
 use mathlib.Core.Path.{_≡_, refl, sym, ap, subst, _∙_}
 use mathlib.Core.Logic.{_≢_, _⊎_, inl, inr}
 use mathlib.Core.Bool.{Bool, true, false, not, cond, _&&_, false≢true}
 use mathlib.Core.List.{List, [], _∷_, List·Memᴰ·not-nil}
-use Prim.Native.Nat.{ℕ, _+_, _*_, _≤_, _<_}
+use Prim.Native.Nat.{ℕ, _+_, _*_, _-_, _≤_, _<_}
+use native.Mathlib.Decide.{ℕ-discrete, decLt}
 use native.Mathlib.Omega.{arith}
 use lib.Dec.{eqb, ltb}
 use lib.ListN.{length}
 use borrow.Author.Tests.{lt-ltb, le-ltb, not-false}
 use Rattle.lists.specs.Lists.{Mem, any, Before}
-use Rattle.lists.proofs.AscendingLaws.{one-before}
+use Rattle.lists.proofs.AscendingLaws.{before-members, one-before, before-itself, before-through, before as standsBefore, before-iff}
 use Rattle.lists.proofs.ListsLaws.{Decides, number-is, both, for-some, meaning, not-so, zero-at}
 use Rattle.record.specs.declared.answers.Answer.{Answer}
 use Rattle.record.specs.declared.answers.Answer.the-variants.{Done, Refused}
@@ -23,7 +24,9 @@ use Rattle.record.specs.Heap.{empty, tableOf, withMerge, withPatrol}
 use Rattle.record.specs.Table.{binOf, smallBins}
 use Rattle.record.proofs.TableLaws.{bin-takes, one-size}
 use Rattle.region.specs.Words.{Store, written}
-use Rattle.drafts.proofs.QueueLaws.{standing, lateIn, QueuedIn, Lateness, all-late}
+use Rattle.books.proofs.HeapBooks.{list-none, lists-apart}
+use Rattle.drafts.proofs.PictureLaws.{StaysQueued}
+use Rattle.drafts.proofs.QueueLaws.{standing, lateIn, QueuedIn, Lateness, none-larger}
 use Rattle.drafts.proofs.SourceLaws.{Grantable, need-grantable}
 use Rattle.drafts.proofs.GrantKept.{theGrant, grant-queued, sourceChunk, can, granted-place, granted-new, others-there}
 use Rattle.drafts.proofs.GrantedChunk.{grantedHeap, granted-pictured, filledWords, granted-filled, new-there, new-live}
@@ -32,7 +35,7 @@ use Rattle.drafts.proofs.ReleaseKept.{free-kept, free-queued, others-stay}
 use Rattle.drafts.proofs.ShrinkKept.{shrink-kept, shrink-queued}
 use Rattle.drafts.proofs.WantedLaws.{block-moves, block-shrinks}
 use Rattle.drafts.proofs.MovedLaws.{Moving, copies, copies-within, copiedWords, copiedHeap, copied-passes, still-live, moved-reread, moved-words}
-use Rattle.rules.specs.Shape.{Entry, entry, shape, members, heapBytes}
+use Rattle.rules.specs.Shape.{Entry, entry, shape, members, binList, heapBytes}
 use Rattle.rules.specs.Kinds.{ordinary, overhead, blockOf}
 use Rattle.rules.specs.Check.{Passes}
 use Rattle.rules.specs.Draft.{Draft, Spot, asRead}
@@ -53,7 +56,7 @@ use Rattle.rules.proofs.ShapeLaws.{read-none}
 use Rattle.rules.proofs.SpotLaws.{inside, one-chunk}
 use Rattle.promises.specs.Ways.{Way, ours}
 use Rattle.promises.specs.Kept.{Passing, after}
-use Rattle.promises.specs.Order.{listOf, InOrder, On, InBin, Behind, Ahead, Order}
+use Rattle.promises.specs.Order.{listOf, InOrder, On, InBin, Behind, Ahead, Steady, Order}
 use Rattle.promises.specs.Refusing.{asksCheck, Because, setupLength, setupTable, setupDonor, fails, patrolNone, orderOf, Refusing}
 use Rattle.promises.proofs.ResizedLaws.{resized-so}
 use Rattle.promises.proofs.GrantedLaws.{cleared-within}
@@ -101,33 +104,121 @@ none-late ws h p =
           record {
             stand =
                 λ x y m k s t b.
-                let q = all-late ws h p .queued i l .stand x y m k s t b in
+                let q = none-larger ws h p i l x y m k b in
                 rw (early-there x (shape ws (h .bytes)) m, early-there y (shape ws (h .bytes)) k) (omega arith);
           };
     }
 
--- what a call puts stands behind its equals, and before them in the small array
+-- a number that is at most 1, turned round as in the small array, and turned round again
+turned-few : (t : Bool) (n : ℕ) → n ≤ 1 → cond t (1 - n) n ≤ 1
+turned-few true n l = omega arith
+turned-few false n l = l
+
+turned-twice : (t : Bool) (n : ℕ) → n ≤ 1 → cond t (1 - cond t (1 - n) n) (cond t (1 - n) n) ≡ n
+turned-twice true n l = omega arith
+turned-twice false n l = refl
+
+-- a bin's list is parted behind the place c: late is what stands behind it
+module _ (ws : List ℕ) (h : Heap) (p : Passes ws h) (i : ℕ) (l : i < h .bins) (c : ℕ) where
+  abbrev row : List ℕ
+  row = binList ws h i
+
+  abbrev beyond : Entry → ℕ
+  beyond e = cond (standsBefore c (e .place) row) 1 0
+
+  beyond-few : (t : Bool) → cond t 1 0 ≤ 1
+  beyond-few true = omega arith
+  beyond-few false = omega arith
+
+  -- in the small array the other way about, since its bins are turned round; what is not on the chain is late
+  abbrev parted : Entry → ℕ
+  parted e = cond (has e (shape ws (h .bytes))) (lateIn h i beyond e) 1
+
+  parted-few : (t : Bool) (e : Entry) → cond t (lateIn h i beyond e) 1 ≤ 1
+  parted-few true e = turned-few (ltb i (smallBins (tableOf h))) (beyond e) (beyond-few (standsBefore c (e .place) row))
+  parted-few false e = omega arith
+
+  parted-there : (e : Entry) → Mem e (shape ws (h .bytes)) → parted e ≡ lateIn h i beyond e
+  parted-there e m = rw (has-iff e (shape ws (h .bytes)) .1 m) refl
+
+  -- so in bin i itself what stands behind c is late
+  parted-here : (e : Entry) → Mem e (shape ws (h .bytes)) → lateIn h i parted e ≡ beyond e
+  parted-here e m = rw (parted-there e m) (turned-twice (ltb i (smallBins (tableOf h))) (beyond e) (beyond-few (standsBefore c (e .place) row)))
+
+  -- what stands behind something late is late
+  late-on : (x y : Entry) → Before (x .place) (y .place) row → beyond x ≤ beyond y
+  late-on x y b = go (standsBefore c (x .place) row) refl
+    where
+      go : (t : Bool) → standsBefore c (x .place) row ≡ t → cond t 1 0 ≤ beyond y
+      go true q =
+          let through = before-through c (x .place) (y .place) row (p .bins i l .once) (before-iff c (x .place) row .0 q) b in
+          rw (before-iff c (y .place) row .1 through) (omega arith)
+      go false q = omega arith
+
+  -- nothing in another bin is
+  none-beyond : (j : ℕ) → j < h .bins → j ≢ i → (e : Entry) → Mem (e .place) (binList ws h j) → beyond e ≡ 0
+  none-beyond j k other e m =
+      rw (not-so (before-iff c (e .place) row) (λ b. lists-apart ws h p j i k l other (e .place) m (before-members c (e .place) row b .1))) refl
+
+  parts : Lateness ws h parted
+  parts =
+      record {
+        atMost = λ e. parted-few (has e (shape ws (h .bytes))) e;
+        others = λ e n. rw (not-so (has-iff e (shape ws (h .bytes))) n) refl;
+        queued = λ j k. record { stand = λ x y m n s t b. go j k x y m n b (none-larger ws h p j k x y m n b) (ℕ-discrete j i) };
+      }
+    where
+      go : (j : ℕ) → j < h .bins → (x y : Entry) → Mem x (shape ws (h .bytes)) → Mem y (shape ws (h .bytes)) → Before (x .place) (y .place) (binList ws h j)
+          → x .size ≤ y .size → Dec (j ≡ i) → standing (lateIn h j parted) x ≤ standing (lateIn h j parted) y
+      go j k x y m n b q (yes same) =
+          let f = late-on x y (rw same at b) in
+          rw (same, parted-here x m, parted-here y n) (omega arith)
+      go j k x y m n b q (no other) =
+          let (mx, my) = before-members (x .place) (y .place) (binList ws h j) b in
+          rw (parted-there x m, parted-there y n, none-beyond j k other x mx, none-beyond j k other y my) (omega arith)
+
+-- A lateness of before the call is carried on to the state t: by `now` its lists stand so too, and `now` is the same for the chunks that were on the chain
+-- before and are still, and has every other chunk late
+record Carried (s t : State) (late : Entry → ℕ) : Type 0 where
+  now : Entry → ℕ
+  queued : QueuedIn now (t .words) (t .heap)
+  same : (x : Entry) → On s x → On t x → now x ≡ late x
+  others : (y : Entry) → (On s y → ⊥) → now y ≡ 1
+
+-- every lateness is, and the table is the same
+record Carries (s t : State) : Type 0 where
+  passes : Passing t
+  table : tableOf (t .heap) ≡ tableOf (s .heap)
+  carried : (late : Entry → ℕ) → Lateness (s .words) (s .heap) late → Carried s t late
+
+-- what a call puts stands behind its equals, and before them in the small array; what was in a list and is still keeps its order
 record Placed (s t : State) : Type 0 where
   behind : Behind s t
   ahead : Ahead s t
+  steady : Steady s t
 
--- late chunks stand so
-module _ (s t : State) (p : Passing t) (late : Entry → ℕ) (queued : QueuedIn late (t .words) (t .heap))
-    (early : (x : Entry) → On s x → On t x → late x ≡ 0) (lates : (y : Entry) → (On s y → ⊥) → late y ≡ 1) (i : ℕ) (l : i < t .heap .bins) where
+module _ (s t : State) (p : Passing s) (c : Carries s t) (i : ℕ) (l : i < t .heap .bins) where
   in-bin : (e : Entry) → InBin t i e → (ordinary (t .heap) e ≡ true) × (binOf (tableOf (t .heap)) (e .size) ≡ Bin i)
   in-bin e (o, m) =
-      let (d, k, (q, b)) = p .bins i l .chunks (e .place) m in
-      rw (one-chunk (t .words) (t .heap) p d e k o q) at b
+      let (d, k, (q, b)) = c .passes .bins i l .chunks (e .place) m in
+      rw (one-chunk (t .words) (t .heap) (c .passes) d e k o q) at b
 
-  stands : (x y : Entry) → InBin t i x → InBin t i y → Before (x .place) (y .place) (listOf t i)
-      → standing (lateIn (t .heap) i late) x ≤ standing (lateIn (t .heap) i late) y
-  stands x y bx by b = queued i l .stand x y (bx .0) (by .0) (in-bin x bx .0) (in-bin y by .0) b
+  stands : {late : Entry → ℕ} (k : Carried s t late) (x y : Entry) → InBin t i x → InBin t i y → Before (x .place) (y .place) (listOf t i)
+      → standing (lateIn (t .heap) i (k .now)) x ≤ standing (lateIn (t .heap) i (k .now)) y
+  stands k x y bx by b = k .queued i l .stand x y (bx .0) (by .0) (in-bin x bx .0) (in-bin y by .0) b
+
+  -- late is what was not on the chain
+  abbrev newLate : Carried s t (lateFor (shape (s .words) (s .heap .bytes)))
+  newLate = c .carried (lateFor (shape (s .words) (s .heap .bytes))) (none-late (s .words) (s .heap) p)
+
+  early : (x : Entry) → On s x → On t x → newLate .now x ≡ 0
+  early x on there = newLate .same x on there ∙ early-there x (shape (s .words) (s .heap .bytes)) on
 
   -- one of two chunks of a bin stands before the other, if one was on the chain before the call and the other was not
   either : (x y : Entry) → InBin t i x → InBin t i y → On s x → (On s y → ⊥)
       → Before (x .place) (y .place) (listOf t i) ⊎ Before (y .place) (x .place) (listOf t i)
   either x y (ox, mx) (oy, my) on off =
-      one-before (listOf t i) mx my (λ q. off (subst (On s) (one-chunk (t .words) (t .heap) p x y ox oy q) on))
+      one-before (listOf t i) mx my (λ q. off (subst (On s) (one-chunk (t .words) (t .heap) (c .passes) x y ox oy q) on))
 
   late-behind : smallBins (tableOf (t .heap)) ≤ i → (x y : Entry) → InBin t i x → InBin t i y → x .size ≡ y .size → On s x → (On s y → ⊥)
       → Before (x .place) (y .place) (listOf t i)
@@ -136,9 +227,9 @@ module _ (s t : State) (p : Passing t) (late : Entry → ℕ) (queued : QueuedIn
       go : Before (x .place) (y .place) (listOf t i) ⊎ Before (y .place) (x .place) (listOf t i) → Before (x .place) (y .place) (listOf t i)
       go (inl b) = b
       go (inr b) =
-          let z = rw (le-ltb i (smallBins (tableOf (t .heap))) large) at (stands y x by bx b) in
+          let z = rw (le-ltb i (smallBins (tableOf (t .heap))) large) at (stands newLate y x by bx b) in
           let a = early x on (bx .0) in
-          let c = lates y off in
+          let d = newLate .others y off in
           absurd (omega arith)
 
   late-ahead : i < smallBins (tableOf (t .heap)) → (x y : Entry) → InBin t i x → InBin t i y → On s x → (On s y → ⊥)
@@ -147,31 +238,67 @@ module _ (s t : State) (p : Passing t) (late : Entry → ℕ) (queued : QueuedIn
     where
       only : (e : Entry) → InBin t i e → e .size ≡ 24 + 8 * i
       only e b =
-          one-size (tableOf (t .heap)) (p .table .valid) (bin-takes (tableOf (t .heap)) (in-bin e b .1)) small (inside (t .words) (t .heap) p e (b .0) .size)
+          one-size (tableOf (t .heap)) (c .passes .table .valid) (bin-takes (tableOf (t .heap)) (in-bin e b .1)) small
+          (inside (t .words) (t .heap) (c .passes) e (b .0) .size)
 
       go : Before (x .place) (y .place) (listOf t i) ⊎ Before (y .place) (x .place) (listOf t i) → Before (y .place) (x .place) (listOf t i)
       go (inl b) =
-          let z = rw (lt-ltb i (smallBins (tableOf (t .heap))) small) at (stands x y bx by b) in
+          let z = rw (lt-ltb i (smallBins (tableOf (t .heap))) small) at (stands newLate x y bx by b) in
           let a = early x on (bx .0) in
-          let c = lates y off in
+          let d = newLate .others y off in
           let q = only x bx in
           let r = only y by in
           absurd (omega arith)
       go (inr b) = b
 
-late-placed : (s t : State) → Passing t → (late : Entry → ℕ) → QueuedIn late (t .words) (t .heap)
-    → ((x : Entry) → On s x → On t x → late x ≡ 0) → ((y : Entry) → (On s y → ⊥) → late y ≡ 1) → Placed s t
-late-placed s t p late queued early lates =
-    record { behind = late-behind s t p late queued early lates; ahead = late-ahead s t p late queued early lates }
+  -- two chunks that were in the list, x before y: late is what stood behind x
+  module _ (x y : Entry) (bx : InBin t i x) (by : InBin t i y) (ox : On s x) (oy : On s y) (b : Before (x .place) (y .place) (listOf s i)) where
+    was-bin : i < s .heap .bins
+    was-bin = go (decLt i (s .heap .bins))
+      where
+        go : Dec (i < s .heap .bins) → i < s .heap .bins
+        go (yes k) = k
+        go (no n) = absurd (rw (list-none (s .words) (s .heap) p i (omega arith)) at b)
+
+    abbrev behindFirst : Entry → ℕ
+    behindFirst = beyond (s .words) (s .heap) p i was-bin (x .place)
+
+    abbrev partedLate : Carried s t (parted (s .words) (s .heap) p i was-bin (x .place))
+    partedLate = c .carried (parted (s .words) (s .heap) p i was-bin (x .place)) (parts (s .words) (s .heap) p i was-bin (x .place))
+
+    now-behind : (e : Entry) → On s e → On t e → lateIn (t .heap) i (partedLate .now) e ≡ behindFirst e
+    now-behind e was is = rw (c .table, partedLate .same e was is) (parted-here (s .words) (s .heap) p i was-bin (x .place) e was)
+
+    not-itself : Before (x .place) (x .place) (listOf s i) → ⊥
+    not-itself = before-itself (x .place) (listOf s i) (p .bins i was-bin .once)
+
+    first-early : behindFirst x ≡ 0
+    first-early = rw (not-so (before-iff (x .place) (x .place) (listOf s i)) not-itself) refl
+
+    second-late : behindFirst y ≡ 1
+    second-late = rw (before-iff (x .place) (y .place) (listOf s i) .1 b) refl
+
+    still-before : Before (x .place) (y .place) (listOf t i)
+    still-before = go (one-before (listOf t i) (bx .1) (by .1) (λ q. not-itself (rw (← q) at b)))
+      where
+        go : Before (x .place) (y .place) (listOf t i) ⊎ Before (y .place) (x .place) (listOf t i) → Before (x .place) (y .place) (listOf t i)
+        go (inl k) = k
+        go (inr k) =
+            let z = stands partedLate y x by bx k in
+            let up = none-larger (s .words) (s .heap) p i was-bin x y ox oy b in
+            absurd (omega (arith, now-behind x ox (bx .0) ∙ first-early, now-behind y oy (by .0) ∙ second-late))
+
+carries-placed : (s t : State) → Passing s → Carries s t → Placed s t
+carries-placed s t p c = record { behind = late-behind s t p c; ahead = late-ahead s t p c; steady = still-before s t p c }
 
 -- a block is granted, and `ss` written into it
 filled-queued : {ws : List ℕ} {h : Heap} {n : ℕ} (room : Grantable ws h n) (ss : List Store) (w : Within (theGrant room .granted) ss)
     (late : Entry → ℕ) → Lateness ws h late → QueuedIn late (filledWords room ss w) (grantedHeap room)
 filled-queued room ss w late t i l =
     let f = granted-filled room ss w in
-    rw (f .chain, f .lists i) (grant-queued room late t i l)
+    rw (f .chain, f .lists i) (grant-queued room .stand late t i l)
 
--- a block moves: late are all chunks but those that are on the chain after the grant and were on it before
+-- a block moves
 module _ {ws : List ℕ} {h : Heap} (p : Passes ws h) {n : ℕ} {e : Entry} (moves : Moving ws h n e) where
   abbrev first : List Entry
   first = shape ws (h .bytes)
@@ -179,32 +306,11 @@ module _ {ws : List ℕ} {h : Heap} (p : Passes ws h) {n : ℕ} {e : Entry} (mov
   abbrev second : List Entry
   second = shape (copiedWords moves) (copiedHeap moves .bytes)
 
-  abbrev lateBoth : Entry → ℕ
-  lateBoth x = cond (has x second && has x first) 0 1
-
   abbrev source : Entry
   source = sourceChunk (moves .room)
 
   abbrev new : Entry
   new = theGrant (moves .room) .granted
-
-  same-late : (x : Entry) → Mem x second → lateBoth x ≡ lateFor first x
-  same-late x m = rw (has-iff x second .1 m) refl
-
-  both-late : Lateness (copiedWords moves) (copiedHeap moves) lateBoth
-  both-late =
-      record {
-        atMost = λ x. late-few (has x second && has x first);
-        others = λ x k. rw (not-so (has-iff x second) k) refl;
-        queued =
-            λ i l.
-            record {
-              stand =
-                  λ x y m k s t b.
-                  let q = filled-queued (moves .room) (copies moves) (copies-within moves) (lateFor first) (none-late ws h p) i l .stand x y m k s t b in
-                  rw (same-late x m, same-late y k) q;
-            };
-      }
 
   abbrev old : ℕ
   old = blockOf e
@@ -247,16 +353,53 @@ module _ {ws : List ℕ} {h : Heap} (p : Passes ws h) {n : ℕ} {e : Entry} (mov
           let s = one-chunk (final .words) (final .heap) final-passes x new on new-stays (q ∙ sym (granted-place (moves .room))) in
           new-is-new (subst (λ (y : Entry). Mem y first) s m)
 
-  move-placed : Placed (record { words = ws; heap = h }) final
-  move-placed =
-      late-placed (record { words = ws; heap = h }) final final-passes lateBoth
-      (free-queued (copiedWords moves) (copiedHeap moves) (copied-passes moves) old (still-live moves) lateBoth both-late)
-      (λ x on stays. same-late x (between x on stays) ∙ early-there x first on)
-      (λ y off. rw (not-so (has-iff y first) off) (neither (has y second)))
-    where
-      neither : (t : Bool) → _≡_ {A = ℕ} (cond (t && false) 0 1) 1
-      neither true = refl
-      neither false = refl
+  -- a lateness of before the call: after the grant all chunks are late, too, that are not on the chain then
+  module _ (late : Entry → ℕ) (t : Lateness ws h late) where
+    abbrev lateThen : Entry → ℕ
+    lateThen x = cond (has x second) (late x) 1
+
+    late-then : (x : Entry) → Mem x second → lateThen x ≡ late x
+    late-then x m = rw (has-iff x second .1 m) refl
+
+    few-then : (u : Bool) (x : Entry) → cond u (late x) 1 ≤ 1
+    few-then true x = t .atMost x
+    few-then false x = omega arith
+
+    still-late : (u : Bool) (x : Entry) → (Mem x first → ⊥) → cond u (late x) 1 ≡ 1
+    still-late true x off = t .others x off
+    still-late false x off = refl
+
+    then-late : Lateness (copiedWords moves) (copiedHeap moves) lateThen
+    then-late =
+        record {
+          atMost = λ x. few-then (has x second) x;
+          others = λ x k. rw (not-so (has-iff x second) k) refl;
+          queued =
+              λ i l.
+              record {
+                stand =
+                    λ x y m k s u b.
+                    let q = filled-queued (moves .room) (copies moves) (copies-within moves) late t i l .stand x y m k s u b in
+                    rw (late-then x m, late-then y k) q;
+              };
+        }
+
+    moved-carried : Carried (record { words = ws; heap = h }) final late
+    moved-carried =
+        record {
+          now = lateThen;
+          queued = free-queued (copiedWords moves) (copiedHeap moves) (copied-passes moves) old (still-live moves) .stand lateThen then-late;
+          same = λ x on stays. late-then x (between x on stays);
+          others = λ y off. still-late (has y second) y off;
+        }
+
+  move-carries : Carries (record { words = ws; heap = h }) final
+  move-carries =
+      record {
+        passes = final-passes;
+        table = free-queued (copiedWords moves) (copiedHeap moves) (copied-passes moves) old (still-live moves) .table ∙ grant-queued (moves .room) .table;
+        carried = moved-carried;
+      }
 
 module _ (ws : List ℕ) (h : Heap) (p : Passes ws h) where
   abbrev before : State
@@ -270,29 +413,41 @@ module _ (ws : List ℕ) (h : Heap) (p : Passes ws h) where
   drafted d = record { words = written ws (d .stores); heap = d .heap }
 
   -- a draft in which late chunks stand as they should
-  queued-placed : (t : State) → Passing t → QueuedIn (lateFor es) (t .words) (t .heap) → Placed before t
-  queued-placed t passes queued =
-      late-placed before t passes (lateFor es) queued (λ x on _. early-there x es on) (λ y off. late-elsewhere y es off)
+  queued-placed : (d : Draft) → Passing (drafted d) → StaysQueued ws h d → Placed before (drafted d)
+  queued-placed d passes queued =
+      carries-placed before (drafted d) p
+      (record {
+        passes = passes;
+        table = queued .table;
+        carried = λ late t. record { now = late; queued = queued .stand late t; same = λ x on there. refl; others = t .others };
+      })
 
-  -- no chunk is new
-  nothing-new : (t : State) → ((y : Entry) → On t y → On before y) → Placed before t
-  nothing-new t same =
+  -- no chunk is new, and the lists are the same
+  nothing-new : (t : State) → ((y : Entry) → On t y → On before y) → ((i : ℕ) → listOf t i ≡ listOf before i) → Placed before t
+  nothing-new t same lists =
       record {
         behind = λ i l large x y bx (oy, my) e on off. absurd (off (same y oy));
         ahead = λ i l small x y bx (oy, my) on off. absurd (off (same y oy));
+        steady = λ i l x y bx by ox oy b. rw (lists i) b;
       }
+
+  nothing-else : Placed before before
+  nothing-else = nothing-new before (λ y on. on) (λ i. refl)
 
   -- a block is granted, and `ss` written into it
   granted-placed : {n : ℕ} (room : Grantable ws h n) (ss : List Store) (w : Within (theGrant room .granted) ss)
       → Placed before (record { words = filledWords room ss w; heap = grantedHeap room })
   granted-placed room ss w =
-      let f = granted-filled room ss w in
-      queued-placed (record { words = filledWords room ss w; heap = grantedHeap room }) (f .passes) (filled-queued room ss w (lateFor es) (none-late ws h p))
+      carries-placed before (record { words = filledWords room ss w; heap = grantedHeap room }) p
+      (record {
+        passes = granted-filled room ss w .passes;
+        table = grant-queued room .table;
+        carried = λ late t. record { now = late; queued = filled-queued room ss w late t; same = λ x on there. refl; others = t .others };
+      })
 
   -- a live block is freed; its chunk gives its tail back
   freed-placed : (b : ℕ) → isLive (asRead ws h) b ≡ true → Placed before (drafted (freeBlock b (asRead ws h)))
-  freed-placed b l =
-      queued-placed (drafted (freeBlock b (asRead ws h))) (free-kept ws h p b l .passes) (free-queued ws h p b l (lateFor es) (none-late ws h p))
+  freed-placed b l = queued-placed (freeBlock b (asRead ws h)) (free-kept ws h p b l .passes) (free-queued ws h p b l)
 
   -- the live block at b is to have z bytes
   module _ (b : ℕ) (l : isLive (asRead ws h) b ≡ true) (z : ℕ) where
@@ -305,22 +460,22 @@ module _ (ws : List ℕ) (h : Heap) (p : Passes ws h) where
     shrunk-placed : n + 24 ≤ at .here .size → Placed before (drafted (shrunk at n (asRead ws h) .draft))
     shrunk-placed spare =
         let shrinks = block-shrinks p b l z spare in
-        queued-placed (drafted (shrunk at n (asRead ws h) .draft)) (shrink-kept shrinks .passes) (shrink-queued shrinks (lateFor es) (none-late ws h p))
+        queued-placed (shrunk at n (asRead ws h) .draft) (shrink-kept shrinks .passes) (shrink-queued shrinks)
 
     moved-placed : nowhere (sourceOf n (asRead ws h)) ≡ false → at .here .size < n → Placed before (drafted (moved ws at n (asRead ws h) .draft))
     moved-placed some less =
         let moves = block-moves p b l z some less in
-        rw (moved-reread moves .0, moved-words moves) (move-placed p moves)
+        rw (moved-reread moves .0, moved-words moves) (carries-placed before (final p moves) p (move-carries p moves))
 
     resized-placed : (ltb (at .here .size) n && nowhere (sourceOf n (asRead ws h))) ≡ false → Placed before (drafted (resized ws at n (asRead ws h) .draft))
     unfolding asRead
     resized-placed q =
         resized-so (λ x. Placed before (drafted (x .draft))) ws at n (asRead ws h)
-        (λ less. moved-placed (rw (lt-ltb (at .here .size) n less) at q) less) shrunk-placed (nothing-new before (λ y on. on))
+        (λ less. moved-placed (rw (lt-ltb (at .here .size) n less) at q) less) shrunk-placed nothing-else
 
   -- a refusal leaves the heap as it was
   judged-placed : (came : Heap) (o : Outcome) (ts : Refusals) → (Failed ts → Placed before (stateLeft ws h o)) → Placed before (stateLeft ws h (judged came ts o))
-  judged-placed came o ts = judged-so (λ x. Placed before (stateLeft ws h x)) came o ts (λ r. nothing-new before (λ y on. on))
+  judged-placed came o ts = judged-so (λ x. Placed before (stateLeft ws h x)) came o ts (λ r. nothing-else)
 
   with-placed : (fill : Entry → List Store) → ((e : Entry) → Within e (fill e)) → (z : ℕ) → Placed before (stateLeft ws h (allocateWith fill ws h z))
   with-placed fill within z =
@@ -342,7 +497,7 @@ module _ (ws : List ℕ) (h : Heap) (p : Passes ws h) where
       judged-placed h (freed (asRead ws h) b) (freeRefusals (heapFails ws h) (asRead ws h) b) (λ (_, (l, _)). go (eqb b 0) l)
     where
       go : (t : Bool) → (not t && not (isLive (asRead ws h) b)) ≡ false → Placed before (drafted (cond t (asRead ws h) (freeBlock b (asRead ws h))))
-      go true l = nothing-new before (λ y on. on)
+      go true l = nothing-else
       go false l = freed-placed b (not-false (isLive (asRead ws h) b) l)
 
   resize-placed : (b z : ℕ) → Placed before (stateLeft ws h (resize ws h b z))
@@ -366,6 +521,7 @@ module _ (ws : List ℕ) (h : Heap) (p : Passes ws h) where
       record {
         behind = λ i l large x y bx (oy, my) e on off. absurd (none-in i (y .place) my);
         ahead = λ i l small x y bx (oy, my) on off. absurd (none-in i (y .place) my);
+        steady = λ i l x y bx (oy, my) on too b. absurd (none-in i (y .place) my);
       }
     where
       none-in : (i c : ℕ) → Mem c (listOf (stateLeft ws h (opened (heapBytes (length ws)) table donor merge)) i) → ⊥
@@ -373,7 +529,7 @@ module _ (ws : List ℕ) (h : Heap) (p : Passes ws h) where
 
   -- a call that changes nothing
   told-placed : (a : Answer) → Placed before (stateLeft ws h (unchanged h a))
-  told-placed a = rw (same-record h a) (nothing-new before (λ y on. on))
+  told-placed a = rw (same-record h a) nothing-else
 
   step-placed : (call : Call) → Placed before (stateLeft ws h (step call ws h))
   unfolding step setup check askChunk askBin setMerge
@@ -383,7 +539,7 @@ module _ (ws : List ℕ) (h : Heap) (p : Passes ws h) where
   step-placed (AllocateCleared count size) = cleared-placed count size
   step-placed (Free b) = free-placed b
   step-placed (Reallocate b z) = reallocate-placed b z
-  step-placed (SetMerge on) = judged-placed h (unchanged (withMerge h on) Done) (heapFails ws h ∷ []) (λ _. nothing-new (record { words = ws; heap = withMerge h on }) (λ y there. there))
+  step-placed (SetMerge on) = judged-placed h (unchanged (withMerge h on) Done) (heapFails ws h ∷ []) (λ _. nothing-new (record { words = ws; heap = withMerge h on }) (λ y there. there) (λ i. refl))
   step-placed Check = told-placed (checked ws h)
   step-placed (AskChunk q c) =
       let d = asRead ws h in
@@ -393,8 +549,8 @@ module _ (ws : List ℕ) (h : Heap) (p : Passes ws h) where
       let answers = binAnswers (asRead ws h .lists i) in
       judged-placed h (asked h q answers) (askRefusals (heapFails ws h) q answers (ltb i (h .bins))) (λ _. told-placed (answerTo q answers))
   step-placed (Patrol f) =
-      patrol-so ws h p (λ o. Placed before (stateLeft ws h o)) (λ r. nothing-new before (λ y on. on))
-      (λ c t there. nothing-new (record { words = ws; heap = withPatrol h c }) (λ y on. on)) f
+      patrol-so ws h p (λ o. Placed before (stateLeft ws h o)) (λ r. nothing-else)
+      (λ c t there. nothing-new (record { words = ws; heap = withPatrol h c }) (λ y on. on) (λ i. refl)) f
 
 pub order : Order ours
 unfolding ours
@@ -404,6 +560,7 @@ order s p =
       left = λ call. in-order (after ours call s) (kept .calls call s p);
       behind = λ call. step-placed (s .words) (s .heap) p call .behind;
       ahead = λ call. step-placed (s .words) (s .heap) p call .ahead;
+      steady = λ call. step-placed (s .words) (s .heap) p call .steady;
     }
 
 -- A heap with a list that is not in order, as older firmware left them, is refused 4 by every call that asks the check: by every way that gives

@@ -52,12 +52,13 @@ Steady s t =
     → Before (x .place) (y .place) (listOf t i)
 
 -- the promise in one state: its lists are in order, and those that any call leaves; what a call puts stands behind its equals, and before them in the
--- small array
+-- small array; what was in a list before, and is still, keeps its order there
 pub record OrderAt (way : Way) (s : State) : Type 0 where
   pub now : InOrder s
   pub left : (call : Call) → InOrder (after way call s)
   pub behind : (call : Call) → Behind s (after way call s)
   pub ahead : (call : Call) → Ahead s (after way call s)
+  pub steady : (call : Call) → Steady s (after way call s)
 
 -- the promise, on every heap that passes
 abbrev pub Order : Way → Type 0
