@@ -1,5 +1,6 @@
 -- A free chunk is cut and the chain linked anew: its free parts then wait, that is, they are not yet settled in a bin, as donor or as top
--- (`cut-waits`, for a cut at any place). A plain grant cuts at 0 and leaves a picture of the heap, whatever the chunk's kind (`cut-done`). Assumes nothing.
+-- (`cut-waits`, for a cut at any place). A plain grant cuts at 0 and leaves a picture of the heap, whatever the chunk's kind (`cut-done`), and what is left
+-- of the chunk has its post (`withPost`). Assumes nothing.
 use mathlib.Core.Path.{_≡_, refl, sym, ap, subst, _∙_}
 use mathlib.Core.Logic.{_≢_, _⊎_, inl, inr}
 use mathlib.Core.Bool.{Bool, true, false, cond}
@@ -13,7 +14,8 @@ use Rattle.lists.specs.Lists.{Mem, headOr}
 use Rattle.lists.proofs.SplitLaws.{in-split, among, outer-in, middle-in}
 use Rattle.record.specs.declared.heap.Heap.{Heap}
 use Rattle.record.specs.declared.kinds.Kind.{Kind}
-use Rattle.record.specs.declared.kinds.Kind.the-variants.{Ordinary, Donor, Top}
+use Rattle.record.specs.declared.kinds.Kind.the-variants.{Start, InUse, Ordinary, Donor, Top, End}
+use Rattle.record.specs.Heap.{withDonor, withTop}
 use Rattle.rules.specs.Shape.{Entry, chunkEnd, shape}
 use Rattle.rules.specs.Kinds.{ordinaryKind, freeKind, liveKind, kindOf, live, outside}
 use Rattle.rules.specs.Check.{usedBytes, IsChunk, Passes}
@@ -30,6 +32,32 @@ use Rattle.drafts.proofs.OpenLaws.{InnerChunk, whole, laid-out, elsewhe
 use Rattle.drafts.proofs.HalfwayLaws.{Opened, Closed, closes}
 use Rattle.drafts.proofs.WaitingLaws.{Waiting, Finished, takes-bin, takes-donor, takes-top, waiting-done}
 use Rattle.drafts.proofs.CutLaws.{FreeChunk, Cutting, PartIn, restOf, parts-tiled, granted-among, rest-among, chunks-among, rest-once, rest-smaller, part-in, lives-parts, rest-none, rest-above}
+
+-- the record when what is left of a chunk of the kind k, at c, has that chunk's post
+abbrev pub withPost : Kind → ℕ → Heap → Heap
+withPost Donor c h = withDonor h c
+withPost Top c h = withTop h c
+withPost Ordinary c h = h
+withPost Start c h = h
+withPost InUse c h = h
+withPost End c h = h
+
+-- any other post stays
+pub post-not-donor : (k : Kind) (c : ℕ) (h : Heap) → k ≢ Donor → withPost k c h .donor .0 ≡ h .donor .0
+post-not-donor Donor c h n = absurd (n refl)
+post-not-donor Top c h n = refl
+post-not-donor Ordinary c h n = refl
+post-not-donor Start c h n = refl
+post-not-donor InUse c h n = refl
+post-not-donor End c h n = refl
+
+pub post-not-top : (k : Kind) (c : ℕ) (h : Heap) → k ≢ Top → withPost k c h .top .0 ≡ h .top .0
+post-not-top Donor c h n = refl
+post-not-top Top c h n = absurd (n refl)
+post-not-top Ordinary c h n = refl
+post-not-top Start c h n = refl
+post-not-top InUse c h n = refl
+post-not-top End c h n = refl
 
 -- a free chunk e; the chain is split there
 module _ {ws : List ℕ} {h : Heap} {low : List Entry} {e : Entry} {high : List Entry} (chunk : FreeChunk ws h low e high) where
@@ -179,7 +207,7 @@ module _ {ws : List ℕ} {h : Heap} {low : List Entry} {e : Entry} {high : List 
         record { top = top-outer inner (o .notTop); donor = donor-outer inner (o .notDonor) }
 
     -- nothing is left of e
-    wholly-done : above .size ≡ 0 → kindOf h e ≡ Ordinary → Finished ws h grantChain (nowUses 0 (granted .size) (linked Ordinary))
+    wholly-done : above .size ≡ 0 → kindOf h e ≡ Ordinary → Finished ws h h grantChain (nowUses 0 (granted .size) (linked Ordinary))
     wholly-done z kind =
         waiting-done well
         (subst (λ (l : List Entry). Waiting ws h h (low ++ high) l grantChain (linked Ordinary)) (rest-none c z) (waits (opens Ordinary kind refl)))
@@ -197,7 +225,7 @@ module _ {ws : List ℕ} {h : Heap} {low : List Entry} {e : Entry} {high : List 
       one-waits k kind f =
           subst (λ (l : List Entry). Waiting ws h h (low ++ high) l grantChain (linked k)) (rest-above c some) (waits (opens k kind f))
 
-      partly-ordinary : kindOf h e ≡ Ordinary → Finished ws h grantChain (nowUses 0 (granted .size) (settle Ordinary above (linked Ordinary)))
+      partly-ordinary : kindOf h e ≡ Ordinary → Finished ws h h grantChain (nowUses 0 (granted .size) (settle Ordinary above (linked Ordinary)))
       partly-ordinary kind =
           waiting-done well (takes-bin well (one-waits Ordinary kind refl) (ordinary-posts kind)) (posts-in stays (ordinary-posts kind)) (λ c. c) still-placed 0
           (granted .size) counted
@@ -225,7 +253,7 @@ module _ {ws : List ℕ} {h : Heap} {low : List Entry} {e : Entry} {high : List 
                 let l = lies c refl no-skip eight large above above-in .large in
                 omega arith
 
-        partly-donor : Finished ws h grantChain (nowUses 0 (granted .size) (settle Donor above (linked Donor)))
+        partly-donor : Finished ws h (withDonor h (above .place)) grantChain (nowUses 0 (granted .size) (settle Donor above (linked Donor)))
         partly-donor =
             waiting-done well
             (takes-donor well (one-waits Donor kind refl) (λ x m q. elsewhere inner x m (q ∙ sym was-donor)) below-top)
@@ -240,7 +268,7 @@ module _ {ws : List ℕ} {h : Heap} {low : List Entry} {e : Entry} {high : List 
         was-top : IsTop ws h (shape ws (h .bytes)) e
         was-top = is-top ws h well e member (being-as h e Top kind .3)
 
-        partly-top : Finished ws h grantChain (nowUses 0 (granted .size) (settle Top above (linked Top)))
+        partly-top : Finished ws h (withTop h (above .place)) grantChain (nowUses 0 (granted .size) (settle Top above (linked Top)))
         partly-top =
             let r = was-top .reaches in
             let q = was-top .place in
@@ -258,19 +286,21 @@ module _ {ws : List ℕ} {h : Heap} {low : List Entry} {e : Entry} {high : List 
 
     -- for each kind of e; of donor and top at least 24 bytes are left
     pub cut-done : (k : Kind) → kindOf h e ≡ k → freeKind k ≡ true → (ordinaryKind k ≡ false → n + 24 ≤ e .size)
-        → Finished ws h grantChain (nowUses 0 (granted .size) (settled k))
+        → Finished ws h (withPost k (above .place) h) grantChain (nowUses 0 (granted .size) (settled k))
     cut-done k kind f spare = go (eqb (above .size) 0) refl
       where
         too-near : above .size ≡ 0 → n + 24 ≤ e .size → ⊥
         too-near z l = let m = c .near z in omega arith
 
-        go : (t : Bool) → eqb (above .size) 0 ≡ t → Finished ws h grantChain (nowUses 0 (granted .size) (cond t (linked k) (settle k above (linked k))))
+        go : (t : Bool) → eqb (above .size) 0 ≡ t
+            → Finished ws h (withPost k (above .place) h) grantChain (nowUses 0 (granted .size) (cond t (linked k) (settle k above (linked k))))
         go true t =
             let z = eqb-true (above .size) 0 t in
             free-kinds
-            (λ k. kindOf h e ≡ k → (ordinaryKind k ≡ false → n + 24 ≤ e .size) → Finished ws h grantChain (nowUses 0 (granted .size) (linked k)))
+            (λ k. kindOf h e ≡ k → (ordinaryKind k ≡ false → n + 24 ≤ e .size)
+            → Finished ws h (withPost k (above .place) h) grantChain (nowUses 0 (granted .size) (linked k)))
             (λ q s. wholly-done z q) (λ q s. absurd (too-near z (s refl))) (λ q s. absurd (too-near z (s refl))) k f kind spare
         go false t =
             let some = eqb-false (above .size) 0 t in
-            free-kinds (λ k. kindOf h e ≡ k → Finished ws h grantChain (nowUses 0 (granted .size) (settle k above (linked k))))
+            free-kinds (λ k. kindOf h e ≡ k → Finished ws h (withPost k (above .place) h) grantChain (nowUses 0 (granted .size) (settle k above (linked k))))
             (partly-ordinary some) (partly-donor some) (partly-top some) k f kind

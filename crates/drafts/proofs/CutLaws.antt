@@ -6,7 +6,7 @@ use mathlib.Core.Logic.{_⊎_, inl, inr}
 use mathlib.Core.Bool.{Bool, true, false, not, cond}
 use mathlib.Core.List.{List, [], _∷_, _++_, List·Memᴰ·head, List·Memᴰ·tail, List·Memᴰ·not-nil, List·Memᴰ·eq-of-singleton}
 use Prim.Native.Nat.{ℕ, _+_, _-_, _%_, _≤_, _<_}
-use native.Mathlib.Decide.{decLe}
+use native.Mathlib.Decide.{ℕ-discrete, decLe}
 use native.Mathlib.Nat.{add-zero, sub-zero}
 use native.Mathlib.Omega.{arith}
 use lib.Dec.{eqb}
@@ -204,6 +204,14 @@ module _ {e : Entry} {n : ℕ} {p : Parts} (c : Cutting e 0 n p) where
 
   pub rest-above : (p .above .size ≡ 0 → ⊥) → restOf p ≡ p .above ∷ []
   rest-above n = rw (eq-eqb (p .below .size) 0 (c .skipped), ne-eqb (p .above .size) 0 n) refl
+
+  -- where enough for a chunk is left, it lies n bytes up
+  pub rest-place : n + 24 ≤ e .size → p .above .place ≡ e .place + n
+  rest-place l = go (ℕ-discrete (p .above .size) 0)
+    where
+      go : Dec (p .above .size ≡ 0) → p .above .place ≡ e .place + n
+      go (yes z) = absurd (omega (arith, c .near z))
+      go (no some) = omega (arith, c .exact (omega arith))
 
 -- what the rule makes if something is left of the chunk, and if nothing is
 abbrev pub partly : Kind → List Entry → Entry → List Entry → ℕ → Draft → Grant

@@ -122,7 +122,7 @@ module _ {ws : List ℕ} {h : Heap} {base : List Entry} (p : Passes ws h) (gone 
     counted : h .used + new - gone ≡ usedBytes h chain
     counted = count ∙ ap (total (λ (e : Entry). e .size)) (sym same-lives)
 
-    ends : {after : Draft} → Finished ws h chain after → GivenBack ws h base linked after
+    ends : {k : Heap} {after : Draft} → Finished ws h k chain after → GivenBack ws h base linked after
     ends f =
         record {
           sized = waiting-sized fill-waits;

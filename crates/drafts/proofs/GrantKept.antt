@@ -1,5 +1,5 @@
 -- A grant leaves a picture of the heap (`grant-kept`): it passes and is read as the draft says. The granted chunk is a new live chunk, and every
--- live chunk stays. Assumes nothing.
+-- live chunk stays; what is left of donor or top has its post (`granted-donor`, `granted-top`). Assumes nothing.
 use mathlib.Core.Path.{_≡_, sym, ap, subst, _∙_}
 use mathlib.Core.Logic.{_≢_, _⊎_, inl, inr}
 use mathlib.Core.Bool.{true, cond, false≢true}
@@ -26,7 +26,7 @@ use Rattle.drafts.proofs.WaitingLaws.{Finished}
 use Rattle.drafts.specs.Sources.{kindIn}
 use Rattle.drafts.proofs.SourceLaws.{CanGrant, Grantable, free-source, source-can}
 use Rattle.drafts.proofs.CutLaws.{FreeChunk, Cutting, restOf, cut-parts, granted-among, rest-among, chunks-among}
-use Rattle.drafts.proofs.CutKept.{inner, cut-live, cut-done}
+use Rattle.drafts.proofs.CutKept.{withPost, inner, cut-live, cut-done}
 
 module _ {ws : List ℕ} {h : Heap} {n : ℕ} (room : Grantable ws h n) where
   abbrev pub source : Source
@@ -70,7 +70,7 @@ module _ {ws : List ℕ} {h : Heap} {n : ℕ} (room : Grantable ws h n) where
   pub cutting : Cutting sourceChunk 0 n parts
   cutting = cut-parts sourceChunk 0 n (omega (arith, can .enough))
 
-  done : Finished ws h (low ++ chunksOf parts ++ high) grantAfter
+  done : Finished ws h (withPost (kindIn source) (parts .above .place) h) (low ++ chunksOf parts ++ high) grantAfter
   done = cut-done chunk cutting (room .eight) (room .large) (kindIn source) (can .kind) (free-source source (room .some)) (can .spare)
 
   pub grant-kept : Pictured ws (theGrant .draft)
@@ -82,6 +82,13 @@ module _ {ws : List ℕ} {h : Heap} {n : ℕ} (room : Grantable ws h n) where
   -- the parts stand where the source stood
   pub granted-chain : theGrant .draft .chain ≡ low ++ chunksOf parts ++ high
   granted-chain = rw grant-is (done .chain)
+
+  -- what is left of donor or top has its post
+  pub granted-donor : theGrant .draft .heap .donor .0 ≡ withPost (kindIn source) (parts .above .place) h .donor .0
+  granted-donor = rw grant-is (done .donor)
+
+  pub granted-top : theGrant .draft .heap .top .0 ≡ withPost (kindIn source) (parts .above .place) h .top .0
+  granted-top = rw grant-is (done .top)
 
   -- the new record finds the same chunks live
   same-live : (e : Entry) → live (theGrant .draft .heap) e ≡ live h e

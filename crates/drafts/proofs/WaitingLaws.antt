@@ -43,11 +43,13 @@ pub record Waiting (ws : List ℕ) (h g : Heap) (stay wait es : List Entry) (d :
   pub once : Distinct wait
   pub others : (x : Entry) → Mem x es → Mem x stay ⊎ (Mem x wait ⊎ Used x)
 
--- the draft, made on the heap h, is a picture of the heap, and its chain is es
-pub record Finished (ws : List ℕ) (h : Heap) (es : List Entry) (d : Draft) : Type 0 where
+-- the draft, made on the heap h, is a picture of the heap, its chain is es, and donor and top are those of the record g
+pub record Finished (ws : List ℕ) (h g : Heap) (es : List Entry) (d : Draft) : Type 0 where
   pub pictured : Pictured ws d
   pub queued : StaysQueued ws h d
   pub chain : d .chain ≡ es
+  pub donor : d .heap .donor .0 ≡ g .donor .0
+  pub top : d .heap .top .0 ≡ g .top .0
 
 -- the size words of all that are in bins say the sizes of the chain
 abbrev pub MembersSized : List ℕ → Heap → Draft → Type 0
@@ -207,7 +209,7 @@ module _ {ws : List ℕ} {h : Heap} (p : Passes ws h) where
         go x (inr (inr u)) = inr u
 
     pub waiting-done : Posts g es → (move : ℕ → ℕ) → IsChunk es (move (g .patrol .0)) → (gone new : ℕ) → g .used + new - gone ≡ usedBytes h es
-        → Finished ws h es (nowUses gone new (patrolsAt (move (d .heap .patrol .0)) d))
+        → Finished ws h g es (nowUses gone new (patrolsAt (move (d .heap .patrol .0)) d))
     waiting-done posts move place gone new u =
         let donorIs = ap (λ (k : Heap). k .donor .0) (w .heap) in
         let topIs = ap (λ (k : Heap). k .top .0) (w .heap) in
@@ -224,4 +226,4 @@ module _ {ws : List ℕ} {h : Heap} (p : Passes ws h) where
           used = rw usedIs (u ∙ ap (total (λ (e : Entry). e .size)) (sym (lives-same (recordMidway h after) h refl es)));
           patrol = rw patrolIs place;
         } in
-        record { pictured = pictured p complete; queued = picture-queued p complete; chain = w .chain }
+        record { pictured = pictured p complete; queued = picture-queued p complete; chain = w .chain; donor = donorIs; top = topIs }

@@ -20,7 +20,6 @@ use Rattle.grant.specs.Cut.{grantedM}
 use Rattle.drafts.specs.Sources.{kindIn}
 use Rattle.grant.specs.Serve.{AfterGrant, afterGrant, takenM, serveM, servedM}
 use Rattle.drafts.proofs.SourceLaws.{Grantable, free-source}
-use Rattle.settling.proofs.SettledLaws.{settled-keeps}
 use Rattle.grant.proofs.CutMeaning.{Serving, Taken, chunk-taken}
 use Rattle.drafts.proofs.GrantKept.{source, theGrant, sourceChunk, can, low, high}
 
@@ -87,9 +86,3 @@ module _ {ws : List ℕ} {h : Heap} {n : ℕ} (room : Grantable ws h n) where
       let i = inside ws h (room .well) e (c .member) in
       let b = bounds ws h (room .well) in
       rw (sym (c .place)) (taken-is (omega (arith, used-few ws h (room .well))) taken)
-
-  -- a grant leaves the table
-  pub grant-table : tableOf (theGrant room .draft .heap) ≡ tableOf h
-  grant-table =
-      let kept = settled-keeps (summaryOf h) kind (e .place + grantedM n (e .size)) in
-      ap tableOf (taken .heap) ∙ rw (kept .bins)

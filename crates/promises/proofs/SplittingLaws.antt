@@ -1,6 +1,6 @@
 -- The rules keep the promise `Splitting` (`splitting`): the chunk of a granted or resized block has fewer than 24 bytes more than needed, and where a
--- new block is granted the chain changes at its chunk alone, which is split in two or granted whole. Assumes nothing.
-use mathlib.Core.Path.{_≡_, ap, _∙_}
+-- new block is granted the chain changes at its chunk alone, which is split in two or granted whole; what remains of donor or top has its post. Assumes nothing.
+use mathlib.Core.Path.{_≡_, sym, ap, _∙_}
 use mathlib.Core.List.{List, _∷_, _++_, append-assoc}
 use Prim.Native.Nat.{ℕ, _+_, _*_, _≤_, _<_}
 use native.Mathlib.Decide.{ℕ-discrete}
@@ -8,18 +8,20 @@ use native.Mathlib.Omega.{arith}
 use lib.IntN.{ℤ}
 use borrow.Author.Tests.{eq-eqb}
 use Rattle.drafts.specs.Sources.{kindIn}
-use Rattle.drafts.proofs.CutLaws.{cut-in-two, cut-whole}
+use Rattle.drafts.proofs.CutKept.{withPost, post-not-donor, post-not-top}
+use Rattle.drafts.proofs.CutLaws.{rest-place, cut-in-two, cut-whole}
 use Rattle.drafts.proofs.FillLaws.{Within}
-use Rattle.drafts.proofs.GrantKept.{source, sourceChunk, can, parts, theGrant, granted-chain, granted-few}
+use Rattle.drafts.proofs.GrantKept.{source, sourceChunk, can, parts, cutting, theGrant, granted-chain, granted-donor, granted-top, granted-few}
 use Rattle.drafts.proofs.GrantedChunk.{grantedHeap, granted-pictured, filledWords, granted-filled}
 use Rattle.drafts.proofs.SourceLaws.{Grantable}
 use Rattle.lists.proofs.SplitLaws.{in-split}
 use Rattle.record.specs.declared.answers.Answer.the-variants.{Granted}
 use Rattle.record.specs.declared.heap.Heap.{Heap}
+use Rattle.record.specs.declared.kinds.Kind.{Kind}
 use Rattle.region.specs.declared.Block.{Block}
 use Rattle.region.specs.Words.{Store}
 use Rattle.rules.specs.Shape.{Entry, shape}
-use Rattle.rules.specs.Kinds.{overhead, blockOf}
+use Rattle.rules.specs.Kinds.{ordinaryKind, overhead, blockOf}
 use Rattle.rules.specs.Check.{Passes}
 use Rattle.rules.specs.Draft.{Spot, asRead}
 use Rattle.rules.specs.Serve.{need}
@@ -32,9 +34,9 @@ use Rattle.rules.specs.Statements.{Left, leftBy}
 use Rattle.rules.specs.Calls.{Call, Reallocate, step}
 use Rattle.rules.proofs.SpotLaws.{spot-cut}
 use Rattle.promises.specs.Ways.{ours}
-use Rattle.promises.specs.Room.{HoldsBlock}
+use Rattle.promises.specs.Room.{OnChain, HoldsBlock}
 use Rattle.promises.specs.Choice.{LiesIn}
-use Rattle.promises.specs.Splitting.{AsksFor, allocates, allocatesCleared, reallocates, GrantsAlone, allocated, allocatedCleared, noBlock, SplitAs, Splitting}
+use Rattle.promises.specs.Splitting.{AsksFor, allocates, allocatesCleared, reallocates, GrantsAlone, allocated, allocatedCleared, noBlock, SplitAs, PostsAs, Splitting}
 use Rattle.promises.proofs.ResizedLaws.{resized-by}
 use Rattle.promises.proofs.GrantedLaws.{cleared-within, new-held, to, to-kept}
 use Rattle.promises.proofs.KeptLaws.{of-its-chunk}
@@ -50,6 +52,10 @@ abbrev Split : List ℕ → Heap → ℕ → ℕ → Left → Type 0
 Split ws h n b left =
     (low : List Entry) (from : Entry) (high : List Entry) → shape ws (h .bytes) ≡ low ++ from ∷ high → LiesIn b from
     → SplitAs n low from high (shape (left .words) (left .heap .bytes))
+
+-- donor and top are as they should be where the block at b was granted from this chunk
+abbrev Posted : List ℕ → Heap → ℕ → ℕ → Left → Type 0
+Posted ws h n b left = (from : Entry) → OnChain ws h from → LiesIn b from → PostsAs h n from (left .heap)
 
 -- n bytes are granted
 module _ {ws : List ℕ} {h : Heap} {n : ℕ} (room : Grantable ws h n) where
@@ -70,6 +76,26 @@ module _ {ws : List ℕ} {h : Heap} {n : ℕ} (room : Grantable ws h n) where
           split = λ l. parts-between _ (cut-in-two kind low from high (asRead ws h) (room .large) l);
           whole = λ l. parts-between _ (cut-whole kind low from high (asRead ws h) (room .large) (can room .enough) l);
         }
+
+  -- what is left of donor or top has its post
+  source-posts : PostsAs h n from (grantedHeap room)
+  source-posts =
+      let kind = kindIn (source room) in
+      let place = parts room .above .place in
+      let is = can room .kind in
+      record {
+        newDonor = λ q.
+            let r = sym is ∙ q in
+            granted-donor room ∙ ap (λ (k : Kind). withPost k place h .donor .0) r ∙ rest-place (cutting room) (can room .spare (ap ordinaryKind r));
+        sameDonor = λ n. granted-donor room ∙ post-not-donor kind place h (λ q. n (is ∙ q));
+        newTop = λ q.
+            let r = sym is ∙ q in
+            granted-top room ∙ ap (λ (k : Kind). withPost k place h .top .0) r ∙ rest-place (cutting room) (can room .spare (ap ordinaryKind r));
+        sameTop = λ n. granted-top room ∙ post-not-top kind place h (λ q. n (is ∙ q));
+      }
+
+  granted-posts : (c : Entry) → OnChain ws h c → LiesIn (grantedBlock room) c → PostsAs h n c (grantedHeap room)
+  granted-posts c m lies = rw (source-alone room c m lies) source-posts
 
   -- stores `ss` into the new block
   module _ (ss : List Store) (w : Within (theGrant room .granted) ss) where
@@ -97,6 +123,9 @@ module _ {ws : List ℕ} {h : Heap} (p : Passes ws h) {block : Block} {change : 
 
     new-split : Split ws h (need overhead z) (block .0) (leftBy ws (allocateWith fill ws h z))
     new-split = granted-left p fill within z q (Split ws h (need overhead z)) (filled-splits room (fill new) (within new))
+
+    new-posted : Posted ws h (need overhead z) (block .0) (leftBy ws (allocateWith fill ws h z))
+    new-posted = granted-left p fill within z q (Posted ws h (need overhead z)) (granted-posts room)
 
   -- the live block at b, in the chunk e, is resized
   module _ {b : ℕ} {e : Entry} (k : HoldsBlock ws h b e) (z : ℕ) (q : ours (Reallocate b z) ws h .answer ≡ Granted block change) where
@@ -146,9 +175,16 @@ module _ {ws : List ℕ} {h : Heap} (p : Passes ws h) {block : Block} {change : 
   splits (allocatedCleared {count = count} {size = size}) q = new-split cleared cleared-within (count * size) q
   splits (noBlock {z = z}) q = new-split asFound (λ e. tt) z q
 
+  posts-so : {call : Call} {z : ℕ} → GrantsAlone call z → ours call ws h .answer ≡ Granted block change → Posted ws h (need overhead z) (block .0) (ours call ws h)
+  unfolding ours step allocate allocateCleared reallocate
+  posts-so (allocated {z = z}) q = new-posted asFound (λ e. tt) z q
+  posts-so (allocatedCleared {count = count} {size = size}) q = new-posted cleared cleared-within (count * size) q
+  posts-so (noBlock {z = z}) q = new-posted asFound (λ e. tt) z q
+
 pub splitting : Splitting ours
 splitting ws h p =
     record {
       few = λ call z asks block change q. of-its-chunk (λ e. e .size < need overhead z + 24) p call q (few-bytes p asks q);
       chain = λ call z alone block change q. splits p alone q;
+      posts = λ call z alone block change q. posts-so p alone q;
     }

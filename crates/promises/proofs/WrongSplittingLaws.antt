@@ -1,5 +1,5 @@
--- Each of three ways of granting too much breaks the promise `Splitting`, shown on heaps of the demonstration's setup: bins of 24, 32, 40 and 128, and a
--- top of 176 bytes at 72. Assumes nothing.
+-- Each of three ways of granting too much, and one that gives up the donor, breaks the promise `Splitting`, shown on heaps of the demonstration's setup: bins of
+-- 24, 32, 40 and 128, a donor of 64 bytes at 8 and a top of 176 bytes at 72. Assumes nothing.
 use mathlib.Core.Path.{_≡_, refl}
 use mathlib.Core.Bool.{true}
 use mathlib.Core.List.{[], _∷_}
@@ -8,17 +8,18 @@ use native.Mathlib.Omega.{arith}
 use lib.Dec.{leb}
 use Rattle.lists.proofs.ListsLaws.{at-most}
 use Rattle.record.specs.declared.answers.Answer.the-variants.{Granted}
+use Rattle.record.specs.declared.kinds.Kind.the-variants.{Donor}
 use Rattle.record.specs.Table.{least}
 use Rattle.rules.specs.Shape.{Entry, entry, shape}
-use Rattle.rules.specs.Kinds.{overhead, used, live, blockOf}
+use Rattle.rules.specs.Kinds.{kindOf, overhead, used, unused, live, blockOf}
 use Rattle.rules.specs.Check.{passes}
 use Rattle.rules.specs.Serve.{need}
 use Rattle.rules.specs.Outcome.{changeOf}
 use Rattle.rules.specs.Calls.{Call, Allocate, Free, Reallocate, State}
 use Rattle.rules.proofs.CasesLaws.{computes}
 use Rattle.promises.specs.Ways.{Way}
-use Rattle.promises.specs.Splitting.{AsksFor, allocates, reallocates, Splitting}
-use Rattle.promises.specs.Wrong.{takesTheTop, neverSplits, keepsTheTail}
+use Rattle.promises.specs.Splitting.{AsksFor, allocates, reallocates, allocated, Splitting}
+use Rattle.promises.specs.Wrong.{takesTheTop, neverSplits, keepsTheTail, givesUpTheDonor}
 use Rattle.promises.proofs.OrderLaws.{has, has-iff}
 use Rattle.promises.proofs.WrongLaws.{heapAfter, passing}
 
@@ -69,3 +70,23 @@ all-of-block = record { passes = refl; answer = refl; there = refl; live = refl;
 
 pub splitting-refutes-keeping-the-tail : Splitting keepsTheTail → ⊥
 splitting-refutes-keeping-the-tail promised = kept-few keepsTheTail promised one reallocates 88 (entry 72 88 used) all-of-block
+
+-- 40: from the fresh heap's donor 24 bytes are granted; the 40 that remain, at 32, are in a bin, and the record's donor is 0
+gives-up : let left = givesUpTheDonor (Allocate 16) (heapAfter [] .words) (heapAfter [] .heap) in
+    (left .answer ≡ Granted (record { 0 = 16 }) (changeOf 0 24)) × (left .heap .donor .0 ≡ 0)
+unfolding computes
+gives-up = (refl, refl)
+
+was-donor : let h = heapAfter [] .heap in
+    (passes (heapAfter [] .words) h ≡ true) × (has (entry 8 64 unused) (shape (heapAfter [] .words) (h .bytes)) ≡ true) × (kindOf h (entry 8 64 unused) ≡ Donor)
+unfolding computes
+was-donor = (refl, refl, refl)
+
+pub splitting-refutes-giving-up-the-donor : Splitting givesUpTheDonor → ⊥
+splitting-refutes-giving-up-the-donor promised =
+    let s = heapAfter [] in
+    let (well, there, kind) = was-donor in
+    let posts =
+    promised (s .words) (s .heap) (passing s well) .posts (Allocate 16) 16 allocated (record { 0 = 16 }) (changeOf 0 24) (gives-up .0) (entry 8 64 unused)
+    (has-iff (entry 8 64 unused) (shape (s .words) (s .heap .bytes)) .0 there) (omega arith) in
+    omega (arith, posts .newDonor kind, gives-up .1)

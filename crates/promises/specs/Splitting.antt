@@ -1,6 +1,6 @@
 -- Splitting (manual 5.2, 5.5; document 01, "The calls": Allocate, Reallocate): on a heap that passes, a call grants no more than is needed. A new block
--- gets the lowest n bytes of its chunk, or all of it where fewer than 24 would be left, and no other chunk of the chain changes; no block that is granted
--- or resized has a chunk of n + 24 bytes or more.
+-- gets the lowest n bytes of its chunk, or all of it where fewer than 24 would be left, and no other chunk of the chain changes; what remains of donor or top
+-- is donor or top; no block that is granted or resized has a chunk of n + 24 bytes or more.
 use mathlib.Core.Path.{_≡_}
 use mathlib.Core.Logic.{_≢_}
 use mathlib.Core.List.{List, [], _∷_, _++_}
@@ -18,7 +18,7 @@ use Rattle.rules.specs.Serve.{need}
 use Rattle.rules.specs.Statements.{Left}
 use Rattle.rules.specs.Calls.{Call, Allocate, AllocateCleared, Reallocate}
 use Rattle.promises.specs.Ways.{Way}
-use Rattle.promises.specs.Room.{HoldsBlock}
+use Rattle.promises.specs.Room.{OnChain, HoldsBlock}
 use Rattle.promises.specs.Choice.{LiesIn}
 
 -- the call asks for a block of z bytes
@@ -62,6 +62,11 @@ pub record SplittingAt (way : Way) (ws : List ℕ) (h : Heap) : Type 0 where
       left .answer ≡ Granted block change
       → (low : List Entry) (from : Entry) (high : List Entry) → shape ws (h .bytes) ≡ low ++ from ∷ high → LiesIn (block .0) from
       → SplitAs (need overhead z) low from high (chainLeft left)
+  -- and donor and top
+  pub posts : (call : Call) (z : ℕ) → GrantsAlone call z → (block : Block) (change : ℤ)
+      → let left = way call ws h in
+      left .answer ≡ Granted block change
+      → (from : Entry) → OnChain ws h from → LiesIn (block .0) from → PostsAs h (need overhead z) from (left .heap)
 
 -- the promise, on every heap that passes
 abbrev pub Splitting : Way → Type 0

@@ -22,8 +22,7 @@ use Rattle.rules.proofs.NamedLaws.{live-between}
 use Rattle.seek.specs.Seek.{placed}
 use Rattle.blocks.specs.Blocks.{copiedM}
 use Rattle.blocks.proofs.BlocksMeaning.{Disjoint, copy-is}
-use Rattle.grant.proofs.ServeMeaning.{grant-table}
-use Rattle.drafts.proofs.GrantKept.{theGrant, granted-large}
+use Rattle.drafts.proofs.GrantKept.{theGrant, grant-queued, granted-large}
 use Rattle.drafts.proofs.GrantedChunk.{grantedWords, granted-beside, granted-lies, appended}
 use Rattle.drafts.proofs.GrantSpared.{grant-spares}
 use Rattle.release.specs.Give.{givenUpM}
@@ -108,7 +107,7 @@ module _ {ws : List ℕ} {h : Heap} {n : ℕ} {e : Entry} (moves : Moving ws h n
   pub move-is : givenUpM words (tableOf h) heap (record { before = at (word words (e .place) backward - word words (e .place) backward % 8); chunk = at (e .place); end = chunkEnd e; flags = e .flags })
       ≡ drawn ws freedAfter
   move-is =
-      rw (below-again, ← grant-table (moves .room))
+      rw (below-again, ← grant-queued (moves .room) .table)
       (ap (λ (x : Entry). givenUpM words (tableOf heap) heap (placed (lastOr outside (spotAgain .low) .place) x)) (sym here-again)
       ∙ give-up-is words heap passesAgain (blockOf e) liveAgain
       ∙ drawn-again)
