@@ -1,6 +1,6 @@
 -- Words of a block written one after the other (`fillFrom`); and writes inside a live block leave a heap that passes and is read as before (`written-inside`).
 -- Assumes nothing.
-use mathlib.Core.Path.{_≡_, sym, ap, _∙_}
+use mathlib.Core.Path.{_≡_, sym, ap, _∙_, fun-ext}
 use mathlib.Core.Logic.{_≢_, _⊎_, inl, inr}
 use mathlib.Core.Bool.{true}
 use mathlib.Core.List.{List, map}
@@ -15,6 +15,7 @@ use Rattle.region.proofs.WordsLaws.{Fall, fall-so, Off, off, word-same, length-
 use Rattle.rules.specs.Shape.{Entry, chunkEnd, shape, binList}
 use Rattle.rules.specs.Kinds.{live, unused, blockOf, blockEnd, blockWords}
 use Rattle.rules.specs.Check.{Fits, Passes}
+use Rattle.rules.specs.Draft.{asRead}
 use Rattle.rules.proofs.SpotLaws.{inside, chunks-apart, one-chunk}
 use Rattle.rules.proofs.KindsLaws.{live-used, block-starts, block-ends}
 use Rattle.rules.proofs.NamedLaws.{flags-free}
@@ -73,6 +74,11 @@ pub record ReadAlike (before after : List ℕ) (h : Heap) : Type 0 where
   pub chain : shape after (h .bytes) ≡ shape before (h .bytes)
   pub lists : (i : ℕ) → binList after h i ≡ binList before h i
   pub passes : Passes after h
+
+-- a call begins on them with the same draft
+pub alike-read : {before after : List ℕ} {h : Heap} → ReadAlike before after h → asRead after h ≡ asRead before h
+unfolding asRead
+alike-read r = rw (r .chain, fun-ext (r .lists))
 
 -- stores ss into the live block of the chunk e
 module _ {ws : List ℕ} {h : Heap} (p : Passes ws h) {e : Entry} (m : Mem e (shape ws (h .bytes))) (l : live h e ≡ true)

@@ -26,7 +26,7 @@ use Rattle.rules.specs.Shape.{Entry, shape}
 use Rattle.rules.specs.Kinds.{live, overhead, blockOf, blockWords}
 use Rattle.rules.specs.Check.{Passes}
 use Rattle.rules.specs.Draft.{asRead, alsoWrites}
-use Rattle.rules.specs.Serve.{need}
+use Rattle.rules.specs.Serve.{need, permitted}
 use Rattle.rules.specs.Cut.{Grant}
 use Rattle.rules.specs.Outcome.{Outcome, Refusals, judged, heapFails, unchanged, made, grants, changeOf}
 use Rattle.rules.specs.Allocate.{grant, asFound, cleared, allocateWith, allocate, allocateCleared, allocateRefusals}
@@ -136,6 +136,10 @@ module _ {ws : List ℕ} {h : Heap} (p : Passes ws h) {b : ℕ} {e : Entry} (k :
 
     resize-taken : Failed tests × (judged h tests outcome ≡ outcome)
     resize-taken = accepted h outcome tests (sym (ap (λ (x : Left). x .answer) resize-left) ∙ q)
+
+    -- the size was permitted
+    pub size-permitted : permitted z ≡ true
+    size-permitted = let (_, (size, _)) = resize-taken .0 in not-false (permitted z) size
 
     pub resized-left : ours (Reallocate b z) ws h ≡ leftBy ws outcome
     resized-left = resize-left ∙ ap (leftBy ws) (resize-taken .1)

@@ -92,7 +92,7 @@ module _ {ws : List ℕ} {h : Heap} {n : ℕ} (room : Grantable ws h n) where
         go (inr q) = above-block new ss w _ (omega arith)
 
     -- so every live block is kept
-    keeps-all : (e : Entry) → OnChain ws h e → live h e ≡ true → Keeps ws filledWords grantedHeap e
+    pub keeps-all : (e : Entry) → OnChain ws h e → live h e ≡ true → Keeps ws filledWords grantedHeap e
     keeps-all e m l =
         record {
           held = record { member = rw sameChain (granting.old-there room e m l); live = live-stays room e m l .1; block = refl };

@@ -30,6 +30,7 @@ pub mod ChoiceLaws
 pub mod BestFitLaws
 pub mod SplittingLaws
 pub mod AsFoundLaws
+pub mod MovesLaws
 pub mod OrderLaws
 pub mod FreedTwiceLaws
 pub mod RunsLaws
@@ -53,4 +54,5 @@ pub mod WrongAnswersLaws
 pub mod WrongFieldsLaws
 pub mod WrongCoalescingLaws
 pub mod WrongPlacesLaws
+pub mod WrongMovesLaws
 pub mod SignLaws
