@@ -10,6 +10,9 @@ use Rattle.promises.specs.Apart.{Apart}
 use Rattle.promises.specs.Refusing.{Refusing}
 use Rattle.promises.specs.Kept.{Passing, Kept}
 use Rattle.promises.specs.Order.{Order}
+use Rattle.promises.specs.Splitting.{Splitting}
+use Rattle.promises.specs.AsFound.{AsFound}
+use Rattle.promises.specs.Moves.{Moves}
 use Rattle.promises.specs.Runs.{Step, Calls, Writes, afterStep, MayStep, IsRun, Along, Begins, ThroughRuns, Runs}
 use Rattle.promises.proofs.KeptLaws.{kept}
 use Rattle.promises.proofs.RefusingLaws.{refusing}
@@ -18,6 +21,9 @@ use Rattle.promises.proofs.ApartLaws.{apart}
 use Rattle.promises.proofs.ChoiceLaws.{choice}
 use Rattle.promises.proofs.BestFitLaws.{best-fit}
 use Rattle.promises.proofs.OrderLaws.{order}
+use Rattle.promises.proofs.SplittingLaws.{splitting}
+use Rattle.promises.proofs.AsFoundLaws.{as-found}
+use Rattle.promises.proofs.MovesLaws.{moves}
 
 module _ (way : Way) (keeps : Kept way) where
   step-keeps : (x : Step) (s : State) → MayStep x s → Passing s → Passing (afterStep way x s)
@@ -38,8 +44,9 @@ module _ (way : Way) (keeps : Kept way) where
     through s b xs r = along xs s r (begins-passing s b)
 
 -- the promises about single calls hold in each state
-pub keeping-running : (way : Way) → Kept way → Refusing way → Room way → Apart way → Choice way → BestFit way → Order way → Runs way
-keeping-running way keeps refuses room apart choice fit order =
+pub keeping-running : (way : Way) → Kept way → Refusing way → Room way → Apart way → Choice way → BestFit way → Order way → Splitting way → AsFound way → Moves way
+    → Runs way
+keeping-running way keeps refuses room apart choice fit order splitting found moves =
     record {
       passes = through way keeps _ (λ s p. p);
       refused = through way keeps _ (λ s p call r. refuses .exactly call (s .words) (s .heap) r);
@@ -48,7 +55,10 @@ keeping-running way keeps refuses room apart choice fit order =
       choice = through way keeps _ (λ s p. choice (s .words) (s .heap) p);
       bestFit = through way keeps _ (λ s p. fit (s .words) (s .heap) p);
       order = through way keeps _ order;
+      splitting = through way keeps _ (λ s p. splitting (s .words) (s .heap) p);
+      asFound = through way keeps _ (λ s p. found (s .words) (s .heap) p);
+      moves = through way keeps _ (λ s p. moves (s .words) (s .heap) p);
     }
 
 pub runs : Runs ours
-runs = keeping-running ours kept refusing room apart choice best-fit order
+runs = keeping-running ours kept refusing room apart choice best-fit order splitting as-found moves

@@ -17,6 +17,9 @@ use Rattle.promises.specs.Apart.{ApartAt}
 use Rattle.promises.specs.Refusing.{First}
 use Rattle.promises.specs.Kept.{Passing, Accepted, after, OnLiveBlocks, afterStores}
 use Rattle.promises.specs.Order.{OrderAt}
+use Rattle.promises.specs.Splitting.{SplittingAt}
+use Rattle.promises.specs.AsFound.{AsFoundAt}
+use Rattle.promises.specs.Moves.{MovesAt}
 
 -- a step of a run: a call, or writes by the owners of blocks between two calls
 pub data Step : Type 0 where
@@ -74,3 +77,9 @@ pub record Runs (way : Way) : Type 0 where
   pub bestFit : ThroughRuns way (λ s. BestFitAt way (s .words) (s .heap))
   -- the lists of the bins are in order of size (`Order`)
   pub order : ThroughRuns way (OrderAt way)
+  -- a call grants no more than is needed (`Splitting`)
+  pub splitting : ThroughRuns way (λ s. SplittingAt way (s .words) (s .heap))
+  -- a granted block's words are as they were found (`AsFound`)
+  pub asFound : ThroughRuns way (λ s. AsFoundAt way (s .words) (s .heap))
+  -- a block that outgrows its chunk moves as an allocate and then a free do it (`Moves`)
+  pub moves : ThroughRuns way (λ s. MovesAt way (s .words) (s .heap))
