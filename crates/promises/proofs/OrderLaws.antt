@@ -155,7 +155,7 @@ module _ (ws : List ℕ) (h : Heap) (p : Passes ws h) (i : ℕ) (l : i < h .bins
           rw (before-iff c (y .place) row .1 through) (omega arith)
       go false q = omega arith
 
-  -- nothing in another bin is
+  -- nothing in another bin stands behind c
   none-beyond : (j : ℕ) → j < h .bins → j ≢ i → (e : Entry) → Mem (e .place) (binList ws h j) → beyond e ≡ 0
   none-beyond j k other e m =
       rw (not-so (before-iff c (e .place) row) (λ b. lists-apart ws h p j i k l other (e .place) m (before-members c (e .place) row b .1))) refl

@@ -1,5 +1,5 @@
--- Each of the four wrong ways of putting a chunk into its bin, and one that turns a bin's list, breaks the promise `Order`, shown on heaps of the demonstration's setup with merging
--- off: bins of 24, 32, 40 and 128, so that bins 0 and 1 are the small array. Assumes nothing.
+-- Each of the four wrong ways of putting a chunk into its bin, and one that turns a bin's list, breaks the promise `Order`, shown on heaps of the
+-- demonstration's setup with merging off: bins of 24, 32, 40 and 128, so that bins 0 and 1 are the small array. Assumes nothing.
 use mathlib.Core.Path.{_≡_, refl, sym, _∙_}
 use mathlib.Core.Bool.{true, false, _&&_, false≢true}
 use mathlib.Core.List.{[], _∷_}
