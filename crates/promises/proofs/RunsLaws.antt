@@ -12,6 +12,7 @@ use Rattle.promises.specs.Kept.{Passing, Kept}
 use Rattle.promises.specs.Order.{Order}
 use Rattle.promises.specs.Splitting.{Splitting}
 use Rattle.promises.specs.AsFound.{AsFound}
+use Rattle.promises.specs.Coalescing.{Coalescing}
 use Rattle.promises.specs.Moves.{Moves}
 use Rattle.promises.specs.Runs.{Step, Calls, Writes, afterStep, MayStep, IsRun, Along, Begins, ThroughRuns, Runs}
 use Rattle.promises.proofs.KeptLaws.{kept}
@@ -23,6 +24,7 @@ use Rattle.promises.proofs.BestFitLaws.{best-fit}
 use Rattle.promises.proofs.OrderLaws.{order}
 use Rattle.promises.proofs.SplittingLaws.{splitting}
 use Rattle.promises.proofs.AsFoundLaws.{as-found}
+use Rattle.promises.proofs.CoalescingLaws.{coalescing}
 use Rattle.promises.proofs.MovesLaws.{moves}
 
 module _ (way : Way) (keeps : Kept way) where
@@ -44,9 +46,9 @@ module _ (way : Way) (keeps : Kept way) where
     through s b xs r = along xs s r (begins-passing s b)
 
 -- the promises about single calls hold in each state
-pub keeping-running : (way : Way) → Kept way → Refusing way → Room way → Apart way → Choice way → BestFit way → Order way → Splitting way → AsFound way → Moves way
-    → Runs way
-keeping-running way keeps refuses room apart choice fit order splitting found moves =
+pub keeping-running : (way : Way) → Kept way → Refusing way → Room way → Apart way → Choice way → BestFit way → Order way → Splitting way → AsFound way
+    → Coalescing way → Moves way → Runs way
+keeping-running way keeps refuses room apart choice fit order splitting found coalescing moves =
     record {
       passes = through way keeps _ (λ s p. p);
       refused = through way keeps _ (λ s p call r. refuses .exactly call (s .words) (s .heap) r);
@@ -57,8 +59,9 @@ keeping-running way keeps refuses room apart choice fit order splitting found mo
       order = through way keeps _ order;
       splitting = through way keeps _ (λ s p. splitting (s .words) (s .heap) p);
       asFound = through way keeps _ (λ s p. found (s .words) (s .heap) p);
+      coalescing = through way keeps _ (λ s p. coalescing (s .words) (s .heap) p);
       moves = through way keeps _ (λ s p. moves (s .words) (s .heap) p);
     }
 
 pub runs : Runs ours
-runs = keeping-running ours kept refusing room apart choice best-fit order splitting as-found moves
+runs = keeping-running ours kept refusing room apart choice best-fit order splitting as-found coalescing moves

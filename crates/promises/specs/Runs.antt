@@ -19,6 +19,7 @@ use Rattle.promises.specs.Kept.{Passing, Accepted, after, OnLiveBlocks, 
 use Rattle.promises.specs.Order.{OrderAt}
 use Rattle.promises.specs.Splitting.{SplittingAt}
 use Rattle.promises.specs.AsFound.{AsFoundAt}
+use Rattle.promises.specs.Coalescing.{CoalescingAt}
 use Rattle.promises.specs.Moves.{MovesAt}
 
 -- a step of a run: a call, or writes by the owners of blocks between two calls
@@ -81,5 +82,7 @@ pub record Runs (way : Way) : Type 0 where
   pub splitting : ThroughRuns way (λ s. SplittingAt way (s .words) (s .heap))
   -- a granted block's words are as they were found (`AsFound`)
   pub asFound : ThroughRuns way (λ s. AsFoundAt way (s .words) (s .heap))
+  -- what joins when a chunk is given back (`Coalescing`)
+  pub coalescing : ThroughRuns way (λ s. CoalescingAt way (s .words) (s .heap))
   -- a block that outgrows its chunk moves as an allocate and then a free do it (`Moves`)
   pub moves : ThroughRuns way (λ s. MovesAt way (s .words) (s .heap))
