@@ -1,31 +1,29 @@
 -- The rules keep the promise `Balanced` (`balanced`): the change that a call answers is the difference of the record's used bytes. A refused call, and
 -- one that grants and frees nothing, answers 0 and leaves them. Assumes nothing.
 use mathlib.Core.Path.{_≡_, refl, sym, ap, _∙_}
-use mathlib.Core.Bool.{Bool, true, false, not, cond, _&&_, true≢false}
+use mathlib.Core.Bool.{Bool, true, false, cond, true≢false}
 use mathlib.Core.List.{List, [], _∷_, _++_}
 use mathlib.Core.Option.{Option, some, none}
-use Prim.Native.Nat.{ℕ, _+_, _*_, _-_, _≤_}
+use Prim.Native.Nat.{ℕ, _+_, _-_, _≤_}
 use native.Mathlib.Omega.{arith}
-use lib.Dec.{eqb, ltb}
+use lib.Dec.{ltb}
 use lib.IntN.{ℤ, pos, negℤ, _+ℤ_, _-ℤ_, +ℤ-assoc, +ℤ-comm, +ℤ-negℤ-cancel, pos-+ℤ-pos}
 use lib.ListN.{getD}
-use borrow.Author.Tests.{lt-ltb, not-false}
 use Rattle.record.specs.declared.answers.Answer.the-variants.{Done, Counted, Refused}
 use Rattle.record.specs.declared.answers.Refusal.the-variants.{HeapFails}
 use Rattle.record.specs.declared.heap.Heap.{Heap}
 use Rattle.record.specs.Answers.{figuresOf}
 use Rattle.record.specs.Heap.{withMerge}
-use Rattle.region.specs.Words.{Store, put, forward}
+use Rattle.region.specs.Words.{put, forward}
 use Rattle.rules.specs.Shape.{Entry, entry, shape, chunkEnd}
 use Rattle.rules.specs.Kinds.{used, overhead, blockOf}
 use Rattle.rules.specs.Check.{Passes, passes, countsOf}
 use Rattle.rules.specs.Draft.{Draft, Spot, asRead, alsoWrites}
-use Rattle.rules.specs.Serve.{need, nowhere}
-use Rattle.rules.specs.Cut.{Grant}
-use Rattle.rules.specs.Outcome.{Outcome, Refusals, judged, heapFails, unchanged, made, changeOf, grants}
-use Rattle.rules.specs.Allocate.{sourceOf, grant, asFound, cleared, allocateWith, allocate, allocateCleared, allocateRefusals, allocated}
-use Rattle.rules.specs.Free.{isLive, blockSpot, freeBlock, free, freeRefusals, freed}
-use Rattle.rules.specs.Reallocate.{shrunk, resized, resize, reallocate, resizeRefusals, resizedTo}
+use Rattle.rules.specs.Serve.{need}
+use Rattle.rules.specs.Outcome.{Outcome, Refusals, judged, heapFails, unchanged, changeOf, grants}
+use Rattle.rules.specs.Allocate.{sourceOf, grant}
+use Rattle.rules.specs.Free.{isLive, blockSpot, freeBlock}
+use Rattle.rules.specs.Reallocate.{shrunk}
 use Rattle.rules.specs.Merge.{setMerge, checked, check}
 use Rattle.rules.specs.Ask.{told, askChunk, askBin, chunkAnswers, askedSpot, isThere, binAnswers, askRefusals, asked}
 use Rattle.rules.specs.Patrol.{Patrolled, patrolRun, patrolRefusals, ran, patrol}
@@ -34,14 +32,13 @@ use Rattle.rules.proofs.OutcomeLaws.{Failed, judged-so}
 use Rattle.drafts.proofs.StepLaws.{released-used, granted-used}
 use Rattle.drafts.proofs.BlockLaws.{live-chunk}
 use Rattle.drafts.proofs.ReleaseKept.{own-among-used}
-use Rattle.drafts.proofs.WantedLaws.{block-moves}
 use Rattle.drafts.proofs.MovedLaws.{Moving, to, copiedOver, copiedWords, copiedHeap, copied-passes, still-there, old-live, still-live, moved-reread}
 use Rattle.promises.specs.Ways.{ours}
 use Rattle.promises.specs.Room.{HoldsBlock}
 use Rattle.promises.specs.Refusing.{isSetup}
 use Rattle.promises.specs.Balanced.{Balanced}
-use Rattle.promises.proofs.ReasonLaws.{not-failing, one-block, here-holds}
-use Rattle.promises.proofs.ResizedLaws.{resized-so}
+use Rattle.promises.proofs.EachOutcomeLaws.{EachOutcome, spotOf, allocate-so, cleared-so, free-so, reallocate-so}
+use Rattle.promises.proofs.ReasonLaws.{one-block, here-holds}
 
 -- two changes are equal if what one adds the other adds too
 same-change : (before after was now : ℕ) → after + was ≡ now + before → changeOf before after ≡ changeOf was now
@@ -67,15 +64,6 @@ Balances h o = figuresOf (o .answer) .change ≡ changeOf (h .used) (o .heap .us
 -- a refusal changes nothing
 judged-balances : (h : Heap) (o : Outcome) (ts : Refusals) → (Failed ts → Balances h o) → Balances h (judged h ts o)
 judged-balances h o ts = judged-so (Balances h) h o ts (λ r. no-change (h .used))
-
--- a block is granted; `fill` is written into it
-granted-balances : (fill : Entry → List Store) (ws : List ℕ) (h : Heap) (z : ℕ) → Balances h (allocateWith fill ws h z)
-unfolding asRead
-granted-balances fill ws h z =
-    let n = need overhead z in
-    let u = granted-used (sourceOf n (asRead ws h)) n (asRead ws h) in
-    judged-balances h (allocated fill (asRead ws h) z) (allocateRefusals (heapFails ws h) (asRead ws h) z)
-    (λ _. same-change 0 (grant n (asRead ws h) .granted .size) (h .used) (grant n (asRead ws h) .draft .heap .used) (omega arith))
 
 -- the live block at b
 module _ (ws : List ℕ) (h : Heap) (p : Passes ws h) (b : ℕ) (l : isLive (asRead ws h) b ≡ true) where
@@ -132,68 +120,32 @@ module _ {ws : List ℕ} {h : Heap} {n : ℕ} {e : Entry} (moves : Moving ws h n
       let u = granted-used (sourceOf n (asRead ws h)) n (asRead ws h) in
       omega arith
 
--- the live block at b is to have z bytes
-module _ (ws : List ℕ) (h : Heap) (p : Passes ws h) (b : ℕ) (l : isLive (asRead ws h) b ≡ true) (z : ℕ) where
-  abbrev n : ℕ
-  n = need overhead z
-
-  abbrev here : Entry
-  here = blockSpot (asRead ws h) b .here
-
-  abbrev Result : Grant → Type 0
-  Result x = Balances h (made (grants (here .size) (x .granted)) (x .draft))
-
-  -- the rule's three cases
-  resized-balances : (ltb (here .size) n && nowhere (sourceOf n (asRead ws h))) ≡ false
-      → Result (resized ws (blockSpot (asRead ws h) b) n (asRead ws h))
-  unfolding asRead
-  resized-balances q =
-      resized-so Result ws (blockSpot (asRead ws h) b) n (asRead ws h)
-      (λ less.
-      let moves = block-moves p b l z (rw (lt-ltb (here .size) n less) at q) less in
-      same-change (here .size) (to moves .size) (h .used) _ (let m = moved-used moves in omega arith))
-      (λ spare. same-change (here .size) n (h .used) _ (let s = shrunk-used ws h p b l n in omega arith))
-      (same-change (here .size) (here .size) (h .used) (h .used) (omega arith))
-
 -- an answer that tells a value, or none
 told-no-change : (v : Option ℕ) → figuresOf (told v) .change ≡ pos 0
 told-no-change none = refl
 told-no-change (some v) = refl
 
 module _ (ws : List ℕ) (h : Heap) where
-  allocate-balances : (z : ℕ) → Balances h (allocate ws h z)
-  unfolding allocate
-  allocate-balances = granted-balances asFound ws h
-
-  cleared-balances : (count size : ℕ) → Balances h (allocateCleared ws h count size)
-  unfolding allocateCleared
-  cleared-balances count size = granted-balances cleared ws h (count * size)
-
-  free-balances : (b : ℕ) → Balances h (free ws h b)
-  unfolding free asRead
-  free-balances b =
-      judged-balances h (freed (asRead ws h) b) (freeRefusals (heapFails ws h) (asRead ws h) b) (λ (k, (q, _)). go (not-failing ws h k) (eqb b 0) q)
-    where
-      go : Passes ws h → (t : Bool) → (not t && not (isLive (asRead ws h) b)) ≡ false
-          → changeOf (cond t 0 (blockSpot (asRead ws h) b .here .size)) 0 ≡ changeOf (h .used) (cond t (asRead ws h) (freeBlock b (asRead ws h)) .heap .used)
-      go p true q = no-change (h .used)
-      go p false q =
-          let f = freed-used ws h p b (not-false (isLive (asRead ws h) b) q) in
-          same-change (blockSpot (asRead ws h) b .here .size) 0 (h .used) (freeBlock b (asRead ws h) .heap .used) (omega arith)
-
-  resize-balances : (b z : ℕ) → Balances h (resize ws h b z)
-  unfolding resize
-  resize-balances b z =
-      judged-balances h (resizedTo ws (asRead ws h) b z) (resizeRefusals (heapFails ws h) (asRead ws h) b z)
-      (λ (k, (_, (live, (room, _)))). resized-balances ws h (not-failing ws h k) b (not-false (isLive (asRead ws h) b) live) z room)
-
-  reallocate-balances : (b z : ℕ) → Balances h (reallocate ws h b z)
-  unfolding reallocate
-  reallocate-balances b z = go (eqb b 0)
-    where
-      go : (t : Bool) → Balances h (cond t (allocate ws h z) (resize ws h b z))
-      go true = allocate-balances z
-      go false = resize-balances b z
+  -- a block is granted, freed or resized
+  each-balances : EachOutcome ws h (Balances h)
+  unfolding asRead
+  each-balances =
+      record {
+        refuses = λ r. no-change (h .used);
+        grants = λ fill within z room.
+            let n = need overhead z in
+            let u = granted-used (sourceOf n (asRead ws h)) n (asRead ws h) in
+            same-change 0 (grant n (asRead ws h) .granted .size) (h .used) (grant n (asRead ws h) .draft .heap .used) (omega arith);
+        freesNone = no-change (h .used);
+        frees = λ b p l.
+            let f = freed-used ws h p b l in
+            same-change (spotOf ws h b .here .size) 0 (h .used) (freeBlock b (asRead ws h) .heap .used) (omega arith);
+        moves = λ b z moves. same-change (spotOf ws h b .here .size) (to moves .size) (h .used) _ (let m = moved-used moves in omega arith);
+        shrinks = λ b z shrinks.
+            let n = need overhead z in
+            same-change (spotOf ws h b .here .size) n (h .used) _ (let s = shrunk-used ws h (shrinks .well) b (shrinks .live) n in omega arith);
+        stays = λ b _. same-change (spotOf ws h b .here .size) (spotOf ws h b .here .size) (h .used) (h .used) (omega arith);
+      }
 
   merge-balances : (on : Bool) → Balances h (setMerge ws h on)
   unfolding setMerge
@@ -224,10 +176,10 @@ module _ (ws : List ℕ) (h : Heap) where
   step-balances : (call : Call) → isSetup call ≡ false → Balances h (step call ws h)
   unfolding step askChunk askBin
   step-balances (Setup table donor merge) q = absurd (true≢false q)
-  step-balances (Allocate z) q = allocate-balances z
-  step-balances (AllocateCleared count size) q = cleared-balances count size
-  step-balances (Free b) q = free-balances b
-  step-balances (Reallocate b z) q = reallocate-balances b z
+  step-balances (Allocate z) q = allocate-so ws h each-balances z
+  step-balances (AllocateCleared count size) q = cleared-so ws h each-balances count size
+  step-balances (Free b) q = free-so ws h each-balances b
+  step-balances (Reallocate b z) q = reallocate-so ws h each-balances b z
   step-balances (SetMerge on) q = merge-balances on
   step-balances Check q = check-balances
   step-balances (AskChunk question place) q =

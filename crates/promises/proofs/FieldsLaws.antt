@@ -3,30 +3,28 @@
 -- Assumes nothing.
 use mathlib.Core.Path.{_≡_, refl, sym, ap, subst, _∙_}
 use mathlib.Core.Logic.{inl, inr}
-use mathlib.Core.Bool.{Bool, true, false, not, cond, _&&_, true≢false}
+use mathlib.Core.Bool.{Bool, true, false, true≢false}
 use mathlib.Core.List.{List, [], _∷_, List·Memᴰ·head}
 use mathlib.Core.Option.{Option, some, none}
-use Prim.Native.Nat.{ℕ, _*_, _≤_, _<_}
+use Prim.Native.Nat.{ℕ, _≤_, _<_}
 use native.Mathlib.Decide.{decLt}
 use native.Mathlib.Omega.{arith}
-use lib.Dec.{eqb}
-use borrow.Author.Tests.{lt-ltb, not-false}
 use Rattle.lists.proofs.SplitLaws.{middle-in}
 use Rattle.record.specs.declared.answers.Answer.{Answer}
-use Rattle.record.specs.declared.answers.Answer.the-variants.{Done, Told, Refused}
+use Rattle.record.specs.declared.answers.Answer.the-variants.{Done, Returned, Told, Refused}
 use Rattle.record.specs.declared.heap.Heap.{Heap}
 use Rattle.record.specs.Heap.{withMerge}
-use Rattle.region.specs.Words.{Store, written}
+use Rattle.region.specs.Words.{written}
 use Rattle.rules.specs.Shape.{Entry, chunkEnd}
 use Rattle.rules.specs.Kinds.{overhead, blockOf}
 use Rattle.rules.specs.Check.{Passes}
-use Rattle.rules.specs.Draft.{Draft, Spot, asRead, nowUses}
+use Rattle.rules.specs.Draft.{Draft, asRead, nowUses}
 use Rattle.rules.specs.Serve.{need}
 use Rattle.rules.specs.Join.{joining, movedDown, release}
-use Rattle.rules.specs.Outcome.{Outcome, Refusals, judged, heapFails, unchanged, made}
-use Rattle.rules.specs.Allocate.{sourceOf, grant, asFound, cleared, allocateWith, allocate, allocateCleared, allocateRefusals, allocated}
-use Rattle.rules.specs.Free.{isLive, blockSpot, freeBlock, free, freeRefusals, freed}
-use Rattle.rules.specs.Reallocate.{shrunk, resized, resize, reallocate, resizeRefusals, resizedTo}
+use Rattle.rules.specs.Outcome.{Outcome, Refusals, judged, heapFails, unchanged, changeOf}
+use Rattle.rules.specs.Allocate.{sourceOf, grant}
+use Rattle.rules.specs.Free.{isLive, blockSpot, freeBlock}
+use Rattle.rules.specs.Reallocate.{shrunk}
 use Rattle.rules.specs.Merge.{setMerge, checked, check}
 use Rattle.rules.specs.Ask.{askChunk, askBin}
 use Rattle.rules.specs.Patrol.{Patrolled, patrolRun, patrolRefusals, ran, patrol}
@@ -36,37 +34,28 @@ use Rattle.rules.proofs.SpotLaws.{inside, one-around}
 use Rattle.drafts.proofs.StepLaws.{Frame, Rest, restOf, released-chain, released-rest, granted-rest}
 use Rattle.drafts.proofs.PictureLaws.{Pictured}
 use Rattle.drafts.proofs.JoinLaws.{inside-moves, outside-stays}
-use Rattle.drafts.proofs.FillLaws.{Within}
-use Rattle.drafts.proofs.SourceLaws.{need-grantable}
 use Rattle.drafts.proofs.GrantedChunk.{granted-filled}
 use Rattle.drafts.proofs.ReleaseKept.{free-kept}
 use Rattle.drafts.proofs.ShrinkKept.{ShrinkingBlock, shrink-kept}
 use Rattle.drafts.proofs.MovedLaws.{Moving, copiedOver, copiedWords, copiedHeap, copied-passes, still-live, moved-reread, moved-words}
-use Rattle.drafts.proofs.WantedLaws.{block-moves, block-shrinks}
 use Rattle.promises.specs.Ways.{ours}
 use Rattle.promises.specs.Room.{OnChain}
 use Rattle.promises.specs.Refusing.{isSetup}
 use Rattle.promises.specs.Fields.{setsMerging, movesPatrol, Fields}
+use Rattle.promises.proofs.EachOutcomeLaws.{EachOutcome, spotOf, allocate-so, cleared-so, free-so, reallocate-so}
 use Rattle.promises.proofs.JudgedLaws.{unchanged-judged}
-use Rattle.promises.proofs.ResizedLaws.{resized-so}
-use Rattle.promises.proofs.GrantedLaws.{cleared-within}
 
 -- heap bytes, table and merge setting of the record `after` are those of h
 abbrev SameFrame : Heap → Heap → Type 0
 SameFrame h after = restOf after .frame ≡ restOf h .frame
 
--- a block is granted, freed or resized, on any draft
+-- a block is granted, or freed, on any draft
 granted-frame : (n : ℕ) (d : Draft) → SameFrame (d .heap) (grant n d .draft .heap)
 granted-frame n d = ap (λ (r : Rest). r .frame) (granted-rest (sourceOf n d) n d)
 
 freed-frame : (b : ℕ) (d : Draft) → SameFrame (d .heap) (freeBlock b d .heap)
 unfolding freeBlock
 freed-frame b d = let s = blockSpot d b in ap (λ (r : Rest). r .frame) (released-rest (s .low) (s .here) (s .high) d)
-
-resized-frame : (ws : List ℕ) (s : Spot) (n : ℕ) (d : Draft) → SameFrame (d .heap) (resized ws s n d .draft .heap)
-resized-frame ws s n d =
-    resized-so (λ x. SameFrame (d .heap) (x .draft .heap)) ws s n d (λ _. freed-frame (blockOf (s .here)) _ ∙ granted-frame n d)
-    (λ _. ap (λ (r : Rest). r .frame) (released-rest _ _ (s .high) _)) refl
 
 -- the patrol's place is that of the chunk in which c lies
 abbrev Watches : List ℕ → Heap → ℕ → Type 0
@@ -147,59 +136,28 @@ module _ (ws : List ℕ) (h : Heap) where
   judged-keeps : (o : Outcome) (ts : Refusals) → (Failed ts → Keeps ws h o) → Keeps ws h (judged h ts o)
   judged-keeps o ts = judged-so (Keeps ws h) h o ts (λ r. unchanged-keeps (Refused r))
 
-  -- a block is granted, and `fill` written into it
-  with-keeps : (fill : Entry → List Store) → ((e : Entry) → Within e (fill e)) → (z : ℕ) → Keeps ws h (allocateWith fill ws h z)
+  -- a block is granted, freed or resized
+  each-keeps : EachOutcome ws h (Keeps ws h)
   unfolding asRead
-  with-keeps fill within z =
-      let n = need overhead z in
-      let e = grant n before .granted in
-      judged-keeps (allocated fill before z) (allocateRefusals (heapFails ws h) before z)
-      (λ (_, (_, (room, _))).
+  each-keeps =
       record {
-        frame = granted-frame n before;
-        place = λ p. stays-there (granted-filled (need-grantable z p room) (fill e) (within e) .passes) (granted-place n before);
-      })
-
-  allocate-keeps : (z : ℕ) → Keeps ws h (allocate ws h z)
-  unfolding allocate
-  allocate-keeps = with-keeps asFound (λ e. tt)
-
-  cleared-keeps : (count size : ℕ) → Keeps ws h (allocateCleared ws h count size)
-  unfolding allocateCleared
-  cleared-keeps count size = with-keeps cleared cleared-within (count * size)
-
-  free-keeps : (b : ℕ) → Keeps ws h (free ws h b)
-  unfolding free asRead
-  free-keeps b = judged-keeps (freed before b) (freeRefusals (heapFails ws h) before b) (λ (_, (l, _)). go (freed before b .answer) (eqb b 0) l)
-    where
-      go : (a : Answer) (t : Bool) → (not t && not (isLive before b)) ≡ false → Keeps ws h (made a (cond t before (freeBlock b before)))
-      go a true l = unchanged-keeps a
-      go a false l = record { frame = freed-frame b before; place = λ p. freed-watches ws h p b (not-false (isLive before b) l) }
-
-  -- the live block at b is to have z bytes
-  resize-keeps : (b z : ℕ) → Keeps ws h (resize ws h b z)
-  unfolding resize asRead
-  resize-keeps b z =
-      let s = blockSpot before b in
-      let n = need overhead z in
-      judged-keeps (resizedTo ws before b z) (resizeRefusals (heapFails ws h) before b z)
-      (λ (_, (_, (l, (room, _)))).
-      let live = not-false (isLive before b) l in
-      record {
-        frame = resized-frame ws s n before;
-        place = λ p.
-            resized-so (λ x. WatchesAfter ws (x .draft) (h .patrol .0)) ws s n before
-            (λ less. moved-watches (block-moves p b live z (rw (lt-ltb (s .here .size) n less) at room) less))
-            (λ spare. shrunk-watches (block-shrinks p b live z spare)) (stays-there p refl);
-      })
-
-  reallocate-keeps : (b z : ℕ) → Keeps ws h (reallocate ws h b z)
-  unfolding reallocate
-  reallocate-keeps b z = go (eqb b 0)
-    where
-      go : (t : Bool) → Keeps ws h (cond t (allocate ws h z) (resize ws h b z))
-      go true = allocate-keeps z
-      go false = resize-keeps b z
+        refuses = λ r. unchanged-keeps (Refused r);
+        grants = λ fill within z room.
+            let e = grant (need overhead z) before .granted in
+            record {
+              frame = granted-frame (need overhead z) before;
+              place = λ _. stays-there (granted-filled room (fill e) (within e) .passes) (granted-place (need overhead z) before);
+            };
+        freesNone = unchanged-keeps (Returned (changeOf 0 0));
+        frees = λ b p l. record { frame = freed-frame b before; place = λ _. freed-watches ws h p b l };
+        moves = λ b z moves.
+            record {
+              frame = freed-frame (blockOf (spotOf ws h b .here)) (copiedOver moves) ∙ granted-frame (need overhead z) before;
+              place = λ _. moved-watches moves;
+            };
+        shrinks = λ b z shrinks. record { frame = ap (λ (r : Rest). r .frame) (released-rest _ _ (spotOf ws h b .high) _); place = λ _. shrunk-watches shrinks };
+        stays = λ b p. record { frame = refl; place = λ _. stays-there p refl };
+      }
 
 -- what the promise says of a call with the outcome o
 record Leaves (call : Call) (ws : List ℕ) (h : Heap) (o : Outcome) : Type 0 where
@@ -251,10 +209,10 @@ module _ (ws : List ℕ) (h : Heap) where
         merge = λ q. absurd (true≢false q);
         patrol = λ q. absurd (true≢false q);
       }
-  step-leaves (Allocate z) = all-left (Allocate z) (allocate-keeps ws h z)
-  step-leaves (AllocateCleared count size) = all-left (AllocateCleared count size) (cleared-keeps ws h count size)
-  step-leaves (Free b) = all-left (Free b) (free-keeps ws h b)
-  step-leaves (Reallocate b z) = all-left (Reallocate b z) (reallocate-keeps ws h b z)
+  step-leaves (Allocate z) = all-left (Allocate z) (allocate-so ws h (each-keeps ws h) z)
+  step-leaves (AllocateCleared count size) = all-left (AllocateCleared count size) (cleared-so ws h (each-keeps ws h) count size)
+  step-leaves (Free b) = all-left (Free b) (free-so ws h (each-keeps ws h) b)
+  step-leaves (Reallocate b z) = all-left (Reallocate b z) (reallocate-so ws h (each-keeps ws h) b z)
   step-leaves (SetMerge on) = setting-leaves on
   step-leaves Check = all-left Check (unchanged-keeps ws h (checked ws h))
   step-leaves (AskChunk q c) = all-left (AskChunk q c) (rw (unchanged-judged h _ _) (unchanged-keeps ws h _))

@@ -1,14 +1,13 @@
 -- The check is an invariant (`kept`): an accepted setup makes a heap that passes, and every call and every write inside a live block
 -- leaves one that passes. So a block that a call grants has one chunk (`of-its-chunk`). Assumes nothing.
 use mathlib.Core.Path.{_≡_, refl, _∙_}
-use mathlib.Core.Bool.{Bool, true, false, not, cond, _&&_}
+use mathlib.Core.Bool.{Bool}
 use mathlib.Core.List.{List, [], _∷_}
-use Prim.Native.Nat.{ℕ, _*_, _<_}
-use lib.Dec.{eqb, ltb}
+use Prim.Native.Nat.{ℕ}
+use lib.Dec.{ltb}
 use lib.IntN.{ℤ}
 use lib.ListN.{length}
-use borrow.Author.Tests.{lt-ltb, not-false}
-use Rattle.drafts.proofs.SourceLaws.{need-grantable}
+use Rattle.drafts.proofs.GrantKept.{theGrant}
 use Rattle.drafts.proofs.GrantedChunk.{granted-filled}
 use Rattle.lists.specs.Lists.{Mem}
 use Rattle.record.specs.declared.answers.Answer.{Answer}
@@ -19,32 +18,26 @@ use Rattle.region.specs.declared.Block.{Block}
 use Rattle.region.specs.Words.{Store, written}
 use Rattle.drafts.proofs.ReleaseKept.{free-kept}
 use Rattle.drafts.proofs.ShrinkKept.{shrink-kept}
-use Rattle.drafts.proofs.WantedLaws.{block-moves, block-shrinks}
 use Rattle.drafts.proofs.MovedLaws.{copiedWords, copiedHeap, copied-passes, still-live, moved-reread, moved-words}
 use Rattle.rules.specs.Shape.{Entry, shape, heapBytes}
-use Rattle.rules.specs.Kinds.{overhead, blockOf}
+use Rattle.rules.specs.Kinds.{blockOf}
 use Rattle.rules.specs.Check.{Passes}
-use Rattle.rules.specs.Draft.{Draft, Spot, asRead}
-use Rattle.rules.specs.Serve.{need, nowhere}
+use Rattle.rules.specs.Draft.{Draft, asRead}
 use Rattle.rules.specs.Outcome.{Outcome, Refusals, judged, heapFails, unchanged}
 use Rattle.rules.specs.Setup.{setup, fresh, firstHeaders, setupRefusals, opened}
-use Rattle.rules.specs.Allocate.{sourceOf, grant, asFound, cleared, allocateWith, allocate, allocateCleared, allocateRefusals, allocated}
-use Rattle.rules.specs.Free.{isLive, blockSpot, freeBlock, free, freeRefusals, freed}
-use Rattle.rules.specs.Reallocate.{moved, resized, resize, reallocate, resizeRefusals, resizedTo}
 use Rattle.rules.specs.Merge.{setMerge, checked, check}
 use Rattle.rules.specs.Ask.{askChunk, askBin, chunkAnswers, askedSpot, isThere, binAnswers, answerTo, askRefusals, asked}
 use Rattle.rules.specs.Patrol.{patrol}
 use Rattle.rules.specs.Calls.{Call, Setup, Allocate, AllocateCleared, Free, Reallocate, SetMerge, Check, AskChunk, AskBin, Patrol, State, recordAfter, step}
 use Rattle.rules.proofs.OutcomeLaws.{Failed, judged-so}
 use Rattle.rules.proofs.PatrolSound.{patrol-so}
-use Rattle.drafts.proofs.FillLaws.{Within, written-inside}
+use Rattle.drafts.proofs.FillLaws.{written-inside}
 use Rattle.promises.specs.Ways.{ours}
 use Rattle.promises.specs.Room.{HoldsBlock}
 use Rattle.promises.specs.Kept.{Passing, Accepted, OnLiveBlocks, afterStores, Kept}
 use Rattle.promises.proofs.JudgedLaws.{accepted-made}
 use Rattle.promises.proofs.ReasonLaws.{one-block}
-use Rattle.promises.proofs.ResizedLaws.{resized-so}
-use Rattle.promises.proofs.GrantedLaws.{cleared-within}
+use Rattle.promises.proofs.EachOutcomeLaws.{EachOutcome, spotOf, allocate-so, cleared-so, free-so, reallocate-so}
 use Rattle.promises.proofs.FreshLaws.{fresh-passes, openable}
 
 -- the state that an outcome leaves for the next call
@@ -85,65 +78,21 @@ module _ (ws : List ℕ) (h : Heap) (p : Passes ws h) where
   judged-passes : (came : Heap) (o : Outcome) (ts : Refusals) → (Failed ts → Passing (stateLeft ws h o)) → Passing (stateLeft ws h (judged came ts o))
   judged-passes came o ts = judged-so (λ x. Passing (stateLeft ws h x)) came o ts (λ r. p)
 
-  -- the live block at b is to have z bytes: it moves; it is resized, by moving or not
-  module _ (b : ℕ) (l : isLive (asRead ws h) b ≡ true) (z : ℕ) where
-    abbrev at : Spot
-    at = blockSpot (asRead ws h) b
-
-    abbrev n : ℕ
-    n = need overhead z
-
-    moved-passes : nowhere (sourceOf n (asRead ws h)) ≡ false → at .here .size < n → PassesAfter ws (moved ws at n (asRead ws h) .draft)
-    moved-passes some less =
-        let moves = block-moves p b l z some less in
-        rw (moved-reread moves .0, moved-words moves)
-        (free-kept (copiedWords moves) (copiedHeap moves) (copied-passes moves) (blockOf (at .here)) (still-live moves) .passes)
-
-    resized-passes : (ltb (at .here .size) n && nowhere (sourceOf n (asRead ws h))) ≡ false → PassesAfter ws (resized ws at n (asRead ws h) .draft)
-    unfolding asRead
-    resized-passes q =
-        resized-so (λ x. PassesAfter ws (x .draft)) ws at n (asRead ws h)
-        (λ less. moved-passes (rw (lt-ltb (at .here .size) n less) at q) less)
-        (λ spare. shrink-kept (block-shrinks p b l z spare) .passes) p
-
-  -- a block is granted, and `fill` written into it
-  with-passes : (fill : Entry → List Store) → ((e : Entry) → Within e (fill e)) → (z : ℕ) → Passing (stateLeft ws h (allocateWith fill ws h z))
-  with-passes fill within z =
-      let e = grant (need overhead z) (asRead ws h) .granted in
-      judged-passes h (allocated fill (asRead ws h) z) (allocateRefusals (heapFails ws h) (asRead ws h) z)
-      (λ (_, (_, (some, _))). granted-filled (need-grantable z p some) (fill e) (within e) .passes)
-
-  allocate-passes : (z : ℕ) → Passing (stateLeft ws h (allocate ws h z))
-  unfolding allocate
-  allocate-passes = with-passes asFound (λ e. tt)
-
-  cleared-passes : (count size : ℕ) → Passing (stateLeft ws h (allocateCleared ws h count size))
-  unfolding allocateCleared
-  cleared-passes count size = with-passes cleared cleared-within (count * size)
-
-  free-passes : (b : ℕ) → Passing (stateLeft ws h (free ws h b))
-  unfolding free asRead
-  free-passes b =
-      judged-passes h (freed (asRead ws h) b) (freeRefusals (heapFails ws h) (asRead ws h) b) (λ (_, (l, _)). go (eqb b 0) l)
-    where
-      go : (t : Bool) → (not t && not (isLive (asRead ws h) b)) ≡ false
-          → PassesAfter ws (cond t (asRead ws h) (freeBlock b (asRead ws h)))
-      go true l = p
-      go false l = free-kept ws h p b (not-false (isLive (asRead ws h) b) l) .passes
-
-  resize-passes : (b z : ℕ) → Passing (stateLeft ws h (resize ws h b z))
-  unfolding resize
-  resize-passes b z =
-      judged-passes h (resizedTo ws (asRead ws h) b z) (resizeRefusals (heapFails ws h) (asRead ws h) b z)
-      (λ (_, (_, (l, (room, _)))). resized-passes b (not-false (isLive (asRead ws h) b) l) z room)
-
-  reallocate-passes : (b z : ℕ) → Passing (stateLeft ws h (reallocate ws h b z))
-  unfolding reallocate
-  reallocate-passes b z = go (eqb b 0)
-    where
-      go : (t : Bool) → Passing (stateLeft ws h (cond t (allocate ws h z) (resize ws h b z)))
-      go true = allocate-passes z
-      go false = resize-passes b z
+  -- a block is granted, freed or resized
+  each-passes : EachOutcome ws h (λ o. Passing (stateLeft ws h o))
+  unfolding asRead
+  each-passes =
+      record {
+        refuses = λ r. p;
+        grants = λ fill within z room. granted-filled room (fill (theGrant room .granted)) (within (theGrant room .granted)) .passes;
+        freesNone = p;
+        frees = λ b _ l. free-kept ws h p b l .passes;
+        moves = λ b z moves.
+            rw (moved-reread moves .0, moved-words moves)
+            (free-kept (copiedWords moves) (copiedHeap moves) (copied-passes moves) (blockOf (spotOf ws h b .here)) (still-live moves) .passes);
+        shrinks = λ b z shrinks. shrink-kept shrinks .passes;
+        stays = λ b _. p;
+      }
 
   -- the check does not read the merge setting, and asks of the patrol's place only that it be a chunk's
   set-otherwise : (on : Bool) (c : ℕ) → ((e : Entry) × Mem e (shape ws (h .bytes)) × (e .place ≡ c)) → Passes ws (withPatrol (withMerge h on) c)
@@ -195,10 +144,10 @@ module _ (ws : List ℕ) (h : Heap) (p : Passes ws h) where
       let bytes = heapBytes (length ws) in
       judged-passes empty (opened bytes table donor merge)
       (setupRefusals ws table donor) (setup-passes ws table donor merge)
-  step-passes (Allocate z) = allocate-passes z
-  step-passes (AllocateCleared count size) = cleared-passes count size
-  step-passes (Free b) = free-passes b
-  step-passes (Reallocate b z) = reallocate-passes b z
+  step-passes (Allocate z) = allocate-so ws h each-passes z
+  step-passes (AllocateCleared count size) = cleared-so ws h each-passes count size
+  step-passes (Free b) = free-so ws h each-passes b
+  step-passes (Reallocate b z) = reallocate-so ws h each-passes b z
   step-passes (SetMerge on) = merge-passes on
   step-passes Check = told-passes (checked ws h)
   step-passes (AskChunk q c) =

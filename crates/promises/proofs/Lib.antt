@@ -14,6 +14,7 @@ pub mod OneAnswerLaws
 pub mod ZeroLaws
 pub mod DeterminedLaws
 pub mod GrantedLaws
+pub mod EachOutcomeLaws
 pub mod InsideLaws
 pub mod OddLaws
 pub mod FreshLaws

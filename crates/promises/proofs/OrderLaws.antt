@@ -3,14 +3,14 @@
 -- which ones are late may be chosen: those that were not on the chain before the call, or also those that stood behind some chunk. Assumes nothing.
 use mathlib.Core.Path.{_≡_, refl, sym, ap, subst, _∙_}
 use mathlib.Core.Logic.{_≢_, _⊎_, inl, inr}
-use mathlib.Core.Bool.{Bool, true, false, not, cond, _&&_, false≢true}
+use mathlib.Core.Bool.{Bool, true, false, cond, _&&_, false≢true}
 use mathlib.Core.List.{List, [], _∷_, List·Memᴰ·not-nil}
 use Prim.Native.Nat.{ℕ, _+_, _*_, _-_, _≤_, _<_}
 use native.Mathlib.Decide.{ℕ-discrete, decLt}
 use native.Mathlib.Omega.{arith}
 use lib.Dec.{eqb, ltb}
 use lib.ListN.{length}
-use borrow.Author.Tests.{lt-ltb, le-ltb, not-false}
+use borrow.Author.Tests.{lt-ltb, le-ltb}
 use Rattle.lists.specs.Lists.{Mem, any, Before}
 use Rattle.lists.proofs.AscendingLaws.{before-members, one-before, before-itself, before-through, before as standsBefore, before-iff}
 use Rattle.lists.proofs.ListsLaws.{Decides, number-is, both, for-some, meaning, not-so, zero-at}
@@ -27,24 +27,22 @@ use Rattle.region.specs.Words.{Store, written}
 use Rattle.books.proofs.HeapBooks.{list-none, lists-apart}
 use Rattle.drafts.proofs.PictureLaws.{StaysQueued}
 use Rattle.drafts.proofs.QueueLaws.{standing, lateIn, QueuedIn, Lateness, none-larger}
-use Rattle.drafts.proofs.SourceLaws.{Grantable, need-grantable}
+use Rattle.drafts.proofs.SourceLaws.{Grantable}
 use Rattle.drafts.proofs.GrantKept.{theGrant, grant-queued, sourceChunk, can, granted-place, granted-new, others-there}
 use Rattle.drafts.proofs.GrantedChunk.{grantedHeap, granted-pictured, filledWords, granted-filled, new-there, new-live}
 use Rattle.drafts.proofs.FillLaws.{Within}
 use Rattle.drafts.proofs.ReleaseKept.{free-kept, free-queued, others-stay}
 use Rattle.drafts.proofs.ShrinkKept.{shrink-kept, shrink-queued}
-use Rattle.drafts.proofs.WantedLaws.{block-moves, block-shrinks}
 use Rattle.drafts.proofs.MovedLaws.{Moving, copies, copies-within, copiedWords, copiedHeap, copied-passes, still-live, moved-reread, moved-words}
 use Rattle.rules.specs.Shape.{Entry, entry, shape, members, binList, heapBytes}
 use Rattle.rules.specs.Kinds.{ordinary, overhead, blockOf}
 use Rattle.rules.specs.Check.{Passes}
-use Rattle.rules.specs.Draft.{Draft, Spot, asRead}
-use Rattle.rules.specs.Serve.{need, nowhere}
+use Rattle.rules.specs.Draft.{Draft, asRead}
+use Rattle.rules.specs.Serve.{need}
 use Rattle.rules.specs.Outcome.{Outcome, Refusals, judged, heapFails, unchanged}
 use Rattle.rules.specs.Setup.{setup, setupRefusals, opened}
-use Rattle.rules.specs.Allocate.{sourceOf, grant, asFound, cleared, allocateWith, allocate, allocateCleared, allocateRefusals, allocated}
-use Rattle.rules.specs.Free.{isLive, blockSpot, freeBlock, free, freeRefusals, freed}
-use Rattle.rules.specs.Reallocate.{shrunk, moved, resized, resize, reallocate, resizeRefusals, resizedTo}
+use Rattle.rules.specs.Free.{freeBlock, free}
+use Rattle.rules.specs.Reallocate.{shrunk}
 use Rattle.rules.specs.Merge.{setMerge, checked, check}
 use Rattle.rules.specs.Ask.{askChunk, askBin, chunkAnswers, askedSpot, isThere, binAnswers, answerTo, askRefusals, asked}
 use Rattle.rules.specs.Calls.{Call, Setup, Allocate, AllocateCleared, Free, Reallocate, SetMerge, Check, AskChunk, AskBin, Patrol, State, step}
@@ -58,8 +56,7 @@ use Rattle.promises.specs.Ways.{Way, ours}
 use Rattle.promises.specs.Kept.{Passing, after}
 use Rattle.promises.specs.Order.{listOf, InOrder, On, InBin, Behind, Ahead, Steady, Order}
 use Rattle.promises.specs.Refusing.{asksCheck, Because, setupLength, setupTable, setupDonor, fails, patrolNone, orderOf, Refusing}
-use Rattle.promises.proofs.ResizedLaws.{resized-so}
-use Rattle.promises.proofs.GrantedLaws.{cleared-within}
+use Rattle.promises.proofs.EachOutcomeLaws.{EachOutcome, spotOf, allocate-so, cleared-so, free-so, reallocate-so}
 use Rattle.promises.proofs.KeptLaws.{stateLeft, same-record, kept}
 
 pub in-order : (s : State) → Passing s → InOrder s
@@ -445,74 +442,25 @@ module _ (ws : List ℕ) (h : Heap) (p : Passes ws h) where
         carried = λ late t. record { now = late; queued = filled-queued room ss w late t; same = λ x on there. refl; others = t .others };
       })
 
-  -- a live block is freed; its chunk gives its tail back
-  freed-placed : (b : ℕ) → isLive (asRead ws h) b ≡ true → Placed before (drafted (freeBlock b (asRead ws h)))
-  freed-placed b l = queued-placed (freeBlock b (asRead ws h)) (free-kept ws h p b l .passes) (free-queued ws h p b l)
-
-  -- the live block at b is to have z bytes
-  module _ (b : ℕ) (l : isLive (asRead ws h) b ≡ true) (z : ℕ) where
-    abbrev at : Spot
-    at = blockSpot (asRead ws h) b
-
-    abbrev n : ℕ
-    n = need overhead z
-
-    shrunk-placed : n + 24 ≤ at .here .size → Placed before (drafted (shrunk at n (asRead ws h) .draft))
-    shrunk-placed spare =
-        let shrinks = block-shrinks p b l z spare in
-        queued-placed (shrunk at n (asRead ws h) .draft) (shrink-kept shrinks .passes) (shrink-queued shrinks)
-
-    moved-placed : nowhere (sourceOf n (asRead ws h)) ≡ false → at .here .size < n → Placed before (drafted (moved ws at n (asRead ws h) .draft))
-    moved-placed some less =
-        let moves = block-moves p b l z some less in
-        rw (moved-reread moves .0, moved-words moves) (carries-placed before (final p moves) p (move-carries p moves))
-
-    resized-placed : (ltb (at .here .size) n && nowhere (sourceOf n (asRead ws h))) ≡ false → Placed before (drafted (resized ws at n (asRead ws h) .draft))
-    unfolding asRead
-    resized-placed q =
-        resized-so (λ x. Placed before (drafted (x .draft))) ws at n (asRead ws h)
-        (λ less. moved-placed (rw (lt-ltb (at .here .size) n less) at q) less) shrunk-placed nothing-else
-
   -- a refusal leaves the heap as it was
   judged-placed : (came : Heap) (o : Outcome) (ts : Refusals) → (Failed ts → Placed before (stateLeft ws h o)) → Placed before (stateLeft ws h (judged came ts o))
   judged-placed came o ts = judged-so (λ x. Placed before (stateLeft ws h x)) came o ts (λ r. nothing-else)
 
-  with-placed : (fill : Entry → List Store) → ((e : Entry) → Within e (fill e)) → (z : ℕ) → Placed before (stateLeft ws h (allocateWith fill ws h z))
-  with-placed fill within z =
-      let e = grant (need overhead z) (asRead ws h) .granted in
-      judged-placed h (allocated fill (asRead ws h) z) (allocateRefusals (heapFails ws h) (asRead ws h) z)
-      (λ (_, (_, (some, _))). granted-placed (need-grantable z p some) (fill e) (within e))
-
-  allocate-placed : (z : ℕ) → Placed before (stateLeft ws h (allocate ws h z))
-  unfolding allocate
-  allocate-placed = with-placed asFound (λ e. tt)
-
-  cleared-placed : (count size : ℕ) → Placed before (stateLeft ws h (allocateCleared ws h count size))
-  unfolding allocateCleared
-  cleared-placed count size = with-placed cleared cleared-within (count * size)
-
-  free-placed : (b : ℕ) → Placed before (stateLeft ws h (free ws h b))
-  unfolding free asRead
-  free-placed b =
-      judged-placed h (freed (asRead ws h) b) (freeRefusals (heapFails ws h) (asRead ws h) b) (λ (_, (l, _)). go (eqb b 0) l)
-    where
-      go : (t : Bool) → (not t && not (isLive (asRead ws h) b)) ≡ false → Placed before (drafted (cond t (asRead ws h) (freeBlock b (asRead ws h))))
-      go true l = nothing-else
-      go false l = freed-placed b (not-false (isLive (asRead ws h) b) l)
-
-  resize-placed : (b z : ℕ) → Placed before (stateLeft ws h (resize ws h b z))
-  unfolding resize
-  resize-placed b z =
-      judged-placed h (resizedTo ws (asRead ws h) b z) (resizeRefusals (heapFails ws h) (asRead ws h) b z)
-      (λ (_, (_, (l, (room, _)))). resized-placed b (not-false (isLive (asRead ws h) b) l) z room)
-
-  reallocate-placed : (b z : ℕ) → Placed before (stateLeft ws h (reallocate ws h b z))
-  unfolding reallocate
-  reallocate-placed b z = go (eqb b 0)
-    where
-      go : (t : Bool) → Placed before (stateLeft ws h (cond t (allocate ws h z) (resize ws h b z)))
-      go true = allocate-placed z
-      go false = resize-placed b z
+  -- a block is granted, freed or resized
+  each-placed : EachOutcome ws h (λ o. Placed before (stateLeft ws h o))
+  unfolding asRead
+  each-placed =
+      record {
+        refuses = λ r. nothing-else;
+        grants = λ fill within z room. granted-placed room (fill (theGrant room .granted)) (within (theGrant room .granted));
+        freesNone = nothing-else;
+        frees = λ b _ l. queued-placed (freeBlock b (asRead ws h)) (free-kept ws h p b l .passes) (free-queued ws h p b l);
+        moves = λ b z moves.
+            rw (moved-reread moves .0, moved-words moves) (carries-placed before (final p moves) p (move-carries p moves));
+        shrinks = λ b z shrinks.
+            queued-placed (shrunk (spotOf ws h b) (need overhead z) (asRead ws h) .draft) (shrink-kept shrinks .passes) (shrink-queued shrinks);
+        stays = λ b _. nothing-else;
+      }
 
   -- a fresh heap has nothing in its bins
   setup-placed : (table : List ℕ) (donor : ℕ) (merge : Bool) → Placed before (stateLeft ws h (opened (heapBytes (length ws)) table donor merge))
@@ -535,10 +483,10 @@ module _ (ws : List ℕ) (h : Heap) (p : Passes ws h) where
   unfolding step setup check askChunk askBin setMerge
   step-placed (Setup table donor merge) =
       judged-placed empty (opened (heapBytes (length ws)) table donor merge) (setupRefusals ws table donor) (λ _. setup-placed table donor merge)
-  step-placed (Allocate z) = allocate-placed z
-  step-placed (AllocateCleared count size) = cleared-placed count size
-  step-placed (Free b) = free-placed b
-  step-placed (Reallocate b z) = reallocate-placed b z
+  step-placed (Allocate z) = allocate-so ws h each-placed z
+  step-placed (AllocateCleared count size) = cleared-so ws h each-placed count size
+  step-placed (Free b) = free-so ws h each-placed b
+  step-placed (Reallocate b z) = reallocate-so ws h each-placed b z
   step-placed (SetMerge on) = judged-placed h (unchanged (withMerge h on) Done) (heapFails ws h ∷ []) (λ _. nothing-new (record { words = ws; heap = withMerge h on }) (λ y there. there) (λ i. refl))
   step-placed Check = told-placed (checked ws h)
   step-placed (AskChunk q c) =

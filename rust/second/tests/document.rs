@@ -298,7 +298,7 @@ fn the_four_tries_in_their_order() {
     assert_eq!(world.allocate(32), granted(160, 40));
 }
 
-// Document 02, request Four.
+// Document 02, request Four (manual 5.2).
 #[test]
 fn a_large_need_tries_the_donor_last() {
     // With the second table m is 0, and no need is small.

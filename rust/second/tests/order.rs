@@ -1,4 +1,4 @@
-// Document 02, request Five: a bin outside the small array is in order of size.
+// Document 02, request Five (manual 3.3): a bin outside the small array is in order of size.
 
 mod world;
 
