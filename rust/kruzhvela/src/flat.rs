@@ -1,6 +1,6 @@
 //! The ten calls over flat words, as the compiled functions take them: `include/kruzhvela.h` has the same words as
 //! structs. Rust's references meet the preconditions that the header states, so these functions are safe for all
-//! arguments.
+//! arguments. (Region and record of a call that only looks may overlap: it stores into neither.)
 
 use crate::limits::MOST_BINS;
 
@@ -152,8 +152,8 @@ macro_rules! look {
         $(#[$doc])*
         pub fn $name(region: &[u32], record: &Record $(, $argument: $sort)*) -> Answer {
             let mut answer = [0; ANSWER_WORDS];
-            // SAFETY: each pointer comes from a reference to the stated number of words, and the function stores through
-            // the pointer to the answer alone.
+            // SAFETY: each pointer comes from a reference to the stated number of words. The function stores through the
+            // pointer to the answer alone, so that region and record may be borrowed elsewhere, and may overlap.
             unsafe {
                 c::$function(region.as_ptr(), region.len(), record.as_ptr() $(, $argument)*, answer.as_mut_ptr());
             }
