@@ -27,17 +27,25 @@
 #define KRUZHVELA_H
 
 #include <stdbool.h>
-#include <stddef.h>
+#include <stddef.h> /* size_t, for callers */
 #include <stdint.h>
 
 /** @name Version
  *  Of this header and of the archive that it belongs to.
  *  @{ */
 #define KZ_VERSION_MAJOR 0 /**< Raised where programs have to be changed, from 1 on. */
-#define KZ_VERSION_MINOR 2 /**< Raised where something is added; below 1.0.0 also where programs have to be changed. */
+#define KZ_VERSION_MINOR 3 /**< Raised where something is added; below 1.0.0 also where programs have to be changed. */
 #define KZ_VERSION_PATCH 0 /**< Raised else. */
-#define KZ_VERSION "0.2.0" /**< All three. */
+#define KZ_VERSION "0.3.0" /**< All three. */
 /** @} */
+
+/**
+ * @brief A number of words: of a region, or of a bin table.
+ *
+ * The compiled functions take it in 64 bits on every machine, so these declarations are right on 32-bit machines too. A size_t
+ * can be passed as it is.
+ */
+typedef uint64_t kz_length;
 
 /** The most bins that a heap may have: the length of the record's three arrays. */
 #define KZ_MOST_BINS 32
@@ -187,7 +195,7 @@ static inline const char *kz_refusal_text(uint32_t refusal)
  * @param answer  is written; no member but the refusal is named.
  * @return #KZ_ACCEPTED, #KZ_REGION_LENGTH, #KZ_BAD_TABLE or #KZ_DONOR_SIZE.
  */
-uint32_t kz_setup(uint32_t *region, size_t words, const uint32_t *table, size_t bins, uint32_t donor, bool merge,
+uint32_t kz_setup(uint32_t *region, kz_length words, const uint32_t *table, kz_length bins, uint32_t donor, bool merge,
                   kz_record *record, kz_answer *answer);
 
 /**
@@ -209,7 +217,7 @@ uint32_t kz_setup(uint32_t *region, size_t words, const uint32_t *table, size_t 
  * @param answer  `offset` is the block, `change` the bytes of its chunk.
  * @return #KZ_ACCEPTED, #KZ_HEAP_FAILS, #KZ_BLOCK_SIZE, or #KZ_NO_ROOM: no chunk of the heap can serve.
  */
-uint32_t kz_allocate(uint32_t *region, size_t words, kz_record *record, uint32_t z, kz_answer *answer);
+uint32_t kz_allocate(uint32_t *region, kz_length words, kz_record *record, uint32_t z, kz_answer *answer);
 
 /**
  * @brief Allocates a block of count times size bytes and sets every word of it to 0 (manual 5.3).
@@ -221,7 +229,7 @@ uint32_t kz_allocate(uint32_t *region, size_t words, kz_record *record, uint32_t
  * @param answer  as of kz_allocate().
  * @return as kz_allocate().
  */
-uint32_t kz_allocate_cleared(uint32_t *region, size_t words, kz_record *record, uint32_t count, uint32_t size,
+uint32_t kz_allocate_cleared(uint32_t *region, kz_length words, kz_record *record, uint32_t count, uint32_t size,
                              kz_answer *answer);
 
 /**
@@ -236,7 +244,7 @@ uint32_t kz_allocate_cleared(uint32_t *region, size_t words, kz_record *record, 
  * @param answer  `change` is the bytes of its chunk, negative.
  * @return #KZ_ACCEPTED, #KZ_HEAP_FAILS or #KZ_NOT_LIVE.
  */
-uint32_t kz_free(uint32_t *region, size_t words, kz_record *record, uint32_t block, kz_answer *answer);
+uint32_t kz_free(uint32_t *region, kz_length words, kz_record *record, uint32_t block, kz_answer *answer);
 
 /**
  * @brief Resizes a block to z bytes (manual 5.5): it may move. Its contents stay, up to the smaller of both sizes.
@@ -251,7 +259,7 @@ uint32_t kz_free(uint32_t *region, size_t words, kz_record *record, uint32_t blo
  * @param answer  `offset` is the block, which may be another one; `change` the change in used bytes.
  * @return #KZ_ACCEPTED, #KZ_HEAP_FAILS, #KZ_BLOCK_SIZE, #KZ_NOT_LIVE or #KZ_NO_ROOM.
  */
-uint32_t kz_reallocate(uint32_t *region, size_t words, kz_record *record, uint32_t block, uint32_t z, kz_answer *answer);
+uint32_t kz_reallocate(uint32_t *region, kz_length words, kz_record *record, uint32_t block, uint32_t z, kz_answer *answer);
 
 /**
  * @brief Turns coalescing on or off for the calls that follow (manual 5.6). No chunk moves or joins by it.
@@ -262,7 +270,7 @@ uint32_t kz_reallocate(uint32_t *region, size_t words, kz_record *record, uint32
  * @param answer  no member but the refusal is named.
  * @return #KZ_ACCEPTED or #KZ_HEAP_FAILS.
  */
-uint32_t kz_set_merge(uint32_t *region, size_t words, kz_record *record, bool on, kz_answer *answer);
+uint32_t kz_set_merge(uint32_t *region, kz_length words, kz_record *record, bool on, kz_answer *answer);
 
 /**
  * @brief Checks the whole heap and counts its chunks and bytes (manual 4, 5.7).
@@ -278,7 +286,7 @@ uint32_t kz_set_merge(uint32_t *region, size_t words, kz_record *record, bool on
  * @param counts  is written.
  * @return #KZ_ACCEPTED or #KZ_HEAP_FAILS.
  */
-uint32_t kz_check(const uint32_t *region, size_t words, const kz_record *record, kz_counts *counts);
+uint32_t kz_check(const uint32_t *region, kz_length words, const kz_record *record, kz_counts *counts);
 
 /**
  * @brief Answers a question about the chunk, or the live block, at a place (manual 5.8). Changes nothing.
@@ -290,7 +298,7 @@ uint32_t kz_check(const uint32_t *region, size_t words, const kz_record *record,
  * @param answer    `value`, or `none`.
  * @return #KZ_ACCEPTED, #KZ_HEAP_FAILS, or #KZ_NOT_THERE: there is no such chunk, block or question.
  */
-uint32_t kz_ask_chunk(const uint32_t *region, size_t words, const kz_record *record, uint32_t question, uint32_t place,
+uint32_t kz_ask_chunk(const uint32_t *region, kz_length words, const kz_record *record, uint32_t question, uint32_t place,
                       kz_answer *answer);
 
 /**
@@ -303,7 +311,7 @@ uint32_t kz_ask_chunk(const uint32_t *region, size_t words, const kz_record *rec
  * @param answer    `value`, or `none`.
  * @return #KZ_ACCEPTED, #KZ_HEAP_FAILS, or #KZ_NOT_THERE: there is no such bin or question.
  */
-uint32_t kz_ask_bin(const uint32_t *region, size_t words, const kz_record *record, uint32_t question, uint32_t bin,
+uint32_t kz_ask_bin(const uint32_t *region, kz_length words, const kz_record *record, uint32_t question, uint32_t bin,
                     kz_answer *answer);
 
 /**
@@ -344,7 +352,7 @@ uint32_t kz_ask_bin(const uint32_t *region, size_t words, const kz_record *recor
  *         walk from the end meets a link that leaves the heap, goes down by less than 24 (8 to the start), or passes below the
  *         broken chunk.
  */
-uint32_t kz_patrol(uint32_t *region, size_t words, kz_record *record, uint32_t chunks, kz_answer *answer);
+uint32_t kz_patrol(uint32_t *region, kz_length words, kz_record *record, uint32_t chunks, kz_answer *answer);
 
 #ifdef __cplusplus
 }

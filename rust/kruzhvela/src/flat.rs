@@ -60,40 +60,43 @@ pub const CHECK_USED: usize = 3;
 pub const CHECK_FREE: usize = 4;
 
 mod c {
+    /// A number of words: 64 bits on every machine, as the header's `kz_length`.
+    pub type Length = u64;
+
     extern "C" {
         pub fn kz_setup(
             region: *mut u32,
-            words: usize,
+            words: Length,
             table: *const u32,
-            bins: usize,
+            bins: Length,
             donor: u32,
             merge: bool,
             record: *mut u32,
             answer: *mut u32,
         ) -> u32;
-        pub fn kz_allocate(region: *mut u32, words: usize, record: *mut u32, z: u32, answer: *mut u32) -> u32;
+        pub fn kz_allocate(region: *mut u32, words: Length, record: *mut u32, z: u32, answer: *mut u32) -> u32;
         pub fn kz_allocate_cleared(
             region: *mut u32,
-            words: usize,
+            words: Length,
             record: *mut u32,
             count: u32,
             size: u32,
             answer: *mut u32,
         ) -> u32;
-        pub fn kz_free(region: *mut u32, words: usize, record: *mut u32, block: u32, answer: *mut u32) -> u32;
+        pub fn kz_free(region: *mut u32, words: Length, record: *mut u32, block: u32, answer: *mut u32) -> u32;
         pub fn kz_reallocate(
             region: *mut u32,
-            words: usize,
+            words: Length,
             record: *mut u32,
             block: u32,
             z: u32,
             answer: *mut u32,
         ) -> u32;
-        pub fn kz_set_merge(region: *mut u32, words: usize, record: *mut u32, on: bool, answer: *mut u32) -> u32;
-        pub fn kz_check(region: *const u32, words: usize, record: *const u32, answer: *mut u32) -> u32;
+        pub fn kz_set_merge(region: *mut u32, words: Length, record: *mut u32, on: bool, answer: *mut u32) -> u32;
+        pub fn kz_check(region: *const u32, words: Length, record: *const u32, answer: *mut u32) -> u32;
         pub fn kz_ask_chunk(
             region: *const u32,
-            words: usize,
+            words: Length,
             record: *const u32,
             question: u32,
             place: u32,
@@ -101,13 +104,13 @@ mod c {
         ) -> u32;
         pub fn kz_ask_bin(
             region: *const u32,
-            words: usize,
+            words: Length,
             record: *const u32,
             question: u32,
             bin: u32,
             answer: *mut u32,
         ) -> u32;
-        pub fn kz_patrol(region: *mut u32, words: usize, record: *mut u32, chunks: u32, answer: *mut u32) -> u32;
+        pub fn kz_patrol(region: *mut u32, words: Length, record: *mut u32, chunks: u32, answer: *mut u32) -> u32;
     }
 }
 
@@ -118,9 +121,9 @@ pub fn setup(region: &mut [u32], table: &[u32], donor: u32, merge: bool, record:
     unsafe {
         c::kz_setup(
             region.as_mut_ptr(),
-            region.len(),
+            region.len() as c::Length,
             table.as_ptr(),
-            table.len(),
+            table.len() as c::Length,
             donor,
             merge,
             record.as_mut_ptr(),
@@ -138,7 +141,7 @@ macro_rules! call {
             let mut answer = [0; ANSWER_WORDS];
             // SAFETY: each pointer comes from a reference to the stated number of words, and these references do not overlap.
             unsafe {
-                c::$function(region.as_mut_ptr(), region.len(), record.as_mut_ptr() $(, $argument)*, answer.as_mut_ptr());
+                c::$function(region.as_mut_ptr(), region.len() as c::Length, record.as_mut_ptr() $(, $argument)*, answer.as_mut_ptr());
             }
             answer
         }
@@ -155,7 +158,7 @@ macro_rules! look {
             // SAFETY: each pointer comes from a reference to the stated number of words. The function stores through the
             // pointer to the answer alone, so that region and record may be borrowed elsewhere, and may overlap.
             unsafe {
-                c::$function(region.as_ptr(), region.len(), record.as_ptr() $(, $argument)*, answer.as_mut_ptr());
+                c::$function(region.as_ptr(), region.len() as c::Length, record.as_ptr() $(, $argument)*, answer.as_mut_ptr());
             }
             answer
         }
