@@ -1,0 +1,8 @@
+#ifndef KZ_BARE_STDBOOL_H
+#define KZ_BARE_STDBOOL_H
+
+#define bool _Bool
+#define true 1
+#define false 0
+
+#endif
