@@ -1,26 +1,19 @@
-/* The stack that each call takes: the most over a random run of calls on a heap that fills and empties; and for kz_patrol what damage
-   adds to it. tools/run_c native rust/bench/c/stack.c, or x86-64, prints it. A thread makes the call on a stack that was filled before;
-   how far down it was written, less what an empty function writes, is what the call took. */
-#define _POSIX_C_SOURCE 200809L
-#include <pthread.h>
+/* The stack that each call takes on the machine at hand: the most over a random run of calls on a heap that fills and empties; and for
+   kz_patrol what damage adds to it. The stack below a function is filled; then the function makes the call. How far down the stack was
+   written, less what an empty function writes, is what the call took. */
 #include <stdio.h>
-#include <string.h>
 
 #include "kruzhvela.h"
 
-enum { WORDS = 16384, WORD_BYTES = 4, LEAST_CHUNK = 24, STACK = 1 << 18, BELOW_THE_THREAD = 1 << 14, FILLED = 0x5A };
+enum { WORDS = 16384, WORD_BYTES = 4, LEAST_CHUNK = 24, ROOM = 20000, GAP = 256, FILLED = 0x5A };
 enum { STEPS = 4000, KEPT = 256, CHUNKS = 2500, BINS = 6 };
 
 static uint32_t region[WORDS], sound[WORDS];
 static kz_record record;
 static kz_answer answer;
 static kz_counts counts;
-static _Alignas(4096) unsigned char stack[STACK];
 
 typedef void Call(void);
-
-static Call *volatile called;
-static volatile size_t lowest; /* 0; the compiler must not know it, or it would make less room */
 
 /* The arguments of the call that is measured. */
 static const uint32_t table[BINS] = {24, 32, 40, 128, 512, 2048};
@@ -47,30 +40,39 @@ static const struct {
 
 enum { CALLS = sizeof calls / sizeof calls[0] };
 
-/* Calls from far enough below the thread's own frames that those do not count. */
-static void *thread(void *unused)
+/* The compiler must not know what is called, nor how much of an array is used: else it would change what lies on the stack. */
+static Call *volatile called;
+static volatile size_t lowest;
+static volatile unsigned char *volatile bottom;
+
+/* Fills the stack below the caller, as far as a call may reach. */
+static __attribute__((noinline)) void fill_below(void)
 {
-    volatile unsigned char room[BELOW_THE_THREAD];
-    room[lowest] = 0;
-    called();
-    return room[lowest] == 0 ? unused : NULL;
+    unsigned char room[ROOM];
+    bottom = (unsigned char *)((uintptr_t)room + lowest);
+    for (size_t i = 0; i < ROOM; i++)
+        bottom[i] = FILLED;
 }
 
-/* Bytes from the stack's top down to the lowest that the call wrote, in words of 8; 0 if there is no thread. */
-static size_t depth(Call *call)
+/* Makes the call from a place that the gap puts below the frame of the function that fills. */
+static __attribute__((noinline)) void call_below(void)
 {
-    pthread_attr_t attributes;
-    pthread_t id;
+    volatile unsigned char gap[GAP];
+    gap[lowest] = 0;
+    called();
+    lowest = gap[lowest];
+}
+
+/* Bytes from the filled room's upper end down to the lowest that the call wrote, in words of 8. */
+static __attribute__((noinline)) size_t depth(Call *call)
+{
     size_t low = 0;
     called = call;
-    memset(stack, FILLED, sizeof stack);
-    pthread_attr_init(&attributes);
-    if (pthread_attr_setstack(&attributes, stack, sizeof stack) != 0 || pthread_create(&id, &attributes, thread, NULL) != 0)
-        return 0;
-    pthread_join(id, NULL);
-    while (low < sizeof stack && stack[low] == FILLED)
+    fill_below();
+    call_below();
+    while (low < ROOM && bottom[low] == FILLED)
         low++;
-    return (sizeof stack - low + 7) / 8 * 8;
+    return (ROOM - low + 7) / 8 * 8;
 }
 
 static uint32_t random_below(uint32_t bound)
@@ -123,17 +125,31 @@ static void whole_heaps(void)
         printf("%s: %zu bytes of stack\n", calls[i].name, most[i]);
 }
 
+static void put_sound_words(void)
+{
+    for (uint32_t i = 0; i < WORDS; i++)
+        region[i] = sound[i];
+}
+
+static bool has_sound_words(void)
+{
+    uint32_t i = 0;
+    while (i < WORDS && region[i] == sound[i])
+        i++;
+    return i == WORDS;
+}
+
 /* Makes the backward link of the second block's chunk name no chunk, its flags kept. */
 static void wrong_backward_link(void)
 {
-    memcpy(region, sound, sizeof region);
+    put_sound_words();
     region[(8 + LEAST_CHUNK) / WORD_BYTES + 1] ^= 1u << 20;
 }
 
 /* Breaks so many forward links, evenly spread; the backward links stay whole. */
 static void break_links(uint32_t broken)
 {
-    memcpy(region, sound, sizeof region);
+    put_sound_words();
     for (uint32_t i = 0; i < broken; i++) {
         uint32_t chunk = 8 + LEAST_CHUNK * (i * (CHUNKS / 2 / broken));
         region[chunk / WORD_BYTES] = 1;
@@ -141,22 +157,20 @@ static void break_links(uint32_t broken)
 }
 
 /* Bytes of stack of a run from the start on a damaged heap. It must be accepted and leave the sound heap's words. */
-static size_t run(uint32_t length, const char *damage)
+static size_t run(uint32_t length, uint32_t count, const char *damage)
 {
     chunks = length;
     record.patrol = 0;
     size_t taken = depth(patrol) - depth(nothing);
-    bool mended = answer.refusal == KZ_ACCEPTED && memcmp(region, sound, sizeof region) == 0;
-    printf("a run of %u chunks, %s: %zu bytes of stack%s\n", (unsigned)length, damage, taken, mended ? "" : ", and NOT mended");
+    bool mended = answer.refusal == KZ_ACCEPTED && has_sound_words();
+    printf("a run of %u chunks, %u %s: %zu bytes of stack%s\n", (unsigned)length, (unsigned)count, damage, taken, mended ? "" : ", and NOT mended");
     return taken;
 }
 
 static size_t with_broken(uint32_t length, uint32_t broken)
 {
-    char damage[32];
-    snprintf(damage, sizeof damage, "%u broken links", (unsigned)broken);
     break_links(broken);
-    return run(length, damage);
+    return run(length, broken, "broken forward links");
 }
 
 /* Blocks of the least size, all in use; false if one is refused. */
@@ -166,7 +180,8 @@ static bool fill(void)
     for (uint32_t i = 0; i < CHUNKS; i++)
         if (kz_allocate(region, WORDS, &record, 1, &answer) != KZ_ACCEPTED)
             return false;
-    memcpy(sound, region, sizeof region);
+    for (uint32_t i = 0; i < WORDS; i++)
+        sound[i] = region[i];
     return true;
 }
 
@@ -176,9 +191,9 @@ static void damaged_heaps(void)
     with_broken(16, 0);
     with_broken(2000, 0);
     wrong_backward_link();
-    run(16, "a wrong backward link");
+    run(16, 1, "wrong backward links");
     wrong_backward_link();
-    run(2000, "a wrong backward link");
+    run(2000, 1, "wrong backward links");
     with_broken(2000, 1);
     size_t ten = with_broken(2000, 10), hundred = with_broken(2000, 100);
     printf("for each broken link %zu bytes more\n", (hundred - ten) / 90);
