@@ -1,5 +1,6 @@
-/* What the compiled heap calls and a machine without a C library may lack: memory copied, moved and set, under C's names and under those of
-   Arm's run-time ABI, and for a Cortex-M0+ the product of 64 bits and the quotient. Link this file, or leave it out where a library has them. */
+/* What compiled code calls and a machine without a C library may lack: memory copied, moved, set and compared, under C's names and under those
+   of Arm's run-time ABI, and for a Cortex-M0+ the product of 64 bits and the quotient. Link this file, or leave it out where a library has
+   them. */
 #include <stdbool.h>
 #include <stddef.h>
 #include <stdint.h>
@@ -12,6 +13,7 @@ typedef uint32_t __attribute__((__may_alias__)) word;
 void *memcpy(void *to, const void *from, size_t n);
 void *memmove(void *to, const void *from, size_t n);
 void *memset(void *to, int value, size_t n);
+int memcmp(const void *left, const void *right, size_t n);
 
 /* Whole words if both begin at one, then bytes; upwards, so the parts may overlap if `to` is the lower one. */
 void *memcpy(void *to, const void *from, size_t n)
@@ -55,6 +57,15 @@ void *memset(void *to, int value, size_t n)
         KEEP_LOOP();
     }
     return to;
+}
+
+int memcmp(const void *left, const void *right, size_t n)
+{
+    const unsigned char *a = left, *b = right;
+    for (size_t i = 0; i < n; i++)
+        if (a[i] != b[i])
+            return a[i] < b[i] ? -1 : 1;
+    return 0;
 }
 
 #ifdef __ARM_EABI__

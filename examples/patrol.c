@@ -84,7 +84,7 @@ int main(void)
 {
     static Station station, before;
     if (play(&station, &before) != 0) {
-        fputs("this is not what the patrol promises\n", stderr);
+        puts("this is not what the patrol promises");
         return 1;
     }
     return 0;

@@ -19,7 +19,7 @@
  * different heaps may run at the same time. Between calls a caller may read and write its own live blocks at any time.
  *
  * **Cost.** Every function but kz_setup and kz_patrol checks the whole heap first: one walk of the chunks and one of the free
- * lists. docs/MANUAL.md, section 12, has the stack of each function and its time by chunks.
+ * lists. docs/MANUAL.md, section 12, has the time by chunks, and docs/TARGETS.md the stack of each function on each processor.
  *
  * docs/MANUAL.md explains chunks, bins, donor, top and each call; the sections are named below.
  */
@@ -340,7 +340,7 @@ uint32_t kz_ask_bin(const uint32_t *region, kz_length words, const kz_record *re
  * goes past it, and of all calls kz_setup() alone brings the place back to the start.
  *
  * Time grows with `chunks`, not with the heap, as long as no link is broken. The stack grows by each broken link that a run meets:
- * where the stack is small, that is the limit of a run (manual 12).
+ * where the stack is small, that is the limit of a run (docs/TARGETS.md).
  *
  * @param region  the heap's words.
  * @param words   their number.

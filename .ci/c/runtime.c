@@ -7,12 +7,14 @@
 #define memcpy bare_memcpy
 #define memmove bare_memmove
 #define memset bare_memset
+#define memcmp bare_memcmp
 #define __ARM_EABI__ 1
 #define __ARM_ARCH_6M__ 1
 #include "../../bare/runtime.c"
 #undef memcpy
 #undef memmove
 #undef memset
+#undef memcmp
 
 enum { BYTES = 256, ROUNDS = 200000 };
 
@@ -45,7 +47,8 @@ static int agree(void)
     uint32_t n = (uint32_t)a, divisor = (uint32_t)b == 0 ? 1 : (uint32_t)b;
     if (__aeabi_lmul(a, b) != a * b || __aeabi_uidivmod(n, divisor) != ((uint64_t)(n % divisor) << 32 | n / divisor))
         return 0;
-    return memcmp(ours, theirs, BYTES) == 0;
+    int order = memcmp(ours, source, BYTES), bare_order = bare_memcmp(ours, source, BYTES);
+    return memcmp(ours, theirs, BYTES) == 0 && bare_memcmp(ours, theirs, BYTES) == 0 && (order < 0) == (bare_order < 0);
 }
 
 int main(void)
