@@ -48,8 +48,12 @@ static int open_as(const char *name, uintptr_t mode)
 
 int host_open(const char *name) { return open_as(name, FOR_READING); }
 
-/* READ and WRITE tell how many bytes were left over. */
-size_t host_read(int file, void *to, size_t n) { return n - service(READ, (const uintptr_t[]){(uintptr_t)file, (uintptr_t)to, n}); }
+/* READ tells how many bytes were left over, and more than all if it failed. */
+size_t host_read(int file, void *to, size_t n)
+{
+    size_t left = service(READ, (const uintptr_t[]){(uintptr_t)file, (uintptr_t)to, n});
+    return left < n ? n - left : 0;
+}
 
 void host_write(const char *text, size_t n)
 {

@@ -45,6 +45,8 @@ static Call *volatile called;
 static volatile size_t lowest;
 static volatile unsigned char *volatile bottom;
 
+static bool all_within = true, all_mended = true;
+
 /* Fills the stack below the caller, as far as a call may reach. */
 static __attribute__((noinline)) void fill_below(void)
 {
@@ -72,6 +74,7 @@ static __attribute__((noinline)) size_t depth(Call *call)
     call_below();
     while (low < ROOM && bottom[low] == FILLED)
         low++;
+    all_within = all_within && low > 0;
     return (ROOM - low + 7) / 8 * 8;
 }
 
@@ -156,8 +159,6 @@ static void break_links(uint32_t broken)
     }
 }
 
-static bool all_mended = true;
-
 /* Bytes of stack of a run from the start on a damaged heap. It must be accepted and leave the sound heap's words. */
 static size_t run(uint32_t length, uint32_t count, const char *damage)
 {
@@ -212,5 +213,7 @@ int main(void)
     if (!fill())
         return 1;
     damaged_heaps();
-    return !all_mended;
+    if (!all_within)
+        puts("a call took MORE stack than was filled");
+    return !all_mended || !all_within;
 }

@@ -143,7 +143,8 @@ static void set_word(uint32_t *words, uint32_t count, const uint32_t *arguments)
         words[arguments[0]] = arguments[1];
 }
 
-/* How many calls were made and left out; false at the first digest that is not the transcript's, and if one of the two files has more. */
+/* How many calls were made and left out. False at the first digest that is not the transcript's, at an action that is none, and if script or
+   transcript has more than the other. */
 static bool play_script(Source *script, Source *transcript, uint32_t *calls, uint32_t *left_out)
 {
     static Heap heap;
@@ -180,7 +181,7 @@ int main(void)
         return 1;
     }
     if (!play_script(&script, &transcript, &calls, &left_out)) {
-        printf("call %u differs from the transcript\n", (unsigned)calls);
+        printf("line %u of the transcript is not what this heap gives\n", (unsigned)(calls + left_out));
         return 1;
     }
     printf("%u calls of the vectors agree with the transcript, %u left out\n", (unsigned)calls, (unsigned)left_out);

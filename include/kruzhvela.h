@@ -27,7 +27,7 @@
 #define KRUZHVELA_H
 
 #include <stdbool.h>
-#include <stddef.h> /* size_t, for callers */
+#include <stddef.h> /* not used here: callers may rely on it for size_t */
 #include <stdint.h>
 
 /** @name Version

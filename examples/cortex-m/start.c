@@ -12,9 +12,9 @@ void reset(void);
 void reset(void)
 {
     const uint32_t *from = data_values;
-    for (uint32_t *word = data_start; word != data_end; word++)
+    for (uint32_t *word = data_start; (uintptr_t)word < (uintptr_t)data_end; word++)
         *word = *from++;
-    for (uint32_t *word = zeros_start; word != zeros_end; word++)
+    for (uint32_t *word = zeros_start; (uintptr_t)word < (uintptr_t)zeros_end; word++)
         *word = 0;
     host_exit(main());
 }
