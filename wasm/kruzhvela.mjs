@@ -13,6 +13,12 @@ export const RECORD = { bytes: 0, bins: 1, donor: 2, top: 3, merge: 4, used: 5, 
 export const ASK = { bin: 1, block: 2, chunk: 3, next: 4, nextInBin: 5, previous: 6, previousInBin: 7, size: 8, type: 9 };
 export const ASK_BIN = { count: 1, first: 2, last: 3 };
 
+// A number that the functions can take as it is; they would take any other modulo 2^32.
+function word(n) {
+    if (!Number.isInteger(n) || n < 0 || n > 0xFFFFFFFF) throw new RangeError(`${n} is no number of 32 bits`);
+    return n;
+}
+
 export class Heap {
     #calls; #memory; #answer; #record; #table; #region; #words;
 
@@ -28,7 +34,7 @@ export class Heap {
         const above = (at, count) => Math.ceil((at + count * WORD) / 8) * 8;
         this.#calls = calls;
         this.#memory = calls.memory;
-        this.#words = words;
+        this.#words = word(words);
         this.#answer = above(calls.__heap_base.value, 0);
         this.#record = above(this.#answer, ANSWER_WORDS);
         this.#table = above(this.#record, RECORD_WORDS);
@@ -43,8 +49,8 @@ export class Heap {
     get region() { return this.#view(this.#region, this.#words); }
     get record() { return this.#view(this.#record, RECORD_WORDS); }
 
-    // The words of the block at an offset of `bytes` bytes.
-    block(offset, bytes) { return this.#view(this.#region + offset, bytes / WORD); }
+    // So many bytes of the region from an offset on: those of a block.
+    bytes(offset, count) { return new Uint8Array(this.#memory.buffer, this.#region, this.#words * WORD).subarray(word(offset), offset + word(count)); }
 
     // A count of words has 64 bits, which is a BigInt in JavaScript.
     #call(name, ...rest) {
@@ -52,14 +58,14 @@ export class Heap {
         return this.#view(this.#answer, ANSWER_WORDS);
     }
     #answered(name, ...rest) {
-        const [refusal, offset, value, change, none] = this.#call(name, this.#record, ...rest);
+        const [refusal, offset, value, change, none] = this.#call(name, this.#record, ...rest.map(word));
         return { refusal, offset, value, change: change | 0, none: none === 1 };
     }
 
     setup(table, donor, merge) {
-        const sizes = table.slice(0, MOST_SIZES);
+        const sizes = table.slice(0, MOST_SIZES).map(word);
         this.#view(this.#table, sizes.length).set(sizes);
-        const [refusal] = this.#call('kz_setup', this.#table, BigInt(sizes.length), donor, merge ? 1 : 0, this.#record);
+        const [refusal] = this.#call('kz_setup', this.#table, BigInt(sizes.length), word(donor), merge ? 1 : 0, this.#record);
         return { refusal };
     }
     allocate(z) { return this.#answered('kz_allocate', z); }

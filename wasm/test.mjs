@@ -18,13 +18,13 @@ const record = (...at) => at.map((word) => heap.record[word]);
 assert.deepEqual(record(bytes, bins, donor, top, merge, used, first, first + 1, first + 2, first + 3, patrol), [1024, 3, 0, 8, 0, 0, 24, 64, 256, 0, 0]);
 assert.deepEqual(heap.check(), { refusal: 0, chunks: 3, ordinary: 0, used: 0, free: 1008 });
 assert.deepEqual(heap.allocate(16), granted(16, 24));
-heap.block(16, 16).fill(7);
+heap.bytes(16, 15).fill(7);
 assert.deepEqual(heap.allocateCleared(4, 4), granted(40, 24));
-assert.deepEqual([...heap.block(40, 16)], [0, 0, 0, 0]);
+assert.deepEqual([...heap.bytes(40, 16)], Array(16).fill(0));
 assert.deepEqual(heap.allocateCleared(65536, 65536), refused(5)); // the exact product, not modulo 2^32
 assert.deepEqual(heap.allocate(2000), refused(7));
 assert.deepEqual(heap.reallocate(16, 100), granted(64, 88)); // it moves: 112 bytes in place of 24
-assert.deepEqual([...heap.block(64, 20)], [7, 7, 7, 7, heap.region[20]]);
+assert.deepEqual([...heap.bytes(64, 15)], Array(15).fill(7));
 assert.deepEqual(record(heads, tails, top, used), [8, 8, 168, 136]);
 assert.deepEqual(heap.askBin(ASK_BIN.count, 0), told(1));
 assert.deepEqual(heap.askBin(ASK_BIN.first, 0), told(8));
@@ -52,6 +52,11 @@ const sizes = Array.from({ length: 40 }, (_, i) => 24 + 8 * i);
 assert.deepEqual(heap.setup(sizes.slice(0, 33), 0, true), { refusal: 2 });
 assert.deepEqual(heap.setup(sizes, 0, true), { refusal: 2 });
 assert.deepEqual(heap.setup(sizes.slice(0, 32), 0, true), { refusal: 0 });
+for (const wrong of [-1, 16.5, 2 ** 32, NaN, '16', undefined]) {
+    assert.throws(() => heap.allocate(wrong), RangeError);
+    assert.throws(() => heap.setup([24, wrong], 0, true), RangeError);
+    assert.throws(() => heap.bytes(16, wrong), RangeError);
+}
 for (const [words, refusal] of [[0, 1], [9, 1], [10, 0], [16384, 0], [16385, 1]])
     assert.deepEqual((await Heap.load(module, words)).setup([24], 0, true), { refusal });
 console.log('the ten calls answer from JavaScript as the manual says');
