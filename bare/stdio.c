@@ -17,13 +17,13 @@ static size_t length(const char *text)
     return n;
 }
 
-static void print_decimal(size_t value)
+static void print_number(size_t value, size_t base)
 {
     char digits[MOST_DIGITS];
     size_t first = MOST_DIGITS;
     do {
-        digits[--first] = (char)('0' + value % 10);
-        value /= 10;
+        digits[--first] = "0123456789abcdef"[value % base];
+        value /= base;
     } while (value != 0);
     host_write(digits + first, MOST_DIGITS - first);
 }
@@ -32,7 +32,34 @@ static void print_signed(int value)
 {
     if (value < 0)
         host_write("-", 1);
-    print_decimal(value < 0 ? 0u - (unsigned)value : (unsigned)value);
+    print_number(value < 0 ? 0u - (unsigned)value : (unsigned)value, 10);
+}
+
+/* Prints an argument as the conversion asks, and gives the conversion's length. */
+static size_t convert(const char *conversion, __builtin_va_list *rest)
+{
+    size_t wide = conversion[0] == 'l' || conversion[0] == 'z';
+    switch (conversion[wide]) {
+    case 'u':
+    case 'x': {
+        size_t value = conversion[0] == 'l'   ? __builtin_va_arg(*rest, unsigned long)
+                       : conversion[0] == 'z' ? __builtin_va_arg(*rest, size_t)
+                                              : __builtin_va_arg(*rest, unsigned);
+        print_number(value, conversion[wide] == 'x' ? 16 : 10);
+        break;
+    }
+    case 'd': print_signed(__builtin_va_arg(*rest, int)); break;
+    case 's': {
+        const char *text = __builtin_va_arg(*rest, const char *);
+        host_write(text, length(text));
+        break;
+    }
+    case '%': host_write("%", 1); break;
+    default:
+        puts("printf: this conversion is not known");
+        host_exit(1);
+    }
+    return wide + 1;
 }
 
 int printf(const char *format, ...)
@@ -45,20 +72,8 @@ int printf(const char *format, ...)
             plain++;
         host_write(format, plain);
         format += plain;
-        if (*format == 0)
-            break;
-        format++;
-        if (*format == 's') {
-            const char *text = __builtin_va_arg(rest, const char *);
-            host_write(text, length(text));
-        } else if (*format == 'd')
-            print_signed(__builtin_va_arg(rest, int));
-        else if (*format == 'z') {
-            format++;
-            print_decimal(__builtin_va_arg(rest, size_t));
-        } else
-            print_decimal(__builtin_va_arg(rest, unsigned));
-        format++;
+        if (*format == '%')
+            format += 1 + convert(format + 1, &rest);
     }
     __builtin_va_end(rest);
     return 0;

@@ -50,7 +50,10 @@ export class Heap {
     get record() { return this.#view(this.#record, RECORD_WORDS); }
 
     // So many bytes of the region from an offset on: those of a block.
-    bytes(offset, count) { return new Uint8Array(this.#memory.buffer, this.#region, this.#words * WORD).subarray(word(offset), offset + word(count)); }
+    bytes(offset, count) {
+        if (word(offset) + word(count) > this.#words * WORD) throw new RangeError('this is not in the region');
+        return new Uint8Array(this.#memory.buffer, this.#region + offset, count);
+    }
 
     // A count of words has 64 bits, which is a BigInt in JavaScript.
     #call(name, ...rest) {

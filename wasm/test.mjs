@@ -47,6 +47,16 @@ assert.deepEqual(record(patrol), [8]);
 assert.deepEqual(heap.patrol(100), told(1));
 assert.deepEqual(heap.check(), { refusal: 0, chunks: 5, ordinary: 1, used: 112, free: 896 });
 
+// The largest heap, full of the smallest blocks, every forward link broken: the patrol has stack enough, and mends them all.
+const full = await Heap.load(module, 16384);
+full.setup([24], 0, true);
+while (full.allocate(1).refusal === 0);
+const whole = full.check();
+for (let chunk = 8; chunk < full.record[top]; chunk += 24) full.region[chunk / 4] ^= 0x80000000;
+assert.equal(full.check().refusal, 4);
+assert.equal(full.patrol(5000).refusal, 0);
+assert.deepEqual(full.check(), whole);
+
 // A table of 33 sizes, and regions that are too small and too large; and the largest.
 const sizes = Array.from({ length: 40 }, (_, i) => 24 + 8 * i);
 assert.deepEqual(heap.setup(sizes.slice(0, 33), 0, true), { refusal: 2 });
@@ -56,7 +66,10 @@ for (const wrong of [-1, 16.5, 2 ** 32, NaN, '16', undefined]) {
     assert.throws(() => heap.allocate(wrong), RangeError);
     assert.throws(() => heap.setup([24, wrong], 0, true), RangeError);
     assert.throws(() => heap.bytes(16, wrong), RangeError);
+    assert.throws(() => heap.bytes(wrong, 16), RangeError);
 }
+assert.equal(heap.bytes(1000, 24).length, 24);
+assert.throws(() => heap.bytes(1000, 25), RangeError);
 for (const [words, refusal] of [[0, 1], [9, 1], [10, 0], [16384, 0], [16385, 1]])
     assert.deepEqual((await Heap.load(module, words)).setup([24], 0, true), { refusal });
 console.log('the ten calls answer from JavaScript as the manual says');

@@ -6,7 +6,7 @@
 
 typedef struct FILE FILE;
 
-/* Knows %u, %zu, %d and %s, without widths. Gives 0. */
+/* Knows %u, %x, %lu, %lx, %zu, %zx, %d, %s and %%, without widths; at another conversion the program ends. Gives 0. */
 int printf(const char *format, ...) __attribute__((__format__(__printf__, 1, 2)));
 
 int puts(const char *line);

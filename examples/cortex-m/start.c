@@ -9,8 +9,18 @@ extern uint32_t data_values[], data_start[], data_end[], zeros_start[], zeros_en
 int main(void);
 void reset(void);
 
+/* Where the compiler may use floating point, its unit is turned on first: full access to coprocessors 10 and 11 in CPACR. */
+static void allow_floats(void)
+{
+#ifdef __ARM_FP
+    *(volatile uint32_t *)0xE000ED88 |= 0xFu << 20;
+    __asm__ volatile("dsb\n\tisb" ::: "memory");
+#endif
+}
+
 void reset(void)
 {
+    allow_floats();
     const uint32_t *from = data_values;
     for (uint32_t *word = data_start; (uintptr_t)word < (uintptr_t)data_end; word++)
         *word = *from++;
