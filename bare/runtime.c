@@ -10,6 +10,7 @@ typedef uint32_t __attribute__((__may_alias__)) word;
 /* Keeps a compiler from making a call of memcpy or memset out of the loop that is to be memcpy or memset. */
 #define KEEP_LOOP() __asm__ volatile("" ::: "memory")
 
+/* Declared here, since a compiler without a C library has no string.h. */
 void *memcpy(void *to, const void *from, size_t n);
 void *memmove(void *to, const void *from, size_t n);
 void *memset(void *to, int value, size_t n);
