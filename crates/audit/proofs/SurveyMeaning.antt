@@ -112,7 +112,7 @@ module _ (ws : List ℕ) (h : Heap) where
   -- the walk finds a chain with backward links all of whose chunks are so
   all_iff : (p : ℕ) (es : List Entry) → ((e : Entry) → Mem e es → e.flags ≡ flags_at ws e.place)
       → Decides (all_sound ws (summary_of h) p es) (Backed ws p es × ((e : Entry) → Mem e es → SeenFacts e))
-  all_iff p [] f = (λ t. (tt, λ e m. absurd (Memᴰ.not_nil m)), λ t. refl)
+  all_iff p [] f = (λ t. (tt, λ e m. absurd (Memᴰ.not-nil m)), λ t. refl)
   all_iff p (e ∷ es) f =
       meaning (both (seen_iff p e (f e (Memᴰ.head refl))) (all_iff e.place es (λ d m. f d (Memᴰ.tail m))))
       (λ ((back, seen), (backs, all)). ((back, backs), each_cons seen all))

@@ -42,7 +42,7 @@ named ws p (d ∷ ds) (placed, back, trail) c (Memᴰ.tail m) = further (named w
 
 -- and one that names the last is none of them
 new : (ws ps : List ℕ) (c : ℕ) → Trail ws ps → Distinct ps → word ws c previous_in_bin ≡ head_or 0 ps → Mem c ps → ⊥
-new ws [] c trail once back m = Memᴰ.not_nil m
+new ws [] c trail once back m = Memᴰ.not-nil m
 new ws (p ∷ ps) c trail (alone, once) back m = neither (named ws p ps trail c m)
   where
     neither : (word ws c previous_in_bin ≡ 0) ⊎ Mem (word ws c previous_in_bin) ps → ⊥
@@ -52,7 +52,7 @@ new ws (p ∷ ps) c trail (alone, once) back m = neither (named ws p ps trail c 
 -- so a list that is linked backwards has no member twice
 linked_apart : (ws cs ps : List ℕ) → Linked ws (head_or 0 ps) cs → ((c : ℕ) → Mem c cs → 0 < c) → Trail ws ps → Distinct ps → DistinctParts cs ps
 linked_apart ws [] ps links placed trail once =
-    record { left = tt; right = once; none = λ d m k. Memᴰ.not_nil m }
+    record { left = tt; right = once; none = λ d m k. Memᴰ.not-nil m }
 linked_apart ws (c ∷ cs) ps (back, next, links) placed trail once =
     let first = new ws ps c trail once back in
     let r =
@@ -100,7 +100,7 @@ module _ (ws table : List ℕ) (valid : ValidTable table) (all : List ℕ) where
   -- so they are in order of size
   combed_order : (i : ℕ) (cs : List ℕ) (p s : ℕ) → CombedIs i p s cs
       → ((c : ℕ) → Mem c cs → s ≤ word ws c size) × Ascending (λ c. word ws c size) cs
-  combed_order i [] p s h = (λ c m. absurd (Memᴰ.not_nil m), tt)
+  combed_order i [] p s h = (λ c m. absurd (Memᴰ.not-nil m), tt)
   combed_order i (c ∷ cs) p s ((facts, back, up), others) =
       let (above, order) = combed_order i cs c (word ws c size) others in
       (each_cons up (λ d m. let l = above d m in omega arith), (above, order))

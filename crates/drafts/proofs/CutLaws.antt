@@ -149,7 +149,7 @@ module _ {e : Entry} {skip n : ℕ} {p : Parts} (c : Cutting e skip n p) where
       kept_has there {xs = p.below ∷ p.granted ∷ p.above ∷ []} (Memᴰ.tail (Memᴰ.head refl)) (rw (ne_eqb p.granted.size 0 (λ z. omega arith)) refl)
 
   pub rest_once : 0 < n → Distinct (rest_of p)
-  rest_once some = kept_distinct there (p.below ∷ p.above ∷ []) (differ, ((λ m. Memᴰ.not_nil m), tt))
+  rest_once some = kept_distinct there (p.below ∷ p.above ∷ []) (differ, ((λ m. Memᴰ.not-nil m), tt))
     where
       differ : Mem p.below (p.above ∷ []) → ⊥
       differ m =

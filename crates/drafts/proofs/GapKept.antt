@@ -108,7 +108,7 @@ module _ {ws : List ℕ} {h : Heap} {base : List Entry} (p : Passes ws h) (gone 
           waits = λ x m. rw (Memᴰ.eq_of_singleton m) (there, refl);
           apart = λ x m k. not_outer (rw (Memᴰ.eq_of_singleton m) at k);
           fresh = λ x m k. crossed_fresh p g.crossed (rw (Memᴰ.eq_of_singleton m) at k);
-          once = ((λ m. Memᴰ.not_nil m), tt);
+          once = ((λ m. Memᴰ.not-nil m), tt);
           others = λ x m. others x (among low (fill ∷ []) high m);
         }
       where

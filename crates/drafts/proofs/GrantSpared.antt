@@ -96,7 +96,7 @@ module _ {ws : List ℕ} {h : Heap} {n : ℕ} (room : Grantable ws h n) where
           let k = outer_in lower (chunks_of pieces) upper r.member in
           let f = ordinary_free (record_midway h without) r.chunk r.kind (laid_out.chunks r.chunk k).flags in
           rw (← r.place) (free_words_lem r.chunk k f next_in_bin (omega arith), free_words_lem r.chunk k f previous_in_bin (omega arith))
-      go (no n) = absurd (Memᴰ.not_nil (rw (opened.halfway.none i (omega arith)) at m))
+      go (no n) = absurd (Memᴰ.not-nil (rw (opened.halfway.none i (omega arith)) at m))
 
   without_spared : Spared Open without
   unfolding as_read

@@ -256,7 +256,7 @@ module _ {ws : List ℕ} {h : Heap} {stay : List Entry} {d : Draft} {all : List 
         → Fitting (λ e. 1 - late e) [] (d.lists i)
     at_head small takes late lateness =
         record {
-          low = λ x m o k. absurd (Memᴰ.not_nil k);
+          low = λ x m o k. absurd (Memᴰ.not-nil k);
           high =
               λ x m o k.
               let r = f.members i x.place l k in

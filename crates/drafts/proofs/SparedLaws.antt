@@ -187,7 +187,7 @@ module _ (P : ℕ → Type 0) where
     unfolding put_between
     put_spared i xs ys f g =
         let c : ℕ = e.place in
-        let one : MemberLinks (c ∷ []) = each_cons (own.0, own.1) (λ x m. absurd (Memᴰ.not_nil m)) in
+        let one : MemberLinks (c ∷ []) = each_cons (own.0, own.1) (λ x m. absurd (Memᴰ.not-nil m)) in
         relist_spared i (xs ++ c ∷ ys) (put_stores i xs c ys) d s (links_both xs (c ∷ ys) f (each_cons (own.0, own.1) g))
         (fall_both P (meet xs (c ∷ []) ++ meet (c ∷ []) ys) _
         (fall_both P (meet xs (c ∷ [])) (meet (c ∷ []) ys) (meet_falls xs (c ∷ []) f one) (meet_falls (c ∷ []) ys one g)) (own.2, tt))
@@ -221,7 +221,7 @@ read_spared P ws h p f = record { stores = tt; members = λ i c m. go i c m (dec
   where
     go : (i c : ℕ) → Mem c (bin_list ws h i) → Dec (i < h.bins) → LinkWords P c
     go i c m (yes l) = let (e, r) = member_entry ws h p i c l m in rw (← r.place) (f e r.member r.is.free.flags)
-    go i c m (no n) = absurd (Memᴰ.not_nil (rw (list_none ws h p i (omega arith)) at m))
+    go i c m (no n) = absurd (Memᴰ.not-nil (rw (list_none ws h p i (omega arith)) at m))
 
 -- a draft that writes only such words: no word of a block in use is written, and none past the heap bytes
 module _ {bytes : ℕ} {all : List Entry} {d : Draft} (s : Spared (Outside bytes all) d) where

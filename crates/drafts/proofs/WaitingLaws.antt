@@ -206,7 +206,7 @@ module _ {ws : List ℕ} {h : Heap} (p : Passes ws h) where
       where
         go : (x : Entry) → Mem x stay ⊎ (Mem x [] ⊎ Used x) → Mem x stay ⊎ Used x
         go x (inl m) = inl m
-        go x (inr (inl m)) = absurd (Memᴰ.not_nil m)
+        go x (inr (inl m)) = absurd (Memᴰ.not-nil m)
         go x (inr (inr u)) = inr u
 
     pub waiting_done : Posts g es → (move : ℕ → ℕ) → IsChunk es (move g.patrol.0) → (gone new : ℕ) → g.used + new - gone ≡ used_bytes h es

@@ -14,11 +14,13 @@ use Rattle.lists.proofs.ListsLaws.{Decides, number_is, at_most, both, or_else, f
 module _ {A : Type 0} where
   -- both are members
   pub before_members : (x y : A) (zs : List A) → Before x y zs → Mem x zs × Mem y zs
+  before_members x y [] x'' = elim x'' [ ]
   before_members x y (z ∷ zs) (inl (q, m)) = (Memᴰ.head q, Memᴰ.tail m)
   before_members x y (z ∷ zs) (inr b) = let (m, k) = before_members x y zs b in (Memᴰ.tail m, Memᴰ.tail k)
 
   -- of two different members one stands before the other
   pub one_before : {x y : A} (zs : List A) → Mem x zs → Mem y zs → x ≢ y → Before x y zs ⊎ Before y x zs
+  one_before {x = x} {y = y} [] x4 _ n = elim x4 [ ]
   one_before (z ∷ zs) (Memᴰ.head p) (Memᴰ.head q) n = absurd (n (p ∙ sym q))
   one_before (z ∷ zs) (Memᴰ.head p) (Memᴰ.tail k) n = inl (inl (p, k))
   one_before (z ∷ zs) (Memᴰ.tail m) (Memᴰ.head q) n = inr (inl (q, m))
@@ -30,10 +32,12 @@ module _ {A : Type 0} where
 
   -- where no member occurs twice, none stands before itself, and what stands behind a member stands behind those before it
   pub before_itself : (x : A) (zs : List A) → Distinct zs → Before x x zs → ⊥
+  before_itself x [] _ x4 = elim x4 [ ]
   before_itself x (z ∷ zs) (new, rest) (inl (q, m)) = new (rw q at m)
   before_itself x (z ∷ zs) (new, rest) (inr b) = before_itself x zs rest b
 
   pub before_through : (x y w : A) (zs : List A) → Distinct zs → Before x y zs → Before y w zs → Before x w zs
+  before_through x y w [] _ x5 _ = elim x5 [ ]
   before_through x y w (z ∷ zs) (new, rest) (inl (q, m)) (inl (r, k)) = inl (q, k)
   before_through x y w (z ∷ zs) (new, rest) (inl (q, m)) (inr c) = inl (q, (before_members y w zs c).1)
   before_through x y w (z ∷ zs) (new, rest) (inr b) (inl (r, k)) = absurd (new (rw r at (before_members x y zs b).1))
@@ -41,11 +45,13 @@ module _ {A : Type 0} where
 
   -- a member of the first of two parts stands before one of the second
   pub before_across : {x y : A} (xs ys : List A) → Mem x xs → Mem y ys → Before x y (xs ++ ys)
+  before_across {y = y} [] ys x3 k = elim x3 [ ]
   before_across (z ∷ zs) ys (Memᴰ.head q) k = inl (q, Memᴰ.append_right zs k)
   before_across (z ∷ zs) ys (Memᴰ.tail m) k = inr (before_across zs ys m k)
 
   -- members of one part stand as they do there
   pub before_left : (x y : A) (xs ys : List A) → Before x y xs → Before x y (xs ++ ys)
+  before_left x y [] ys x'' = elim x'' [ ]
   before_left x y (z ∷ zs) ys (inl (q, m)) = inl (q, Memᴰ.append_left ys m)
   before_left x y (z ∷ zs) ys (inr b) = inr (before_left x y zs ys b)
 
@@ -101,6 +107,7 @@ module _ {A : Type 0} where
 
     -- in order exactly if no member has more than one behind it
     pub ascending_before : (x y : A) (zs : List A) → Ascending f zs → Before x y zs → f x ≤ f y
+    ascending_before x y [] _ x4 = elim x4 [ ]
     ascending_before x y (z ∷ zs) (first, rest) (inl (q, m)) = rw q (first y m)
     ascending_before x y (z ∷ zs) (first, rest) (inr b) = ascending_before x y zs rest b
 
@@ -122,11 +129,13 @@ module _ {A : Type 0} where
 
     -- the first member has the least
     pub head_least : (d : A) (xs : List A) → Ascending f xs → (y : A) → Mem y xs → f (head_or d xs) ≤ f y
+    head_least d [] _ y x3 = elim x3 [ ]
     head_least d (x ∷ xs) (first, rest) y (Memᴰ.head q) = rw q (omega arith)
     head_least d (x ∷ xs) (first, rest) y (Memᴰ.tail k) = first y k
 
     -- the first member that has n or more has the least of those that do
     pub first_least : (n : ℕ) (d : A) (xs : List A) → Ascending f xs → (y : A) → Mem y xs → n ≤ f y → f (head_or d (keep (λ x. leb n (f x)) xs)) ≤ f y
+    first_least n d [] _ y m l = elim m [ ]
     first_least n d (x ∷ xs) (first, rest) y m l = go (leb n (f x)) refl m (λ k. first_least n d xs rest y k l)
       where
         go : (t : Bool) → leb n (f x) ≡ t → Mem y (x ∷ xs) → (Mem y xs → f (head_or d (keep (λ z. leb n (f z)) xs)) ≤ f y)
@@ -168,15 +177,17 @@ module _ {A : Type 0} where
         go false e = e
 
     pub before_first : (l : List A) {x : A} → Mem x (up_to q l) → q x ≡ false
+    before_first [] {x = x} m = elim m [ ]
     before_first (y ∷ ys) {x} m = go (q y) refl m (λ k. before_first ys k)
       where
         go : (t : Bool) → q y ≡ t → Mem x (cond t [] (y ∷ up_to q ys)) → (Mem x (up_to q ys) → q x ≡ false) → q x ≡ false
-        go true e k f = absurd (Memᴰ.not_nil k)
+        go true e k f = absurd (Memᴰ.not-nil k)
         go false e (Memᴰ.head p) f = ap q p ∙ e
         go false e (Memᴰ.tail k) f = f k
 
     -- the test holds of the first of the second part; the others stand behind that one
     pub from_first : (l : List A) {x : A} → Mem x (on_from q l) → (q x ≡ true) ⊎ ((y : A) × (q y ≡ true) × Before y x (on_from q l))
+    from_first [] {x = x} m = elim m [ ]
     from_first (y ∷ ys) {x} m = go (q y) refl m (λ k. from_first ys k)
       where
         go : (t : Bool) → q y ≡ t → Mem x (cond t (y ∷ ys) (on_from q ys))

@@ -56,7 +56,7 @@ module _ (lists : ℕ → List ℕ) where
       omega (arith, length-append (lists i) (gathered lists is))
 
   pub gathered_from : (n b : ℕ) {c : ℕ} → Mem c (gathered lists (numbers_from b n)) → (i : ℕ) × ((b ≤ i) × (i < b + n)) × Mem c (lists i)
-  gathered_from zero b m = absurd (Memᴰ.not_nil m)
+  gathered_from zero b m = absurd (Memᴰ.not-nil m)
   gathered_from (suc n) b {c} m = go (λ k. gathered_from n (suc b) k) (Memᴰ.append_cases (lists b) m)
     where
       go : (Mem c (gathered lists (numbers_from (suc b) n)) → (i : ℕ) × ((suc b ≤ i) × (i < suc b + n)) × Mem c (lists i))

@@ -97,13 +97,13 @@ each_cons here rest y (Memᴰ.tail m) = rest y m
 module _ {A : Type 0} {P : A → Type 0} {p : A → Bool} where
   -- a test holds of every member
   pub for_each : ((x : A) → Decides (p x) (P x)) → (xs : List A) → Decides (every p xs) ((x : A) → Mem x xs → P x)
-  for_each d [] = (λ h x m. absurd (Memᴰ.not_nil m), λ f. refl)
+  for_each d [] = (λ h x m. absurd (Memᴰ.not-nil m), λ f. refl)
   for_each d (x ∷ xs) =
       meaning (both (d x) (for_each d xs)) (λ h. each_cons h.0 h.1) (λ f. (f x (Memᴰ.head refl), λ y m. f y (Memᴰ.tail m)))
 
   -- a test holds of some member
   pub for_some : ((x : A) → Decides (p x) (P x)) → (xs : List A) → Decides (any p xs) ((x : A) × Mem x xs × P x)
-  for_some d [] = (λ h. absurd (false≢true h), λ f. absurd (Memᴰ.not_nil f.1))
+  for_some d [] = (λ h. absurd (false≢true h), λ f. absurd (Memᴰ.not-nil f.1))
   for_some d (x ∷ xs) = go (p x) (d x) (for_some d xs)
     where
       found : (y : A) → Mem y (x ∷ xs) → P y → P x ⊎ ((z : A) × Mem z xs × P z)
@@ -158,7 +158,7 @@ pub zeros_from : (n : ℕ) (l : List ℕ)
 zeros_from n [] = meaning (for_each (λ v. number_is v 0) (drop n [])) (λ f i h. refl) (λ f v m. none m)
   where
     none : {v : ℕ} → Mem v (drop n []) → v ≡ 0
-    none m = absurd (Memᴰ.not_nil (rw drop-nil at m))
+    none m = absurd (Memᴰ.not-nil (rw drop-nil at m))
 zeros_from zero (v ∷ l) =
     meaning (both (number_is v 0) (zeros_from 0 l)) (λ h. at h.0 h.1)
     (λ f. (f 0 (omega arith), λ i h. f (suc i) (omega arith)))

@@ -59,7 +59,7 @@ pub record DistinctParts (xs ys : List ℕ) : Type 0 where
   pub none : (d : ℕ) → Mem d xs → Mem d ys → ⊥
 
 pub distinct_parts : (xs ys : List ℕ) → Distinct (xs ++ ys) → DistinctParts xs ys
-distinct_parts [] ys u = record { left = tt; right = u; none = λ d m k. Memᴰ.not_nil m }
+distinct_parts [] ys u = record { left = tt; right = u; none = λ d m k. Memᴰ.not-nil m }
 distinct_parts (x ∷ xs) ys (new, rest) =
     let r = distinct_parts xs ys rest in
     record {
@@ -86,7 +86,7 @@ distinct_joined (x ∷ xs) ys a = (
 -- the members that a test keeps
 module _ {A : Type 0} (p : A → Bool) where
   pub kept_from : (xs : List A) {x : A} → Mem x (keep p xs) → Mem x xs × (p x ≡ true)
-  kept_from [] m = absurd (Memᴰ.not_nil m)
+  kept_from [] m = absurd (Memᴰ.not-nil m)
   kept_from (y ∷ ys) {x} m = go (p y) refl m (λ k. kept_from ys k)
     where
       go : (t : Bool) → p y ≡ t → Mem x (cond t (y ∷ keep p ys) (keep p ys)) → (Mem x (keep p ys) → Mem x ys × (p x ≡ true))
@@ -95,9 +95,9 @@ module _ {A : Type 0} (p : A → Bool) where
       go true e (Memᴰ.tail k) f = let (m, holds) = f k in (Memᴰ.tail m, holds)
       go false e k f = let (m, holds) = f k in (Memᴰ.tail m, holds)
 
-  pub kept_has : {xs : List A} {x : A} → Mem x xs → p x ≡ true → Mem x (keep p xs)
+  pub kept_has : {x : A} {xs : List A} → Mem x xs → p x ≡ true → Mem x (keep p xs)
   kept_has {x = x} (Memᴰ.head {x = y} {xs = ys} q) h = rw (sym (ap p q) ∙ h) (Memᴰ.head q)
-  kept_has {x = x} (Memᴰ.tail {x = y} {xs = ys} m) h = go (p y) (kept_has m h)
+  kept_has {x = x} (Memᴰ.tail {x = y} {xs = ys} m) h = go (p y) (kept_has {x = x} {xs = ys} m h)
     where
       go : (t : Bool) → Mem x (keep p ys) → Mem x (cond t (y ∷ keep p ys) (keep p ys))
       go true k = Memᴰ.tail k

@@ -69,16 +69,16 @@ module _ {A : Type 0} (q : A → Bool) where
 
   -- the members before and after it are members of the list
   pub before_from : (l : List A) {d : A} → Mem d (up_to q l) → Mem d l
-  before_from [] m = absurd (Memᴰ.not_nil m)
+  before_from [] m = absurd (Memᴰ.not-nil m)
   before_from (x ∷ xs) {d} m = go (q x) m (λ k. before_from xs k)
     where
       go : (t : Bool) → Mem d (cond t [] (x ∷ up_to q xs)) → (Mem d (up_to q xs) → Mem d xs) → Mem d (x ∷ xs)
-      go true k f = absurd (Memᴰ.not_nil k)
+      go true k f = absurd (Memᴰ.not-nil k)
       go false (Memᴰ.head e) f = Memᴰ.head e
       go false (Memᴰ.tail k) f = Memᴰ.tail (f k)
 
   pub after_from : (l : List A) {d : A} → Mem d (past q l) → Mem d l
-  after_from [] m = absurd (Memᴰ.not_nil m)
+  after_from [] m = absurd (Memᴰ.not-nil m)
   after_from (x ∷ xs) {d} m = go (q x) m (λ k. after_from xs k)
     where
       go : (t : Bool) → Mem d (cond t xs (past q xs)) → (Mem d (past q xs) → Mem d xs) → Mem d (x ∷ xs)

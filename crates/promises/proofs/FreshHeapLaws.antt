@@ -46,7 +46,7 @@ module _ {ws table : List ℕ} {donor : ℕ} {merge : Bool} {left : Left} (f : F
       each_cons (at_start (entry 0 8 1) refl) (go t)
     where
       above : (e : Entry) → Mem e (top ∷ end ∷ []) → NotLive e
-      above = each_cons (free_not_live_lem left.heap top unused) (each_cons (at_end end last) (λ e m. absurd (Memᴰ.not_nil m)))
+      above = each_cons (free_not_live_lem left.heap top unused) (each_cons (at_end end last) (λ e m. absurd (Memᴰ.not-nil m)))
 
       go : (t : Bool) → (e : Entry) → Mem e (cond t [] (d ∷ []) ++ top ∷ end ∷ []) → NotLive e
       go true = above

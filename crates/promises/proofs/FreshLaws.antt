@@ -40,7 +40,7 @@ zero_past t n i l =
 
 -- P holds of every member of the empty list
 no_more : (P : Entry → Type 0) (e : Entry) → Mem e [] → P e
-no_more P e m = absurd (Memᴰ.not_nil m)
+no_more P e m = absurd (Memᴰ.not-nil m)
 
 -- where no chunk is live no bytes are used
 none_used : (h : Heap) (es : List Entry) → ((e : Entry) → Mem e es → live h e ≡ false) → used_bytes h es ≡ 0
@@ -106,8 +106,8 @@ module _ (ws table : List ℕ) (merge : Bool) (valid : ValidTable table) (enough
           tail = zero_at 32 i;
           links = tt;
           once = tt;
-          chunks = λ c m. absurd (Memᴰ.not_nil m);
-          words = λ c m. absurd (Memᴰ.not_nil m);
+          chunks = λ c m. absurd (Memᴰ.not-nil m);
+          words = λ c m. absurd (Memᴰ.not-nil m);
           order = λ large. tt;
         })
 

@@ -70,7 +70,7 @@ module _ (B : Refusal → Type 0) (h : Heap) (o : Outcome) (accepted : Accepted 
   -- the refusal that is given is the first whose reason holds
   pub judged_first : (n : ℕ) (ts : Refusals) → OrderRises n ts → Stands B ts → Decided B ts
       → (r : Refusal) → ((judged h ts o).answer ≡ Refused r) ↔ IsFirst B r
-  judged_first n [] u s d r = (λ e. absurd (accepted r e), λ f. absurd (Memᴰ.not_nil (s r f.0)))
+  judged_first n [] u s d r = (λ e. absurd (accepted r e), λ f. absurd (Memᴰ.not-nil (s r f.0)))
   judged_first n ((true, x) ∷ ts) u s (decides, _) r =
       let b = decides.0 refl in (
         λ e. let q : r ≡ x = cc in rw q (b, λ y l k. lower y l (s y k)),

@@ -474,7 +474,7 @@ module _ (ws : List ℕ) (h : Heap) (p : Passes ws h) where
       }
     where
       none_in : (i c : ℕ) → Mem c (list_of (state_left ws h (opened (heap_bytes (length ws)) table donor merge)) i) → ⊥
-      none_in i c m = Memᴰ.not_nil (rw (zero_at 32 i, read_none) at m)
+      none_in i c m = Memᴰ.not-nil (rw (zero_at 32 i, read_none) at m)
 
   -- a call that changes nothing
   told_placed : (a : Answer) → Placed before (state_left ws h (unchanged h a))

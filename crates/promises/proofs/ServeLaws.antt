@@ -38,7 +38,7 @@ use Rattle.promises.specs.Room.{NoneServes}
 
 -- a try that takes the first of a list fails only if the list is empty
 list_fails : (cs : List ℕ) → ((c : ℕ) → Mem c cs → 0 < c) → Fails (from_bin (head_or 0 cs)) → {c : ℕ} → Mem c cs → ⊥
-list_fails [] some f m = Memᴰ.not_nil m
+list_fails [] some f m = Memᴰ.not-nil m
 list_fails (d ∷ cs) some f m =
     let l = some d (Memᴰ.head refl) in
     false≢true (rw (ne_eqb d 0 (omega arith)) at f)

@@ -73,7 +73,7 @@ module _ (way : Way) (promised : Telling way) (ws : List ℕ) (h : Heap) (p : Pa
     where
       bin_zero : (c : ℕ) → Mem c (bin_list ws h 0) → Dec (0 < h.bins) → of_chunk way ws h 1 c ≡ Told 0
       bin_zero c m (yes l) = (promised ws h p).bin 0 c l m
-      bin_zero c m (no n) = absurd (Memᴰ.not_nil (rw (list_none ws h p 0 (omega arith)) at m))
+      bin_zero c m (no n) = absurd (Memᴰ.not-nil (rw (list_none ws h p 0 (omega arith)) at m))
 
 pub zero_follows : (way : Way) → Telling way → Zero way
 zero_follows = zero_at

@@ -85,8 +85,8 @@ shape_chain ws bytes = rw (shape_is ws bytes) (chain_by ws bytes (Chain ws bytes
           has_first = Memᴰ.head refl;
           has_last = λ d. Memᴰ.head refl;
           rising = (omega arith, tt);
-          flags = each_cons refl (λ e m. absurd (Memᴰ.not_nil m));
-          inside = λ l. each_cons l (λ e m. absurd (Memᴰ.not_nil m));
+          flags = each_cons refl (λ e m. absurd (Memᴰ.not-nil m));
+          inside = λ l. each_cons l (λ e m. absurd (Memᴰ.not-nil m));
         }
 
     more : (c : ℕ) (es : List Entry) → Up ws bytes c → Chain ws bytes (word ws c forward) es → Chain ws bytes c (up_entry ws bytes c ∷ es)

@@ -175,7 +175,7 @@ module _ (ws : List ℕ) (h : Heap) (p : Passes ws h) where
   pub ends : Ends h es
   ends =
       let c = shape_chain ws h.bytes in
-      let some : es ≡ [] → ⊥ = λ z. Memᴰ.not_nil (rw z at (c.has_last outside)) in
+      let some : es ≡ [] → ⊥ = λ z. Memᴰ.not-nil (rw z at (c.has_last outside)) in
       let l = inside _ (c.has_last outside) in
       let r = p.chain.reaches_end in
       record {

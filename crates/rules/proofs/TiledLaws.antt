@@ -117,7 +117,7 @@ chain_tiled ws bytes = rw (shape_is ws bytes) (chain_by ws bytes (TiledFrom ws b
     last : (c : ℕ) → (Up ws bytes c → ⊥) → TiledFrom ws bytes c (last_entry ws bytes c ∷ [])
     last c n l = (
       (refl, omega arith, omega arith),
-      each_cons (λ k. absurd (omega arith)) (λ e m. absurd (Memᴰ.not_nil m)),
+      each_cons (λ k. absurd (omega arith)) (λ e m. absurd (Memᴰ.not-nil m)),
     )
 
     more : (c : ℕ) (es : List Entry) → Up ws bytes c → TiledFrom ws bytes (word ws c forward) es → TiledFrom ws bytes c (up_entry ws bytes c ∷ es)
