@@ -2,6 +2,8 @@
 // What a call does is in the crate heap, and how words say a record in flat. The check and the patrol are called in crates of their own
 // (audit, patrol), since they need not have the record whole. The record's words are called `state` here: `record` is a word of the
 // language of the proofs.
+#![tactic(auto)]
+
 ghost use Rattle.std.specs.Prelude.{◌≡◌};
 ghost use Rattle.abi.specs.Flat.{record_in};
 ghost use Rattle.abi.specs.Handed.{handed, handed_by, opened_by, patrolled_by};

@@ -1,5 +1,7 @@
 // The questions about a chunk and about a bin. That the heap passes the check is not asked here.
 // A chunk is found on the chain; nothing is written.
+#![tactic(auto)]
+
 ghost use Rattle.std.specs.Prelude.{◌≡◌, length};
 ghost use Rattle.record.specs.Table.{ValidTable};
 ghost use Rattle.rules.specs.Kinds.{is_at};

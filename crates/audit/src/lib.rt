@@ -1,5 +1,7 @@
 // The check, in time linear in the chunks: one walk of the chain that marks each ordinary chunk, one walk of each
 // bin's list that reads the marks. Nothing is written into the region.
+#![tactic(auto)]
+
 ghost use Rattle.std.specs.Prelude.{◌&&◌, ◌≡◌};
 ghost use Rattle.audit.specs.Audit.{answer_of, is_settled_m, is_shared_m, is_tabled_m, HasPlaces, WalkedIs, LookIs};
 ghost use Rattle.chain.specs.Length.{Lent};
@@ -20,7 +22,7 @@ use sweep::{Sweep, sweep_bins};
 // The bytes of start and end.
 const ENDS: u64 = 2 * END_SIZE as u64;
 
-#[derive(Drop)]
+#[derive(Clone, Copy)]
 pub enum Audit {
     Passes(Counts),
     Fails,

@@ -1,6 +1,8 @@
 // The bins' free lists, which are doubly linked: leaving one, finding a place in one and putting a chunk there, first fit, the next bin that is
 // not empty.
 // Head and tail of a bin stand in two slices, the links in the region. Which bin a chunk belongs in is not known here.
+#![tactic(auto)]
+
 ghost use Rattle.std.specs.Prelude.{◌≡◌, ◌*◌, ◌%◌, slice_index, slice_set};
 ghost use Rattle.books.specs.Books.{books};
 ghost use Rattle.bins.specs.Bins.{side, link_m, leave_m, put_m, first_fit_m, next_occupied_m, member_before_m, slot_m, steps};
@@ -12,7 +14,7 @@ use region::{BIN, BIN_FACTOR, Chunk, MOST_WORDS, NEXT_IN_BIN, PREVIOUS_IN_BIN, S
 const STEPS: u32 = MOST_WORDS as u32 / 2;
 
 // A place in a bin's list: between the chunks at `before` and at `after`, or 0 where the list ends.
-#[derive(Drop)]
+#[derive(Clone, Copy)]
 pub struct Slot {
     pub bin: usize,
     pub before: u32,

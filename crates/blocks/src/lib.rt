@@ -1,4 +1,6 @@
 // The words of a block: set to 0, or copied to the beginning of another block. Which blocks are live is not known here.
+#![tactic(auto)]
+
 ghost use Rattle.std.specs.Prelude.{◌≡◌, ◌-◌, length, replicate};
 ghost use Rattle.blocks.specs.Blocks.{cleared_m, copied_m};
 

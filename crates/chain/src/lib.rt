@@ -1,5 +1,7 @@
 // Reading the chain: the kind of a chunk, and where it ends. That the region is as long as it should be is in `length`.
 // Nothing is written here, and no bin is looked at.
+#![tactic(auto)]
+
 ghost use Rattle.std.specs.Prelude.{ℕ, ◌≡◌};
 ghost use Rattle.chain.specs.Chain.{end_m, kind_m};
 ghost use Rattle.rules.specs.Kinds.{free_kind, ordinary_kind};

@@ -1,5 +1,7 @@
 // The demonstration: a heap of 64 words, nine calls, and then the heap as it stands, chunk by chunk.
 // What is printed is asked of the heap by its public calls alone.
+#![tactic(auto)]
+
 use io::{print_decimal, write_all};
 use record::answers::Answer;
 use record::heap::Heap;

@@ -1,5 +1,7 @@
 // What one chunk tells: of itself and its neighbours on the chain, and as a member of its bin; a value, or that there is none.
 // Where the chunk is was found on the chain before. Nothing is written.
+#![tactic(auto)]
+
 ghost use Rattle.std.specs.Prelude.{◌≡◌};
 ghost use Rattle.details.specs.Details.{asks_of_bin_m, bin_told_m, link_told_m, of_chunk_m, of_member_m, of_place_m};
 ghost use Rattle.record.specs.Table.{ValidTable};

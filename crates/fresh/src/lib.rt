@@ -1,5 +1,7 @@
 // The headers of a fresh heap: start, donor if there is one, top and end. Every store falls into the region or is dropped.
 // Whether the sizes fit the region is asked before. The record of a fresh heap is in `first_record`.
+#![tactic(auto)]
+
 ghost use Rattle.std.specs.Prelude.{◌≡◌};
 ghost use Rattle.region.specs.Words.{written};
 ghost use Rattle.fresh.specs.FirstHeaders.{start_words, end_words, words_without_donor, words_with_donor, first_words};

@@ -12,7 +12,7 @@ use region::{ALIGNMENT, BACKWARD, Chunk, FORWARD, LEAST, SIZE, word};
 use settling::{Arrival, leave_bin, settle};
 
 // The granted part is from `chunk` to `rest`, what is left of it from `rest` to `end`; the chunk below it, and the flags of the one above.
-#[derive(Drop)]
+#[derive(Clone, Copy)]
 pub struct Cut {
     pub below: Chunk,
     pub chunk: Chunk,

@@ -16,14 +16,14 @@ use region::Chunk;
 use settling::settled;
 
 // What is asked for: so many bytes, from the source that was chosen.
-#[derive(Drop)]
+#[derive(Clone, Copy)]
 pub struct Order {
     pub source: Source,
     pub need: u32,
 }
 
 // The granted chunk, and the summary after the grant.
-#[derive(Drop)]
+#[derive(Clone, Copy)]
 pub struct Portion {
     pub chunk: Chunk,
     pub size: u32,

@@ -1,5 +1,7 @@
 // The words of a header, written together: a chunk in use, a free chunk, one that is in no bin, and the link of the chunk above.
 // Every store falls into the region or is dropped; which chunks are where is not known here.
+#![tactic(auto)]
+
 ghost use Rattle.std.specs.Prelude.{◌≡◌, ◌-◌};
 ghost use Rattle.headers.specs.Headers.{above_words, free_words, used_words};
 ghost use Rattle.region.specs.Words.{written};

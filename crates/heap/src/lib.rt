@@ -1,5 +1,7 @@
 // The public calls: each takes the region and the record, and hands the record back beside its answer.
 // Each asks the check first; setup and the patrol do not. How chunks are found, joined and written is in the layers below.
+#![tactic(auto)]
+
 ghost use Rattle.rules.specs.Allocate.{allocate_with};
 ghost use Rattle.rules.specs.Statements.{Allocates, AllocatesCleared, AsksBin, AsksChunk, Checks, Frees, Meets, Patrols, Reallocates, SetsMerge, SetsUp};
 ghost use Rattle.supply.specs.Supply.{fill_stores};

@@ -1,1 +1,2 @@
 // No code: the list vocabulary of the rules (specs/) and its laws (proofs/).
+#![tactic(auto)]

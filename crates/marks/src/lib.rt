@@ -1,5 +1,7 @@
 // The bitmap of chunks: a mark for each multiple of 8, one bit of a word of 32 bits.
 // What a mark means is not known here.
+#![tactic(auto)]
+
 ghost use Rattle.std.specs.Prelude.{◌*◌, ◌/◌, ◌<◌, length, ◌≡◌};
 ghost use Rattle.marks.specs.Marks.{marked, flipped, number_m};
 

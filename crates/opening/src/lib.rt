@@ -1,5 +1,7 @@
 // Setup on any region: the refusals in their order, and an accepted setup's headers and record put together.
 // The words of the headers and the record are in the crate `fresh`.
+#![tactic(auto)]
+
 ghost use Rattle.std.specs.Prelude.{◌≡◌};
 ghost use Rattle.opening.specs.Opening.{refused_m};
 ghost use Rattle.rules.specs.Setup.{donor_fits};

@@ -1,6 +1,8 @@
 // The patrol: a run handles a number of chunks from a place on, and mends their links and free sizes. It needs no heap that passes:
 // every link is tested before it is followed, and nothing outside the region is read or written.
 // What the record is besides the heap bytes and the patrol's place is not known here.
+#![tactic(auto)]
+
 ghost use Rattle.std.specs.Prelude.{◌≡◌};
 ghost use Rattle.patrol.specs.Tours.{can_begin_m, refused_tour, Tours};
 ghost use Rattle.patrol.specs.Walks.{run_m, walked};
@@ -17,7 +19,7 @@ pub mod skim;
 pub mod walks;
 
 // What a run leaves beside the words: its answer, and the patrol's place.
-#[derive(Drop)]
+#[derive(Clone, Copy)]
 pub struct Toured {
     pub answer: Answer,
     pub place: Chunk,

@@ -7,7 +7,7 @@ use headers::distance;
 use region::{ALIGNMENT, Chunk, END_SIZE, LEAST, Links, SIZE, links_of, word};
 
 // Where a run goes on, and how many of its chunks remain.
-#[derive(Drop)]
+#[derive(Clone, Copy)]
 pub struct Skimmed {
     pub chunk: Chunk,
     pub left: u32,

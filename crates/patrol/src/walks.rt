@@ -9,7 +9,7 @@ use crate::links::{back_of, is_broken, is_near};
 use crate::mend::handle;
 use region::{Chunk, FORWARD, word};
 
-#[derive(Drop)]
+#[derive(Clone, Copy)]
 pub enum Verdict {
     // the run's chunks are used up, and the next run begins here
     Paused(Chunk),

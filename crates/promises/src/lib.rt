@@ -1,1 +1,2 @@
 // No code: what the rules promise of every call (specs/), proved of the rules (proofs/).
+#![tactic(auto)]

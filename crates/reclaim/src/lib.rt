@@ -1,5 +1,7 @@
 // The chunk of a live block is freed, on a heap that passed the check. Where it is was found on the chain before.
 // The bins' ends are lent, and the summary is handed back beside the answer: the caller sets the record.
+#![tactic(auto)]
+
 ghost use Rattle.std.specs.Prelude.{◌≡◌};
 ghost use Rattle.books.specs.Books.{books};
 ghost use Rattle.reclaim.specs.Reclaim.{reclaim_m};

@@ -6,7 +6,7 @@ ghost use Rattle.record.specs.Answers.{number_of};
 use crate::heap::Heap;
 use region::Block;
 
-#[derive(Drop)]
+#[derive(Clone, Copy)]
 pub enum Refusal {
     RegionLength,
     BadTable,
@@ -21,7 +21,7 @@ pub enum Refusal {
 }
 
 // The check's four figures.
-#[derive(Drop)]
+#[derive(Clone, Copy)]
 pub struct Counts {
     pub chunks: u32,
     pub ordinary: u32,
@@ -29,7 +29,7 @@ pub struct Counts {
     pub free: u32,
 }
 
-#[derive(Drop)]
+#[derive(Clone, Copy)]
 pub enum Answer {
     Done,
     Granted(Block, i32),
@@ -42,7 +42,7 @@ pub enum Answer {
 }
 
 // What a call returns: its answer beside the record that it hands back.
-#[derive(Drop)]
+#[derive(Clone, Copy)]
 pub struct Reply {
     pub answer: Answer,
     pub heap: Heap,

@@ -8,7 +8,7 @@ use region::Chunk;
 // A record has places for this many bins, in its table, heads and tails.
 pub const PLACES: usize = 32;
 
-#[derive(Drop)]
+#[derive(Clone, Copy)]
 pub struct Heap {
     pub bytes: u32,
     pub bins: u32,
@@ -24,7 +24,7 @@ pub struct Heap {
 }
 
 // The scalars of the record: what a function below the public calls is handed, beside the arrays that it uses.
-#[derive(Drop)]
+#[derive(Clone, Copy)]
 pub struct Summary {
     pub bytes: u32,
     pub bins: u32,

@@ -1,7 +1,7 @@
 // From where a need is met. Which source is chosen is in the rules.
 use region::Chunk;
 
-#[derive(Drop)]
+#[derive(Clone, Copy)]
 pub enum Source {
     FromBin(Chunk),
     FromDonor,

@@ -14,7 +14,7 @@ const SECOND: usize = LEAST as usize + STEP;
 const FIRST_EIGHTS: usize = LEAST as usize / STEP;
 
 // The bin of a size, or none where every bin is for larger ones.
-#[derive(Drop)]
+#[derive(Clone, Copy)]
 pub enum Binned {
     Bin(usize),
     NoBin,

@@ -1,6 +1,6 @@
 -- Words after a store, and after a run of stores. Assumes nothing.
 -- All are stated by a chunk's place and a word's number: what is asked of two words is that their indices differ.
-use mathlib.Core.Path.{◌≡◌, refl, ◌∙◌}
+use mathlib.Core.Path.{◌≡◌, refl, ◌∙◌, subst}
 use mathlib.Core.Logic.{◌≢◌}
 use mathlib.Core.List.{List, [], ◌∷◌, ◌++◌}
 use Prim.Native.Nat.{ℕ, zero, suc, ◌+◌, ◌/◌, ◌<◌}
@@ -67,4 +67,4 @@ pub got : (i : ℕ) (ss : List Store) (ws : List ℕ) → Got (written ws ss) (l
 got i [] ws = tt
 got zero (s ∷ ss) ws =
     λ h o. off ss _ s.chunk s.number o ∙ word_same ws s.chunk s.number s.value h
-got (suc i) (s ∷ ss) ws = rw (← length_store ws s.chunk s.number s.value) (got i ss _)
+got (suc i) (s ∷ ss) ws = subst (λ (n : ℕ). Got (written ws (s ∷ ss)) n i ss) (length_store ws s.chunk s.number s.value) (got i ss _)

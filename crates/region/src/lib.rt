@@ -1,14 +1,16 @@
 // The lent region: places of chunks and of blocks, and the words of a chunk's header.
 // What the words mean (links, flags, sizes) is not known here.
+#![tactic(auto)]
+
 ghost use Rattle.std.specs.Prelude.{◌≡◌};
 ghost use Rattle.region.specs.Places.{block_at, chunk_at};
 ghost use Rattle.region.specs.Words.{backward, forward, word, store};
 
 // A chunk's place and a block's place, both byte offsets: eight bytes apart, and never mixed, since each has a type of its own.
-#[derive(Drop)]
+#[derive(Clone, Copy)]
 pub struct Chunk(pub u32);
 
-#[derive(Drop)]
+#[derive(Clone, Copy)]
 pub struct Block(pub u32);
 
 // The words of a header by number. A chunk in use has the first two alone.
@@ -84,7 +86,7 @@ pub fn word(region: &[u32], chunk: Chunk, number: u32) -> u32
 }
 
 // The two words that every chunk has.
-#[derive(Drop)]
+#[derive(Clone, Copy)]
 pub struct Links {
     pub forward: u32,
     pub backward: u32,

@@ -1,5 +1,7 @@
 // A chunk is given back: which free neighbours it coalesces with, and then the writes that put the result in its place.
 // All is decided before the first write. How the chunk was found is not known here; the summary is made in `give`.
+#![tactic(auto)]
+
 ghost use Rattle.std.specs.Prelude.{◌≡◌, cond};
 ghost use Rattle.books.specs.Books.{books};
 ghost use Rattle.record.specs.Table.{ValidTable};
@@ -20,7 +22,7 @@ pub mod give;
 
 // The free chunk that comes of it, from `chunk` to `end`, with the chunk below it and the flags of the one above. `lower` and `upper`
 // say that an ordinary chunk joined on that side: it has a bin to leave.
-#[derive(Drop)]
+#[derive(Clone, Copy)]
 pub struct Union {
     pub below: Chunk,
     pub chunk: Chunk,

@@ -1,5 +1,7 @@
 // What a call hands back: a refusal with the record as it came, and the change in used bytes, a signed difference of two sizes.
 // A function below the calls that is lent the bins' ends hands back an answer and a summary, and the call sets the record.
+#![tactic(auto)]
+
 ghost use Rattle.std.specs.Prelude.{◌≡◌};
 ghost use Rattle.replies.specs.Replies.{change_m, refused_reply};
 
@@ -7,7 +9,7 @@ use record::answers::{Answer, Refusal, Reply};
 use record::heap::{Heap, Summary};
 use region::LARGEST_HEAP;
 
-#[derive(Drop)]
+#[derive(Clone, Copy)]
 pub struct Answered {
     pub answer: Answer,
     pub summary: Summary,

@@ -1,5 +1,7 @@
 // A live block gets another size: its chunk keeps the need and gives the tail back, or the block moves, or nothing changes.
 // The block was found on the chain before.
+#![tactic(auto)]
+
 ghost use Rattle.std.specs.Prelude.{◌≡◌};
 ghost use Rattle.record.specs.Table.{ValidTable};
 ghost use Rattle.resize.specs.Resize.{move_m, reread_m, resize_m, shrink_m};

@@ -1,6 +1,8 @@
 // A chunk, or the chunk of a live block, is found by a walk of the chain from the start. A place that a caller hands in is
 // compared with the chunks on the chain; the words beside it are not read, so that a double free is found out.
 // Nothing is written here, and no bin is looked at.
+#![tactic(auto)]
+
 ghost use Rattle.std.specs.Prelude.{◌≡◌};
 ghost use Rattle.rules.specs.Kinds.{is_at};
 ghost use Rattle.rules.specs.Shape.{shape};
@@ -10,7 +12,7 @@ use chain::end_of;
 use region::{ALIGNMENT, BACKWARD, Block, Chunk, END_SIZE, FORWARD, chunk_of, word};
 
 // A chunk as the walk meets it. The start has no chunk below it, and 0 is given.
-#[derive(Drop)]
+#[derive(Clone, Copy)]
 pub struct Place {
     pub before: Chunk,
     pub chunk: Chunk,
@@ -18,7 +20,7 @@ pub struct Place {
     pub flags: u32,
 }
 
-#[derive(Drop)]
+#[derive(Clone, Copy)]
 pub enum Sought {
     Found(Place),
     NotFound,

@@ -1,5 +1,7 @@
 // A free chunk leaves its place or takes it: in the bin of its size, or out of bins as the donor or the top.
 // Whether it was cut or joined is not known here.
+#![tactic(auto)]
+
 ghost use Rattle.std.specs.Prelude.{◌≡◌};
 ghost use Rattle.books.specs.Books.{books};
 ghost use Rattle.record.specs.Table.{ValidTable};
@@ -14,7 +16,7 @@ use record::table::{Binned, bin_of, in_small_array};
 use region::Chunk;
 
 // A free chunk that takes its place: what it becomes, where it starts, and its size.
-#[derive(Drop)]
+#[derive(Clone, Copy)]
 pub struct Arrival {
     pub becomes: Kind,
     pub chunk: Chunk,

@@ -1,5 +1,7 @@
 // A block is granted, or refused for room, on a heap that passed the check: its room is chosen and cut, and the block is cleared or
 // left as found. The bins' ends are lent, and the summary is handed back beside the answer: the caller sets the record.
+#![tactic(auto)]
+
 ghost use Rattle.std.specs.Prelude.{◌≡◌};
 ghost use Rattle.books.specs.Books.{books};
 ghost use Rattle.record.specs.Table.{ValidTable};
@@ -15,7 +17,7 @@ use region::{Chunk, block_of};
 use replies::{Answered, change};
 
 // A chunk of so many bytes, its block cleared or as found.
-#[derive(Drop)]
+#[derive(Clone, Copy)]
 pub struct Want {
     pub need: u32,
     pub clears: bool,

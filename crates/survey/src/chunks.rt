@@ -10,7 +10,7 @@ use record::kinds::Kind;
 use region::{ALIGNMENT, BIN, Chunk, END_SIZE, IN_USE, LEAST, NEXT_IN_BIN, PREVIOUS_IN_BIN, SIZE};
 
 // A chunk as the walk meets it: the chunk before it, its place, its forward link, and its second word, the backward link with the flags.
-#[derive(Drop)]
+#[derive(Clone, Copy)]
 pub struct Visit {
     pub before: Chunk,
     pub chunk: Chunk,
@@ -83,7 +83,7 @@ pub fn is_top(region: &[u32], summary: Summary, chunk: Chunk, next: u32) -> bool
 }
 
 // What a look at a chunk finds: its kind, or that something is wrong.
-#[derive(Drop)]
+#[derive(Clone, Copy)]
 pub enum Seen {
     Sound(Kind),
     Unsound,

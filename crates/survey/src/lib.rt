@@ -1,5 +1,7 @@
 // The walk of the chain: every chunk is examined, counted and, if it is ordinary, marked.
 // The lists of the bins are walked afterwards, in the crate `sweep`.
+#![tactic(auto)]
+
 ghost use Rattle.std.specs.Prelude.{◌≡◌, ◌+◌, ◌/◌, ◌<◌, length};
 ghost use Rattle.chain.specs.Length.{Lent};
 ghost use Rattle.survey.specs.Chunks.{WellPlaced, is_first_m, visited_in};
@@ -16,7 +18,7 @@ use region::{BACKWARD, Chunk, END_SIZE, FORWARD, IN_USE};
 pub mod chunks;
 
 // What one chunk adds to each count.
-#[derive(Drop)]
+#[derive(Clone, Copy)]
 pub struct Share {
     pub ordinary: u32,
     pub donors: u32,
@@ -25,7 +27,7 @@ pub struct Share {
 }
 
 // The counts. Used bytes are not added up: they are what free bytes, start and end leave.
-#[derive(Drop)]
+#[derive(Clone, Copy)]
 pub struct Tally {
     pub chunks: u32,
     pub ordinary: u32,
@@ -34,7 +36,7 @@ pub struct Tally {
     pub free: u32,
 }
 
-#[derive(Drop)]
+#[derive(Clone, Copy)]
 pub enum Survey {
     Surveyed(Tally),
     Broken,

@@ -1,6 +1,8 @@
 // The walk of the bins' lists: each member must be marked. The marks are only read: no chunk comes twice in a list, since its backward
 // bin link names one chunk before it, and none is in two lists, since its size belongs to one bin.
 // The marks were made by the walk of the chain, in the crate `survey`; the chain itself is not looked at here.
+#![tactic(auto)]
+
 ghost use Rattle.std.specs.Prelude.{◌≡◌, ◌+◌, ◌-◌, ◌/◌, ◌^◌, ◌<◌, ◌≤◌, length, nat_lt};
 ghost use Rattle.chain.specs.Length.{Lent};
 ghost use Rattle.record.specs.Table.{ValidTable};
@@ -17,7 +19,7 @@ const BELOW_END: u32 = LEAST / ALIGNMENT - 1;
 // What a bin asks of the words of a member: its bin word, and a size from `least` to `most`. Along a list `least` is the size of the member
 // before, so that no member is smaller than that one. So the last size is the greatest, and it alone is compared with `most`. The rules ask for
 // this order outside the small array only; the members of a small bin have one size, so that they are in order anyway.
-#[derive(Drop)]
+#[derive(Clone, Copy)]
 pub struct Sizes {
     pub word: u32,
     pub least: u32,
@@ -70,7 +72,7 @@ fn is_listed(region: &[u32], sizes: Sizes, before: u32, chunk: Chunk) -> bool
     sizes.least <= size
 }
 
-#[derive(Drop)]
+#[derive(Clone, Copy)]
 pub enum Swept {
     // how many members, and the last of them
     Whole(u32, u32),
@@ -123,7 +125,7 @@ pub fn sweep_list(
     Swept::Whole(bytes - left, before)
 }
 
-#[derive(Drop)]
+#[derive(Clone, Copy)]
 pub enum Sweep {
     // how many members in all
     Clean(u32),

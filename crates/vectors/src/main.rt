@@ -1,5 +1,7 @@
 // Plays a script of calls from standard input, and prints a digest of all words after each call.
 // A second library that plays the same script is compared with this one line by line.
+#![tactic(auto)]
+
 ghost use Rattle.std.specs.Prelude.{◌≡◌, length};
 
 use crate::play::play;

@@ -8,14 +8,14 @@ use crate::words::{TWO_TO_32, set_word};
 pub const MOST_ARGS: usize = 64;
 
 // `after` is where the number ends. Where none was found, the value is 0.
-#[derive(Drop)]
+#[derive(Clone, Copy)]
 pub struct Number {
     pub value: u32,
     pub after: usize,
     pub found: bool,
 }
 
-#[derive(Drop)]
+#[derive(Clone, Copy)]
 pub struct Action {
     pub op: u32,
     pub args: [u32; MOST_ARGS],

@@ -8,7 +8,7 @@ use Rattle.region.specs.Words.{word}
 use Rattle.region.proofs.links_of.Statement.{statement}
 use Rattle.region.proofs.links_of.Tie as tie
 
-returns : tie.Need-returns
+returns : tie.Need-returns-then-i-region
 unfolding word
 returns c =
     let a = c.before.before.before.before.before.args in

@@ -6,13 +6,13 @@ use Rattle.region.specs.Words.{store}
 use Rattle.region.proofs.store.Statement.{statement}
 use Rattle.region.proofs.store.Tie as tie
 
-returns : tie.Need-returns
+returns : tie.Need-returns-then-i-region
 unfolding store
 returns c = search rules
 
-returns-2 : tie.Need-returns-2
+returns-2 : tie.Need-returns-else-i-region
 unfolding store
-returns-2 c = sym (set_out _ _ _ c.if1.false)
+returns-2 c = sym (set_out _ _ _ c.if-i-region.false)
 
 pub store_spec : {M : Type 1} → statement M
 store_spec =

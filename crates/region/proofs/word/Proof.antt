@@ -6,13 +6,13 @@ use Rattle.region.specs.Words.{word}
 use Rattle.region.proofs.word.Statement.{statement}
 use Rattle.region.proofs.word.Tie as tie
 
-returns : tie.Need-returns
+returns : tie.Need-returns-then-i-region
 unfolding word
 returns c = search rules
 
-returns-2 : tie.Need-returns-2
+returns-2 : tie.Need-returns-else-i-region
 unfolding word
-returns-2 c = sym (get_or-eq_default c.before.before.args.region.now 0 c.if1.false)
+returns-2 c = sym (get_or-eq_default c.before.before.args.region.now 0 c.if-i-region.false)
 
 pub word_spec : {M : Type 1} → statement M
 word_spec =
