@@ -23,41 +23,41 @@ upper-bin-below t =
     and 2 upper-bin-kinds.ps (falls 2 upper-bin-kinds.ps ◌<◌ μ-upper-bin t) upper-bin.Pre
 
 -- the upper half has the bin: it is found, or searched for there
-in-upper : (t : ℕ) → upper-bin-lts.Need-returns (upper-bin-below t, upper-bin.Post) (upper-bin-at t) upper-bin.Post
+in-upper : (t : ℕ) → upper-bin-lts.Need-returns-then-rest-le1 (upper-bin-below t, upper-bin.Post) (upper-bin-at t) upper-bin.Post
 in-upper t c =
     let a = c.before.before.before.before.args in
     let k = c.before.before.before.before.requires.1 in
-    let here = not_after k (a.low + a.width / 2) (omega (arith, k.inside, k.from, k.below)) (omega (arith, c.before.if1.true)) in
-    only_bin k (omega arith) (omega (arith, k.below, c.if2.true))
+    let here = not_after k (a.low + a.width / 2) (omega (arith, k.inside, k.from, k.below)) (omega (arith, c.before.if-sizes-middle.true)) in
+    only_bin k (omega arith) (omega (arith, k.below, c.if-rest-le1.true))
 
-upper-searched : (t : ℕ) → upper-bin-lts.Need-upper-bin-requires (upper-bin-below t, upper-bin.Post) (upper-bin-at t) upper-bin.Post
+upper-searched : (t : ℕ) → upper-bin-lts.Need-upper_bin-requires (upper-bin-below t, upper-bin.Post) (upper-bin-at t) upper-bin.Post
 upper-searched t c κs =
     let a = c.before.before.before.before.args in
     let (deep, k) = c.before.before.before.before.requires in (
-      depth_falls deep (omega (arith, c.if2.false)) (omega arith),
-      let here = not_after k (a.low + a.width / 2) (omega (arith, k.inside, k.from, k.below)) (omega (arith, c.before.if1.true)) in
+      depth_falls deep (omega (arith, c.if-rest-le1.false)) (omega arith),
+      let here = not_after k (a.low + a.width / 2) (omega (arith, k.inside, k.from, k.below)) (omega (arith, c.before.if-sizes-middle.true)) in
           narrowed k (omega (arith, k.inside)) (omega arith) (omega (arith, k.below)),
     )
 
 -- the lower half has it
-in-lower : (t : ℕ) → upper-bin-lts.Need-returns-3 (upper-bin-below t, upper-bin.Post) (upper-bin-at t) upper-bin.Post
+in-lower : (t : ℕ) → upper-bin-lts.Need-returns-then-half-le1 (upper-bin-below t, upper-bin.Post) (upper-bin-at t) upper-bin.Post
 in-lower t c =
     let a = c.before.before.before.before.args in
     let k = c.before.before.before.before.requires.1 in
-    let there = after k (a.low + a.width / 2) (omega (arith, k.inside, k.from, k.below)) (omega (arith, c.before.if1.false)) in
-    only_bin k (omega (arith, k.from)) (omega (arith, c.if3.true))
+    let there = after k (a.low + a.width / 2) (omega (arith, k.inside, k.from, k.below)) (omega (arith, c.before.if-sizes-middle.false)) in
+    only_bin k (omega (arith, k.from)) (omega (arith, c.if-half-le1.true))
 
-lower-searched : (t : ℕ) → upper-bin-lts.Need-upper-bin-requires-2 (upper-bin-below t, upper-bin.Post) (upper-bin-at t) upper-bin.Post
+lower-searched : (t : ℕ) → upper-bin-lts.Need-upper_bin-requires-2 (upper-bin-below t, upper-bin.Post) (upper-bin-at t) upper-bin.Post
 lower-searched t c κs =
     let a = c.before.before.before.before.args in
     let (deep, k) = c.before.before.before.before.requires in (
-      depth_falls deep (omega (arith, c.if3.false)) (omega arith),
-      let there = after k (a.low + a.width / 2) (omega (arith, k.inside, k.from, k.below)) (omega (arith, c.before.if1.false)) in
+      depth_falls deep (omega (arith, c.if-half-le1.false)) (omega arith),
+      let there = after k (a.low + a.width / 2) (omega (arith, k.inside, k.from, k.below)) (omega (arith, c.before.if-sizes-middle.false)) in
           narrowed k (omega (arith, k.inside)) (omega (arith, k.from)) (omega arith),
     )
 
-pub +upper-bin-spec : {M : Type 1} → statement M
-+upper-bin-spec =
+pub +upper_bin_spec : {M : Type 1} → statement M
++upper_bin_spec =
     close
     μ-upper-bin
     λ t. upper-bin-lts.spec
@@ -70,7 +70,7 @@ pub +upper-bin-spec : {M : Type 1} → statement M
     (λ c. omega arith)
     (in-upper t)
     (upper-searched t)
-    (λ c. c.upper-bin.ensures)
+    (λ c. c.upper_bin.ensures)
     (in-lower t)
     (lower-searched t)
-    (λ c. c.upper-bin2.ensures)
+    (λ c. c.upper_bin-2.ensures)

@@ -7,17 +7,17 @@ use Rattle.record.proofs.TableSteps.{by_division}
 use Rattle.record.proofs.table.bin_of.Statement.{statement}
 use Rattle.record.proofs.table.bin_of.Tie as tie
 
-returns : tie.Need-returns
-returns c = none_takes _ c.before.before.requires _ c.if1.true
+returns : tie.Need-returns-then-size-lt-LEAST
+returns c = none_takes _ c.before.before.requires _ c.if-size-lt-LEAST.true
 
-returns-2 : tie.Need-returns-2
+returns-2 : tie.Need-returns-then-is_small
 returns-2 c =
     let asked = c.before in
-    by_division _ asked.before.before.before.requires _ asked.before.if1.false asked.is-small.ensures c.if2.true (omega arith)
+    by_division _ asked.before.before.before.requires _ asked.before.if-size-lt-LEAST.false asked.is_small.ensures c.if-is_small.true (omega arith)
 
-upper-bin-requires : tie.Need-upper-bin-requires
+upper-bin-requires : tie.Need-upper_bin-requires
 upper-bin-requires c κs =
-    whole_table _ c.before.before.before.before.before.requires _ c.before.before.before.if1.false
+    whole_table _ c.before.before.before.before.before.requires _ c.before.before.before.if-size-lt-LEAST.false
 
 pub bin_of_spec : {M : Type 1} → statement M
 bin_of_spec =

@@ -6,11 +6,11 @@ use Rattle.record.proofs.TableSteps.{last_not_small, small_by_next}
 use Rattle.record.proofs.table.in_small_array.Statement.{statement}
 use Rattle.record.proofs.table.in_small_array.Tie as tie
 
-returns : tie.Need-returns
-returns c = last_not_small _ c.before.requires _ (omega (arith, c.if1.true))
+returns : tie.Need-returns-then-table-bin
+returns c = last_not_small _ c.before.requires _ (omega (arith, c.if-table-bin.true))
 
-returns-2 : tie.Need-returns-2
-returns-2 c = small_by_next _ c.before.before.requires _ (omega (arith, c.before.if1.false)) (omega arith) (omega arith)
+returns-2 : tie.Need-returns
+returns-2 c = small_by_next _ c.before.before.requires _ (omega (arith, c.before.if-table-bin.false)) (omega arith) (omega arith)
 
 pub in_small_array_spec : {M : Type 1} → statement M
 in_small_array_spec =
@@ -21,7 +21,7 @@ in_small_array_spec =
     (λ c. search rules)
     (λ c. search rules)
     (λ c. search rules)
-    (λ c. omega (arith, c.shared-slice-known.given (c.before.before.args.bin + 1)))
+    (λ c. omega (arith, c.shared_slice_known-1.given (c.before.before.args.bin + 1)))
     (λ c. search rules)
     (λ c. search rules)
     returns-2)

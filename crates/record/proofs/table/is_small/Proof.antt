@@ -6,11 +6,11 @@ use Rattle.record.proofs.TableSteps.{small_eights, small_low}
 use Rattle.record.proofs.table.is_small.Statement.{statement}
 use Rattle.record.proofs.table.is_small.Tie as tie
 
-returns : tie.Need-returns
-returns c = sym (small_low _ _ c.if1.true)
+returns : tie.Need-returns-then-eights-lt-FIRST_EIGHTS
+returns c = sym (small_low _ _ c.if-eights-lt-FIRST_EIGHTS.true)
 
-returns-2 : tie.Need-returns-2
-returns-2 c = c.in-small-array.ensures ∙ small_eights _ _ c.before.if1.false (omega arith)
+returns-2 : tie.Need-returns
+returns-2 c = c.in_small_array.ensures ∙ small_eights _ _ c.before.if-eights-lt-FIRST_EIGHTS.false (omega arith)
 
 pub is_small_spec : {M : Type 1} → statement M
 is_small_spec =

@@ -11,32 +11,32 @@ use Rattle.record.proofs.TableSteps.{valid_none, valid_long, valid_first, valid_
 use Rattle.record.proofs.table.valid.Statement.{statement}
 use Rattle.record.proofs.table.valid.Tie as tie
 
-abbrev invariant-loop : tie.invariant-loop
+abbrev invariant-loop : tie.invariant-loop-i
 invariant-loop table right₀ before₀ i₀ right before i = (right && goes_up before (drop i table)) ≡ goes_up 24 (drop 1 table)
 
-abbrev decreases-loop : tie.decreases-loop
+abbrev decreases-loop : tie.decreases-loop-i
 decreases-loop table right₀ before₀ i₀ right before i = length table - i
 
-returns : tie.Need-returns invariant-loop decreases-loop
-returns c = sym (valid_none c.before.args.table.now c.if1.true)
+returns : tie.Need-returns-then-table-eq0 invariant-loop decreases-loop
+returns c = sym (valid_none c.before.args.table.now c.if-table-eq0.true)
 
-returns-2 : tie.Need-returns-2 invariant-loop decreases-loop
+returns-2 : tie.Need-returns-then-table-gt-PLACES invariant-loop decreases-loop
 returns-2 c = sym (valid_long c.before.before.args.table.now (omega arith) (omega arith))
 
-returns-3 : tie.Need-returns-3 invariant-loop decreases-loop
+returns-3 : tie.Need-returns-then-table-ne-LEAST invariant-loop decreases-loop
 returns-3 c =
-    sym (valid_first c.before.before.before.before.args.table.now (omega arith) (omega arith) c.if3.true)
+    sym (valid_first c.before.before.before.before.args.table.now (omega arith) (omega arith) c.if-table-ne-LEAST.true)
 
-loop-again : tie.Need-loop-preserved invariant-loop decreases-loop
+loop-again : tie.Need-loop-i-preserved invariant-loop decreases-loop
 loop-again c =
     let l = c.before.before in
-    rw add-one (up_goes _ _ _ c.before.loop-test.true l.loop.right ∙ l.loop.invariant)
+    rw add-one (up_goes _ _ _ c.before.loop-i-test.true l.loop-i.right ∙ l.loop-i.invariant)
 
-returns-4 : tie.Need-returns-4 invariant-loop decreases-loop
+returns-4 : tie.Need-returns invariant-loop decreases-loop
 returns-4 c =
     let l = c.before in
-    sym (and-true _) ∙ (rw (up_ends _ _ _ c.loop-test.false) at l.loop.invariant)
-    ∙ sym (valid_rest _ (omega arith) (omega arith) l.before.if3.false)
+    sym (and-true _) ∙ (rw (up_ends _ _ _ c.loop-i-test.false) at l.loop-i.invariant)
+    ∙ sym (valid_rest _ (omega arith) (omega arith) l.before.if-table-ne-LEAST.false)
 
 pub valid_spec : {M : Type 1} → statement M
 valid_spec =
