@@ -25,11 +25,13 @@ rising_from b c [] l r = tt
 rising_from b c (e ∷ es) l (least, rest) = (omega arith, rest)
 
 pub at_least : (c : ℕ) {e : Entry} (es : List Entry) → Rising c es → Mem e es → c ≤ e.place
+at_least c {e = e} [] _ x3 = elim x3 [ ]
 at_least c (d ∷ es) (least, rest) (Memᴰ.head q) = rw q least
 at_least c (d ∷ es) (least, rest) (Memᴰ.tail m) = omega (arith, at_least (suc d.place) es rest m)
 
 -- two chunks at one place are the same
 pub same_place : (c : ℕ) {d e : Entry} (es : List Entry) → Rising c es → Mem d es → Mem e es → d.place ≡ e.place → d ≡ e
+same_place c {d = d} {e = e} [] r x4 _ s = elim x4 [ ]
 same_place c (x ∷ es) r (Memᴰ.head p) (Memᴰ.head q) s = p ∙ sym q
 same_place c (x ∷ es) r (Memᴰ.head p) (Memᴰ.tail m) s =
     let l = at_least (suc x.place) es r.1 m in let b = ap (λ (y : Entry). y.place) p in absurd (omega arith)
@@ -40,6 +42,7 @@ same_place c (x ∷ es) r (Memᴰ.tail n) (Memᴰ.tail m) s = same_place (suc x.
 -- the places of the chunks that a test keeps are all different
 module _ (p : Entry → Bool) where
   places_from : (c x : ℕ) (es : List Entry) → Rising c es → Mem x (places_of (keep p es)) → c ≤ x
+  places_from c x [] _ m = elim m [ ]
   places_from c x (e ∷ es) (least, rest) m = go (p e) m (places_from (suc e.place) x es rest)
     where
       go : (t : Bool) → Mem x (places_of (cond t (e ∷ keep p es) (keep p es)))

@@ -34,6 +34,7 @@ tiled_up a b (e ∷ es) (here, some, rest) = let r = tiled_up (chunk_end e) b es
 -- each lies between a and b
 pub tiled_in : (a b : ℕ) {e : Entry} (es : List Entry) → Tiled a es b → Mem e es
     → (a ≤ e.place) × (0 < e.size) × (chunk_end e ≤ b)
+tiled_in a b {e = e} [] _ x3 = elim x3 [ ]
 tiled_in a b {e} (x ∷ es) (here, some, rest) (Memᴰ.head q) =
     let u = tiled_up (chunk_end x) b es rest in
     rw q (omega arith, some, u)
@@ -43,6 +44,7 @@ tiled_in a b (x ∷ es) (here, some, rest) (Memᴰ.tail m) =
 
 pub tiled_apart : (a b : ℕ) {d e : Entry} (es : List Entry) → Tiled a es b → Mem d es → Mem e es → (d.place ≡ e.place → ⊥)
     → (chunk_end d ≤ e.place) ⊎ (chunk_end e ≤ d.place)
+tiled_apart a b {d = d} {e = e} [] _ x5 _ n = elim x5 [ ]
 tiled_apart a b (x ∷ es) (here, some, rest) (Memᴰ.head p) (Memᴰ.head q) n = absurd (n (ap (λ (y : Entry). y.place) (p ∙ sym q)))
 tiled_apart a b (x ∷ es) (here, some, rest) (Memᴰ.head p) (Memᴰ.tail m) n = inl (rw p (tiled_in (chunk_end x) b es rest m).0)
 tiled_apart a b (x ∷ es) (here, some, rest) (Memᴰ.tail m) (Memᴰ.head p) n = inr (rw p (tiled_in (chunk_end x) b es rest m).0)
@@ -51,6 +53,7 @@ tiled_apart a b (x ∷ es) (here, some, rest) (Memᴰ.tail m) (Memᴰ.tail k) n 
 -- if all begin at multiples of 8, and b is one, they end at multiples of 8
 pub tiled_eights : (a b : ℕ) {e : Entry} (es : List Entry) → Tiled a es b → b % 8 ≡ 0 → ((d : Entry) → Mem d es → d.place % 8 ≡ 0)
     → Mem e es → chunk_end e % 8 ≡ 0
+tiled_eights a b {e = e} [] t z f x4 = elim x4 [ ]
 tiled_eights a b (x ∷ []) t z f (Memᴰ.head q) = rw q (omega arith)
 tiled_eights a b (x ∷ y ∷ es) t z f (Memᴰ.head q) =
     let k = f y (Memᴰ.tail (Memᴰ.head refl)) in
