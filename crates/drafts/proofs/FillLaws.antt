@@ -64,10 +64,10 @@ fill_reads value b (suc n) i ws r k lo hi =
 
 -- stores inside a block are to no word below it and to none above it
 pub below_block : (e : Entry) (ss : List Store) → Within e ss → (i : ℕ) → i < block_of e / 4 → Off i ss
-below_block e ss w i l = fall_so _ (λ k. i ≢ k) (λ k b q. omega arith) ss w
+below_block e ss w i l = fall_so (λ k. (block_of e / 4 ≤ k) × (k < block_end e / 4)) (λ k. i ≢ k) (λ k b q. omega arith) ss w
 
 pub above_block : (e : Entry) (ss : List Store) → Within e ss → (i : ℕ) → block_end e / 4 ≤ i → Off i ss
-above_block e ss w i l = fall_so _ (λ k. i ≢ k) (λ k b q. omega arith) ss w
+above_block e ss w i l = fall_so (λ k. (block_of e / 4 ≤ k) × (k < block_end e / 4)) (λ k. i ≢ k) (λ k b q. omega arith) ss w
 
 -- the words `after` pass, and are read as the words `before`
 pub record ReadAlike (before after : List ℕ) (h : Heap) : Type 0 where

@@ -1,6 +1,6 @@
 -- Right headers along neighbouring chunks (`Headed`): links, flags, and the size words of free ones. The chain of a heap that passes
 -- has them; a chain that has them is what is read; stores elsewhere keep them; the rules' header stores make them. Assumes nothing.
-use mathlib.Core.Path.{◌≡◌, refl, sym, ap, ◌∙◌}
+use mathlib.Core.Path.{◌≡◌, refl, sym, subst, ap, ◌∙◌}
 use mathlib.Core.Logic.{◌≢◌, inl, inr}
 use mathlib.Core.Bool.{Bool, true, false}
 use mathlib.Core.List.Memᴰ
@@ -62,6 +62,7 @@ module _ (ws : List ℕ) where
 
   pub headed_sized : (b : Entry) (es : List Entry) (n : Entry) {e : Entry} → Headed ws b es n → Mem e es → e.flags ≡ 0
       → word ws e.place size ≡ e.size
+  headed_sized b [] n {e = e} _ x4 f = elim x4 [ ]
   headed_sized b (x ∷ es) n (own, rest) (Memᴰ.head q) f = rw q (own.sized (rw q at f))
   headed_sized b (x ∷ es) n (own, rest) (Memᴰ.tail m) f = headed_sized x es n rest m f
 
@@ -216,7 +217,7 @@ headers_written ws b (e ∷ es) n a (_, _, rest) f l =
     let k = length_written ss ws in
     let x = f e (Memᴰ.head refl) in
     let own = header_written ws b e (head_or n es) x l (next es rest) (eqb e.flags unused) refl in
-    rw (written_append ss (headers e.place es) ws) (
+    subst (λ (v : List ℕ). Headed v b (e ∷ es) n) (sym (written_append ss (headers e.place es) ws)) (
       header_keeps (headers e.place es)
           (headers_spare x e.place (λ d m. f d (Memᴰ.tail m)) (λ d m. inl (tiled_in (chunk_end e) n.place es rest m).0)) own,
       headers_written (written ws ss) e es n (chunk_end e) rest (λ d m. f d (Memᴰ.tail m)) (omega arith),
