@@ -8,7 +8,7 @@ use lib.IntN.{ℤ, pos, negsuc, nat_abs, ◌+ℤ◌}
 use lib.Signed.{non_neg, le_z}
 use mir.Syntax.{w32, w64}
 use mir.Val.{Fits, SFits, to_z, of_z}
-use mir.ValLaws.{to_z_of_z}
+use mir.ValLaws.{to_z-of_z}
 use borrow.Author.Tests.{le-leb, le-ltb}
 use Rattle.abi.specs.Flat.{complement}
 
@@ -43,7 +43,7 @@ module _ (z : ℤ) (f : SFits w32 z) where
   held = to_z w32 (of_z w32 z)
 
   held_is : held ≡ z
-  held_is = to_z_of_z w32 z f
+  held_is = to_z-of_z w32 z f
 
   pub complement_held : complement held ≡ complement z
   complement_held = ap complement held_is
@@ -61,7 +61,7 @@ module _ (z : ℤ) (f : SFits w32 z) where
   module _ (t : le_z (pos 0) held ≡ false) where
     raised_is : raised ≡ pos (complement z)
     raised_is =
-        rw (held_is, to_z_of_z w64 z (wide z f))
+        rw (held_is, to_z-of_z w64 z (wide z f))
         (raise z f (sym (ap (le_z (pos 0)) held_is) ∙ t))
 
     pub raised_fits : SFits w64 raised
@@ -69,5 +69,5 @@ module _ (z : ℤ) (f : SFits w32 z) where
 
     pub raised_held : (T (non_neg (to_z w64 (of_z w64 raised))) × Fits w32 (nat_abs (to_z w64 (of_z w64 raised)))) × (nat_abs (to_z w64 (of_z w64 raised)) ≡ complement z)
     raised_held =
-        rw (to_z_of_z w64 raised raised_fits, raised_is)
+        rw (to_z-of_z w64 raised raised_fits, raised_is)
         ((tt, record { fits = small z f }), refl)

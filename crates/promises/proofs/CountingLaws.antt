@@ -49,6 +49,7 @@ module _ (ws : List ℕ) (h : Heap) (p : Passes ws h) where
   ordinary_in c m = each (keep (ordinary h) es) (λ e k. kept_from (ordinary h) es k) m
     where
       each : (ds : List Entry) → ((e : Entry) → Mem e ds → Mem e es × (ordinary h e ≡ true)) → Mem c (places_of ds) → Mem c listed
+      each mathlib.Core.List.[] f x'' = elim x'' [ ]
       each (d ∷ ds) f (Memᴰ.head q) =
           let (on, kind) = f d (Memᴰ.head refl) in
           let (i, inside, _, member) = ordinary_listed ws h p d on kind in

@@ -1,6 +1,6 @@
 -- No call on any region writes an odd last word (`stores_below`): a refused call writes nothing, and on a heap that passes every store is
 -- to a word of the heap bytes. Assumes nothing.
-use mathlib.Core.Path.{◌≡◌}
+use mathlib.Core.Path.{◌≡◌, subst}
 use mathlib.Core.Logic.{inl, inr}
 use mathlib.Core.Bool.{Bool, true, false, not, cond, ◌&&◌, ◌||◌}
 use mathlib.Core.List.{List, [], ◌∷◌}
@@ -27,7 +27,7 @@ use Rattle.rules.specs.Allocate.{source_of, grant, as_found, cleared, allocate_w
 use Rattle.rules.specs.Free.{is_live, block_spot, free_block, free, free_refusals, freed}
 use Rattle.rules.specs.Reallocate.{moved, resized, resize, reallocate, resize_refusals, resized_to}
 use Rattle.rules.specs.Outcome.{Outcome, Refusals, judged, heap_fails, unchanged}
-use Rattle.rules.specs.Setup.{setup, donor_fits, setup_refusals, opened}
+use Rattle.rules.specs.Setup.{setup, first_headers, donor_fits, setup_refusals, opened}
 use Rattle.rules.specs.Merge.{set_merge, check}
 use Rattle.rules.specs.Ask.{ask_chunk, ask_bin, chunk_answers, asked_spot, is_asked, is_there, answer_to, bin_answers}
 use Rattle.rules.specs.Calls.{Call, Setup, Allocate, AllocateCleared, Free, Reallocate, SetMerge, Check, AskChunk, AskBin, Patrol, step}
@@ -47,7 +47,7 @@ use Rattle.promises.proofs.ResizedLaws.{resized_so}
 
 -- stores into a block are below its end
 within_below : (m : ℕ) (e : Entry) (ss : List Store) → block_end e / 4 ≤ m → Within e ss → Below m ss
-within_below m e ss l w = fall_so _ (λ i. i < m) (λ i b. omega arith) ss w
+within_below m e ss l w = fall_so (λ i. (block_of e / 4 ≤ i) × (i < block_end e / 4)) (λ i. i < m) (λ i b. omega arith) ss w
 
 -- the draft writes only words of the heap bytes
 abbrev Inner : Heap → Draft → Type 0
@@ -171,7 +171,8 @@ module _ (ws : List ℕ) (h : Heap) where
       judged_below even empty (opened bytes table donor merge) (setup_refusals ws table donor)
       (λ (size, (_, (fits, _))).
       let n = length_in ws size in
-      rw (← whole) (first_below bytes donor (fitting (omega arith) ((fitting_iff ws donor).0 (not-false (donor_fits bytes donor) fits)))))
+      subst (λ (m : ℕ). Below m (first_headers bytes donor)) whole
+      (first_below bytes donor (fitting (omega arith) ((fitting_iff ws donor).0 (not-false (donor_fits bytes donor) fits)))))
     where
       whole : heap_bytes (length ws) / 4 ≡ even
       whole = omega arith

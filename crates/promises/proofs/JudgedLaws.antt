@@ -63,6 +63,7 @@ IsFirst B r = B r × ((q : Refusal) → order_of q < order_of r → B q → ⊥)
 
 -- none comes before n in the order
 higher : (n : ℕ) (ts : Refusals) → OrderRises n ts → {r : Refusal} → Mem r (refusals_of ts) → n ≤ order_of r
+higher n [] u {r = r} x'' = elim x'' [ ]
 higher n (t ∷ ts) u (Memᴰ.head e) = rw e u.0
 higher n (t ∷ ts) u (Memᴰ.tail m) = let a = higher (suc (order_of t.1)) ts u.1 m in omega arith
 

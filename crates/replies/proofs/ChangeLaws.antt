@@ -9,7 +9,7 @@ use lib.IntN.{pos, negsuc, ◌-ℤ◌}
 use lib.Signed.{mag}
 use mir.Syntax.{w32}
 use mir.Val.{SFits, to_z, of_z}
-use mir.ValLaws.{to_z_pos, to_z_of_z}
+use mir.ValLaws.{to_z_pos, to_z-of_z}
 use borrow.Author.Tests.{lt-ltb, le-ltb}
 use Rattle.rules.specs.Outcome.{change_of}
 use Rattle.replies.specs.Replies.{change_m}
@@ -28,12 +28,12 @@ module _ (a b : ℕ) (p : a ≤ 65536) (q : b ≤ 65536) where
   machine_fits = rw (to_z_pos w32 a (omega arith), to_z_pos w32 b (omega arith)) (difference_fits a b p q)
 
   pub machine_is : to_z w32 (of_z w32 (to_z w32 a -ℤ to_z w32 b)) ≡ pos a -ℤ pos b
-  machine_is = to_z_of_z w32 _ machine_fits ∙ rw (to_z_pos w32 a (omega arith), to_z_pos w32 b (omega arith))
+  machine_is = to_z-of_z w32 _ machine_fits ∙ rw (to_z_pos w32 a (omega arith), to_z_pos w32 b (omega arith))
 
 -- what the machine keeps of a change is the change
 pub change_kept : (before after : ℕ) → to_z w32 (of_z w32 (change_m before after)) ≡ change_m before after
 unfolding change_m
-change_kept before after = to_z_of_z w32 _ (go (dec_lt 65536 before) (dec_lt 65536 after))
+change_kept before after = to_z-of_z w32 _ (go (dec_lt 65536 before) (dec_lt 65536 after))
   where
     go : Dec (65536 < before) → Dec (65536 < after) → SFits w32 (change_m before after)
     go (yes l) d = rw (lt-ltb 65536 before l) (record { sfits = omega arith })
