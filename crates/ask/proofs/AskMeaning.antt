@@ -48,6 +48,7 @@ last_place d (e ∷ es) = last_place e es
 -- the words of a member of a linked list name its neighbours
 module _ (ws : List ℕ) (c : ℕ) where
   linked_next : (p : ℕ) (cs : List ℕ) → Linked ws p cs → Mem c cs → word ws c next_in_bin ≡ head_or 0 (past (eqb c) cs)
+  linked_next p [] _ m = elim m [ ]
   linked_next p (d ∷ ds) (previous, next, links) m = go (ℕ_discrete c d) m (linked_next d ds links)
     where
       go : Dec (c ≡ d) → Mem c (d ∷ ds) → (Mem c ds → word ws c next_in_bin ≡ head_or 0 (past (eqb c) ds))
@@ -57,6 +58,7 @@ module _ (ws : List ℕ) (c : ℕ) where
       go (no n) (Memᴰ.tail k) f = rw (ne_eqb c d n) (f k)
 
   linked_previous : (p : ℕ) (cs : List ℕ) → Linked ws p cs → Mem c cs → word ws c previous_in_bin ≡ last_or p (up_to (eqb c) cs)
+  linked_previous p [] _ m = elim m [ ]
   linked_previous p (d ∷ ds) (previous, next, links) m = go (ℕ_discrete c d) m (linked_previous d ds links)
     where
       go : Dec (c ≡ d) → Mem c (d ∷ ds) → (Mem c ds → word ws c previous_in_bin ≡ last_or d (up_to (eqb c) ds))

@@ -31,6 +31,7 @@ Trail ws (p ∷ ps) = (0 < p) × (word ws p previous_in_bin ≡ head_or 0 ps) ×
 -- so each of them names 0, or one that was passed before the last
 named : (ws : List ℕ) (p : ℕ) (ps : List ℕ) → Trail ws (p ∷ ps) → (c : ℕ) → Mem c (p ∷ ps)
     → (word ws c previous_in_bin ≡ 0) ⊎ Mem (word ws c previous_in_bin) ps
+named ws p [] (placed , back , trail) c (Memᴰ.tail m) = elim m [ ]
 named ws p [] (placed, back, trail) c (Memᴰ.head e) = inl (ap (λ (x : ℕ). word ws x previous_in_bin) e ∙ back)
 named ws p (d ∷ ds) (placed, back, trail) c (Memᴰ.head e) = inr (Memᴰ.head (ap (λ (x : ℕ). word ws x previous_in_bin) e ∙ back))
 named ws p (d ∷ ds) (placed, back, trail) c (Memᴰ.tail m) = further (named ws d ds trail c m)
@@ -94,6 +95,7 @@ module _ (ws table : List ℕ) (valid : ValidTable table) (all : List ℕ) where
       (MemberFacts i c × (word ws c previous_in_bin ≡ p) × (s ≤ word ws c size)) × CombedIs i c (word ws c size) cs
 
   combed_facts : (i : ℕ) (cs : List ℕ) (p s : ℕ) → CombedIs i p s cs → (c : ℕ) → Mem c cs → MemberFacts i c
+  combed_facts i [] p s _ d x3 = elim x3 [ ]
   combed_facts i (c ∷ cs) p s ((facts, back, up), others) d (Memᴰ.head e) = rw e facts
   combed_facts i (c ∷ cs) p s ((facts, back, up), others) d (Memᴰ.tail m) = combed_facts i cs c (word ws c size) others d m
 

@@ -5,37 +5,33 @@ use Rattle.ask.proofs.AskLaws.{bin_answer, no_bin_lem, count_told, first_told, l
 use Rattle.ask.proofs.ask_bin.Statement.{statement}
 use Rattle.ask.proofs.ask_bin.Tie as tie
 
-returns : tie.Need-returns
+returns : tie.Need-returns-then-summary-bin
 returns c = bin_answer (no_bin_lem (omega arith))
 
-returns-2 : tie.Need-returns-2
+returns-2 : tie.Need-returns-then-question-eq-ASK_COUNT
 returns-2 c =
     bin_answer
-    (count_told c.before.before.before.if1.false c.before.before.list-end.ensures c.before.if2.true
-    c.count-members.ensures)
+    (count_told c.if-summary-bin.false c.list_end-first.ensures c.if-question-eq-ASK_COUNT.true
+    c.count_members.ensures)
 
-returns-3 : tie.Need-returns-3
+returns-3 : tie.Need-returns-then-question-eq-ASK_FIRST
 returns-3 c =
-    let read = c.before.before.before in
     bin_answer
-    (first_told read.before.if1.false read.list-end.ensures c.before.before.if2.false c.before.if3.true
+    (first_told c.if-summary-bin.false c.list_end-first.ensures c.if-question-eq-ASK_COUNT.false c.if-question-eq-ASK_FIRST.true
     c.link_told.ensures)
 
-returns-4 : tie.Need-returns-4
+returns-4 : tie.Need-returns-then-question-eq-ASK_LAST
 returns-4 c =
-    let tail = c.before in
-    let read = tail.before.before.before.before in
     bin_answer
-    (last_told read.before.if1.false read.list-end.ensures
-    tail.before.before.before.if2.false tail.before.before.if3.false tail.before.if4.true tail.list-end2.ensures
-    c.link-told2.ensures)
+    (last_told c.if-summary-bin.false c.list_end-first.ensures
+    c.if-question-eq-ASK_COUNT.false c.if-question-eq-ASK_FIRST.false c.if-question-eq-ASK_LAST.true c.list_end.ensures
+    c.link_told-then-question-eq-ASK_LAST.ensures)
 
-returns-5 : tie.Need-returns-5
+returns-5 : tie.Need-returns
 returns-5 c =
-    let read = c.before.before.before in
     bin_answer
-    (no_question read.before.if1.false read.list-end.ensures
-    c.before.before.if2.false c.before.if3.false c.if4.false)
+    (no_question c.if-summary-bin.false c.list_end-first.ensures
+    c.if-question-eq-ASK_COUNT.false c.if-question-eq-ASK_FIRST.false c.if-question-eq-ASK_LAST.false)
 
 pub ask_bin_spec : {M : Type 1} → statement M
 ask_bin_spec =

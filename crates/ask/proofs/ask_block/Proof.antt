@@ -4,11 +4,11 @@ use Rattle.ask.proofs.AskLaws.{no_holder, holder_told}
 use Rattle.ask.proofs.ask_block.Statement.{statement}
 use Rattle.ask.proofs.ask_block.Tie as tie
 
-returns : tie.Need-returns
-returns c = no_holder c.before.before.find-block.ensures c.enum_told.given.1
+returns : tie.Need-returns-in_default
+returns c = no_holder c.find_block-sought.ensures c.in_default.is
 
-returns-2 : tie.Need-returns-2
-returns-2 c = holder_told c.before.before.before.find-block.ensures c.before.sought.given.1
+returns-2 : tie.Need-returns
+returns-2 c = holder_told c.find_block-sought.ensures c.in-Found.is
 
 pub ask_block_spec : {M : Type 1} → statement M
 ask_block_spec =

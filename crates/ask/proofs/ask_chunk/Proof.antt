@@ -5,19 +5,19 @@ use Rattle.ask.proofs.AskLaws.{chunk_answer, holder_asked, below_questions, abov
 use Rattle.ask.proofs.ask_chunk.Statement.{statement}
 use Rattle.ask.proofs.ask_chunk.Tie as tie
 
-returns : tie.Need-returns
-returns c = chunk_answer (holder_asked c.before.if1.true c.ask-block.ensures)
+returns : tie.Need-returns-then-question-eq-ASK_CHUNK
+returns c = chunk_answer (holder_asked c.if-question-eq-ASK_CHUNK.true c.ask_block.ensures)
 
-returns-2 : tie.Need-returns-2
-returns-2 c = chunk_answer (below_questions c.before.if1.false c.if2.true)
+returns-2 : tie.Need-returns-then-question-lt-ASK_BIN
+returns-2 c = chunk_answer (below_questions c.if-question-eq-ASK_CHUNK.false c.if-question-lt-ASK_BIN.true)
 
-returns-3 : tie.Need-returns-3
-returns-3 c = chunk_answer (above_questions c.before.before.if1.false c.before.if2.false (omega arith))
+returns-3 : tie.Need-returns-then-question-gt-ASK_TYPE
+returns-3 c = chunk_answer (above_questions c.if-question-eq-ASK_CHUNK.false c.if-question-lt-ASK_BIN.false (omega arith))
 
-returns-4 : tie.Need-returns-4
+returns-4 : tie.Need-returns
 returns-4 c =
     chunk_answer
-    (place_asked c.before.before.before.if1.false c.before.before.if2.false c.before.if3.false c.ask-place.ensures)
+    (place_asked c.if-question-eq-ASK_CHUNK.false c.if-question-lt-ASK_BIN.false c.if-question-gt-ASK_TYPE.false c.ask_place.ensures)
 
 pub ask_chunk_spec : {M : Type 1} → statement M
 ask_chunk_spec =

@@ -4,13 +4,12 @@ use Rattle.ask.proofs.AskLaws.{told_of_lem, no_place, place_told}
 use Rattle.ask.proofs.ask_place.Statement.{statement}
 use Rattle.ask.proofs.ask_place.Tie as tie
 
-returns : tie.Need-returns
-returns c = told_of_lem (no_place c.before.before.find-chunk.ensures c.enum_told.given.1)
+returns : tie.Need-returns-in_default
+returns c = told_of_lem (no_place c.find_chunk-sought.ensures c.in_default.is)
 
-returns-2 : tie.Need-returns-2
+returns-2 : tie.Need-returns
 returns-2 c =
-    let found = c.before.before in
-    told_of_lem (place_told found.before.before.find-chunk.ensures found.sought.given.1 c.of_chunk_lem.ensures)
+    told_of_lem (place_told c.find_chunk-sought.ensures c.in-Found.is c.of_chunk.ensures)
 
 pub ask_place_spec : {M : Type 1} → statement M
 ask_place_spec =

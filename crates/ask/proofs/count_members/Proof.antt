@@ -7,25 +7,25 @@ use Rattle.ask.proofs.AskLaws.{CountsMembers, counting_begins, counting_goes, co
 use Rattle.ask.proofs.count_members.Statement.{statement}
 use Rattle.ask.proofs.count_members.Tie as tie
 
-abbrev invariant-loop : tie.invariant-loop
+abbrev invariant-loop : tie.invariant-loop-met
 invariant-loop region first steps at₀ met₀ at met = CountsMembers region steps first at met
 
-abbrev decreases-loop : tie.decreases-loop
+abbrev decreases-loop : tie.decreases-loop-met
 decreases-loop region first steps at₀ met₀ at met = steps - met
 
-loop-holds : tie.Need-loop-init invariant-loop decreases-loop
+loop-holds : tie.Need-loop-met-init invariant-loop decreases-loop
 loop-holds c = counting_begins
 
-returns : tie.Need-returns invariant-loop decreases-loop
-returns c = counted_all c.before.before.loop.invariant c.if1.true
+returns : tie.Need-returns-then-at-eq0 invariant-loop decreases-loop
+returns c = counted_all c.loop-met.invariant c.if-at-eq0.true
 
-loop-again : tie.Need-loop-preserved invariant-loop decreases-loop
+loop-again : tie.Need-loop-met-preserved invariant-loop decreases-loop
 loop-again c =
-    counting_goes c.before.before.before.loop.invariant c.before.if1.false c.before.before.loop-test.true
-    c.word.ensures
+    counting_goes c.loop-met.invariant c.if-at-eq0.false c.loop-met-test.true
+    c.word-at.ensures
 
-returns-2 : tie.Need-returns-2 invariant-loop decreases-loop
-returns-2 c = counted_most c.before.loop.invariant c.loop-test.false
+returns-2 : tie.Need-returns invariant-loop decreases-loop
+returns-2 c = counted_most c.loop-met.invariant c.loop-met-test.false
 
 pub count_members_spec : {M : Type 1} → statement M
 count_members_spec =

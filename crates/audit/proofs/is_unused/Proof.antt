@@ -12,22 +12,19 @@ use Rattle.audit.proofs.AuditLaws.{unused_all, unused_goes, unused_ends}
 use Rattle.audit.proofs.is_unused.Statement.{statement}
 use Rattle.audit.proofs.is_unused.Tie as tie
 
-abbrev invariant-loop : tie.invariant-loop
+abbrev invariant-loop : tie.invariant-loop-i
 invariant-loop sizes heads tails from seen₀ i₀ seen i = (eqb seen 0 && unused_all i sizes heads tails) ≡ unused_all from sizes heads tails
 
-abbrev decreases-loop : tie.decreases-loop
+abbrev decreases-loop : tie.decreases-loop-i
 decreases-loop sizes heads tails from seen₀ i₀ seen i = places - i
 
-loop-again : tie.Need-loop-preserved invariant-loop decreases-loop
+loop-again : tie.Need-loop-i-preserved invariant-loop decreases-loop
 loop-again c =
-    let tested = c.before.before.before in
-    let l = tested.before in
-    rw add-one (unused_goes _ _ _ l.before.requires l.loop.i tested.loop-test.true l.loop.seen ∙ l.loop.invariant)
+    rw add-one (unused_goes _ _ _ c.requires c.loop-i.i c.loop-i-test.true c.loop-i.seen ∙ c.loop-i.invariant)
 
 returns : tie.Need-returns invariant-loop decreases-loop
 returns c =
-    let l = c.before in
-    sym (and-true _) ∙ (rw (unused_ends _ _ _ l.before.requires l.loop.i c.loop-test.false) at l.loop.invariant)
+    sym (and-true _) ∙ (rw (unused_ends _ _ _ c.requires c.loop-i.i c.loop-i-test.false) at c.loop-i.invariant)
 
 pub is_unused_spec : {M : Type 1} → statement M
 is_unused_spec =

@@ -12,37 +12,31 @@ use Rattle.audit.proofs.AuditMeaning.{audit_short, audit_untabled, audit_walked,
 use Rattle.audit.proofs.look.Statement.{statement}
 use Rattle.audit.proofs.look.Tie as tie
 
-abbrev start : tie.Else1 → tie.Start
-start c = c.before.before.before.before.before.before
-
-fits : (c : tie.Else1) → fits_length_m (length (start c).args.region.now) (start c).args.summary.bytes ≡ true
-fits c = sym c.before.fits-length.ensures ∙ not-false _ c.if1.false
+fits : (c : tie.Else-not-fits_length) → fits_length_m (length c.args.region.now) c.args.summary.bytes ≡ true
+fits c = sym c.fits_length.ensures ∙ not-false _ c.if-not-fits_length.false-raw
 
 -- behind a table that is right: the length fits
-abbrev long : tie.Else2 → tie.Else1
-long c = c.before.before.before
 
-tabled : (c : tie.Else2) → let a = (start (long c)).args in is_tabled_m a.summary.bins a.sizes.now a.heads.now a.tails.now ≡ true
-tabled c = sym c.before.is-tabled.ensures ∙ not-false _ c.if2.false
+tabled : (c : tie.Else-not-is_tabled) → let a = c.args in is_tabled_m a.summary.bins a.sizes.now a.heads.now a.tails.now ≡ true
+tabled c = sym c.is_tabled.ensures ∙ not-false _ c.if-not-is_tabled.false-raw
 
-returns : tie.Need-returns
-returns c s h t = audit_short _ _ (sym c.before.fits-length.ensures ∙ not-true _ c.if1.true)
+returns : tie.Need-returns-then-not-fits_length
+returns c s h t = audit_short _ _ (sym c.fits_length.ensures ∙ not-true _ c.if-not-fits_length.true-raw)
 
-returns-2 : tie.Need-returns-2
+returns-2 : tie.Need-returns-then-not-is_tabled
 returns-2 c s h t =
-    audit_untabled _ _ (start c.before.before.before).requires (sym c.before.is-tabled.ensures ∙ not-true _ c.if2.true)
+    audit_untabled _ _ c.requires (sym c.is_tabled.ensures ∙ not-true _ c.if-not-is_tabled.true-raw)
 
-returns-3 : tie.Need-returns-3
+returns-3 : tie.Need-returns
 returns-3 c s h t =
-    let right = c.before.before.before.before in
-    audit_walked _ _ (start (long right)).requires (fits (long right)) (tabled right) _ c.walk-all.ensures
+    audit_walked _ _ c.requires (fits c.before.before.before.before.before) (tabled c.before.before) _ c.walk_all.ensures
 
 -- the walks get the words of the heap bytes, a valid table, and both ends of every bin's list
-walk-all-requires : tie.Need-walk-all-requires
+walk-all-requires : tie.Need-walk_all-requires
 walk-all-requires c κs =
-    let right = c.before.before.before in (
-      lent_even _ _ (fits (long right)),
-      ((lent_table _ _ _ _ (tabled right)).1, lent_ends _ _ _ _ (start (long right)).requires (tabled right)),
+    (
+      lent_even _ _ (fits c.before.before.before.before),
+      ((lent_table _ _ _ _ (tabled c.before)).1, lent_ends _ _ _ _ c.requires (tabled c.before)),
     )
 
 pub look_spec : {M : Type 1} → statement M
@@ -55,8 +49,8 @@ look_spec =
     (λ c κs. search rules)
     returns-2
     (λ c. search rules)
-    (λ c. sym (length-take-le _ _ (lent_words _ _ (fits (long c.before.before)))))
+    (λ c. sym (length-take-le _ _ (lent_words _ _ (fits c.before.before.before.before))))
     -- the blanks of `lent_table` are the bin count, the sizes, the heads and the tails
-    (λ c. sym (length-take-le _ _ (lent_table _ _ _ _ (tabled c.before.before.before)).0))
+    (λ c. sym (length-take-le _ _ (lent_table _ _ _ _ (tabled c.before)).0))
     walk-all-requires
     returns-3)

@@ -7,24 +7,16 @@ use Rattle.audit.proofs.AuditMeaning.{answer_is}
 use Rattle.audit.proofs.verdict.Statement.{statement}
 use Rattle.audit.proofs.verdict.Tie as tie
 
--- behind the look: the summary is made, and before that the call began
-module _ (looked : tie.After-look) where
-  abbrev summed : tie.After-summary
-  summed = looked.before.before.before.before.before.before.before.before
-
-  abbrev start : tie.Start
-  start = summed.before.before
-
 -- the look at the record's parts is one at the record
-found : (c : tie.After-look) → AuditIs (start c).args.region.now (start c).args.t2 c.look.result
+found : (c : tie.After-look) → AuditIs c.args.region.now c.args.h c.look.result
 found c =
-    let h = (start c).args.t2 in
-    let g = (start c).well-formed in
-    (rw (summed c).summary.ensures at c.look.ensures)
+    let h = c.args.h in
+    let g = c.well_formed in
+    (rw c.summary.ensures at c.look.ensures)
     (length_unmapped ℕ h.sizes 32 (search rules)) (length_unmapped ℕ h.heads 32 (search rules)) (length_unmapped ℕ h.tails 32 (search rules))
 
 returns : tie.Need-returns
-returns c = c.answer-of.ensures ∙ answer_is _ _ c.before.look.result (found c.before)
+returns c = c.answer_of.ensures ∙ answer_is _ _ c.look.result (found c.before)
 
 pub verdict_spec : {M : Type 1} → statement M
 verdict_spec = tie.close (tie.spec (λ c κs. search rules) (λ c κs. search rules) (λ c κs. search rules) returns)

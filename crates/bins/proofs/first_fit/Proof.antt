@@ -5,38 +5,34 @@ use Rattle.bins.proofs.BinsSteps.{fit_spent, fit_ends, fit_here, fit_goes}
 use Rattle.bins.proofs.first_fit.Statement.{statement}
 use Rattle.bins.proofs.first_fit.Tie as tie
 
-abbrev invariant-loop : tie.invariant-loop
+abbrev invariant-loop : tie.invariant-loop-left
 invariant-loop region need at₀ left₀ at left = first_fit_m left region need at ≡ first_fit_m left₀ region need at₀
 
-abbrev decreases-loop : tie.decreases-loop
+abbrev decreases-loop : tie.decreases-loop-left
 decreases-loop region need at₀ left₀ at left = left
 
-returns : tie.Need-returns invariant-loop decreases-loop
+returns : tie.Need-returns-then-at-eq0 invariant-loop decreases-loop
 returns c =
-    let l = c.before.before.loop in
-    sym (fit_ends _ _ _ l.left c.if1.true) ∙ l.invariant
+    let l = c.loop-left in
+    sym (fit_ends _ _ _ l.left c.if-at-eq0.true) ∙ l.invariant
 
-returns-2 : tie.Need-returns-2 invariant-loop decreases-loop
+returns-2 : tie.Need-returns-then-word-need invariant-loop decreases-loop
 returns-2 c =
-    let member = c.before.before in
-    let turn = member.before.before in
-    let l = turn.loop in
-    let a = turn.before.before.args in
-    sym (fit_here a.region.now a.need l.at l.left (omega arith) member.if1.false (omega (arith, c.before.word.ensures)))
+    let l = c.loop-left in
+    let a = c.args in
+    sym (fit_here a.region.now a.need l.at l.left (omega arith) c.if-at-eq0.false (omega (arith, c.word.ensures)))
     ∙ l.invariant
 
-loop-again : tie.Need-loop-preserved invariant-loop decreases-loop
+loop-again : tie.Need-loop-left-preserved invariant-loop decreases-loop
 loop-again c =
-    let member = c.before.before.before in
-    let turn = member.before.before in
-    let l = turn.loop in
-    let a = turn.before.before.args in
-    rw c.word2.ensures
-    (sym (fit_goes a.region.now a.need l.at l.left (omega arith) member.if1.false (omega (arith, c.before.before.word.ensures)))
+    let l = c.loop-left in
+    let a = c.args in
+    rw c.word-at.ensures
+    (sym (fit_goes a.region.now a.need l.at l.left (omega arith) c.if-at-eq0.false (omega (arith, c.word.ensures)))
     ∙ l.invariant)
 
-returns-3 : tie.Need-returns-3 invariant-loop decreases-loop
-returns-3 c = sym (fit_spent _ _ _ c.before.loop.left (omega arith)) ∙ c.before.loop.invariant
+returns-3 : tie.Need-returns invariant-loop decreases-loop
+returns-3 c = sym (fit_spent _ _ _ c.loop-left.left (omega arith)) ∙ c.loop-left.invariant
 
 pub first_fit_spec : {M : Type 1} → statement M
 first_fit_spec =

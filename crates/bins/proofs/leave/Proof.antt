@@ -6,12 +6,7 @@ use Rattle.bins.proofs.leave.Tie as tie
 
 returns : tie.Need-returns
 returns c =
-    let back = c.before.before.before.before in
-    let front = back.before.before.before.before.before.before.before in
-    let bin-read = front.before.before.before in
-    let previous-read = bin-read.before.before in
-    let next-read = previous-read.before.before in
-    leave_steps _ _ next-read.word.ensures previous-read.word2.ensures bin-read.word3.ensures front.link.ensures back.link2.ensures
+    leave_steps _ _ c.word-next.ensures c.word-previous.ensures c.word.ensures c.link.ensures c.link-2.ensures
 
 pub leave_spec : {M : Type 1} → statement M
 leave_spec =

@@ -4,8 +4,8 @@ use lib.ListN.{get_or-eq_default}
 use Rattle.bins.proofs.list_end.Statement.{statement}
 use Rattle.bins.proofs.list_end.Tie as tie
 
-returns-2 : tie.Need-returns-2
-returns-2 c = sym (get_or-eq_default c.before.args.ends.now 0 c.if1.false)
+returns-2 : tie.Need-returns-else-bin-ends
+returns-2 c = sym (get_or-eq_default c.args.ends.now 0 c.if-bin-ends.false)
 
 pub list_end_spec : {M : Type 1} → statement M
 list_end_spec =

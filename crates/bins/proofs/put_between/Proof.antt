@@ -6,15 +6,8 @@ use Rattle.bins.proofs.put_between.Tie as tie
 
 returns : tie.Need-returns
 returns c =
-    let numbered = c.before.before in
-    let tails-known = numbered.before.before.before.before in
-    let back = tails-known.before.before.before in
-    let next-stored = back.before.before.before.before.before in
-    let previous-stored = next-stored.before.before.before.before in
-    let heads-known = previous-stored.before.before.before in
-    let front = heads-known.before.before.before in
-    put_steps _ _ _ front.link.ensures previous-stored.store.ensures next-stored.store2.ensures back.link2.ensures
-    numbered.before.bin_word.ensures numbered.store3.ensures
+    put_steps _ _ _ c.link.ensures c.store.ensures c.store-2.ensures c.link-2.ensures
+    c.bin_word.ensures c.store-3.ensures
 
 pub put_between_spec : {M : Type 1} → statement M
 put_between_spec =

@@ -4,15 +4,13 @@ use Rattle.bins.proofs.BinsSteps.{slot_at_head, slot_in_order}
 use Rattle.bins.proofs.slot_for.Statement.{statement}
 use Rattle.bins.proofs.slot_for.Tie as tie
 
-returns : tie.Need-returns
-returns c = rw c.if1.true (slot_at_head _ _ _ c.before.list-end.ensures)
+returns : tie.Need-returns-then-small
+returns c = rw c.if-small.true (slot_at_head _ _ _ c.list_end-head.ensures)
 
-returns-2 : tie.Need-returns-2
+returns-2 : tie.Need-returns
 returns-2 c =
-    let found = c.before in
-    let large = found.before.before in
-    rw large.if1.false
-    (slot_in_order _ _ _ large.before.list-end.ensures found.before.wrapping-add-u32.ensures found.first-fit.ensures c.member-before.ensures)
+    rw c.if-small.false
+    (slot_in_order _ _ _ c.list_end-head.ensures c.wrapping_add_u32.ensures c.first_fit-larger.ensures c.member_before.ensures)
 
 pub slot_for_spec : {M : Type 1} → statement M
 slot_for_spec =

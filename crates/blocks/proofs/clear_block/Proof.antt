@@ -4,16 +4,15 @@ use Rattle.blocks.proofs.BlocksLaws.{cleared_backwards, cleared_outside, cleared
 use Rattle.blocks.proofs.clear_block.Statement.{statement}
 use Rattle.blocks.proofs.clear_block.Tie as tie
 
-returns : tie.Need-returns
-returns c = cleared_backwards _ _ _ c.if1.true
+returns : tie.Need-returns-then-to-from
+returns c = cleared_backwards _ _ _ c.if-to-from.true
 
-returns-2 : tie.Need-returns-2
-returns-2 c = cleared_outside _ _ _ c.before.if1.false c.if2.true
+returns-2 : tie.Need-returns-then-region-to
+returns-2 c = cleared_outside _ _ _ c.if-to-from.false c.if-region-to.true
 
-returns-3 : tie.Need-returns-3
+returns-3 : tie.Need-returns
 returns-3 c =
-    let inside = c.before.before.before.before in
-    cleared_part _ _ _ inside.before.if1.false inside.if2.false c.before.before.clear.ensures
+    cleared_part _ _ _ c.if-to-from.false c.if-region-to.false c.clear.ensures
 
 pub clear_block_spec : {M : Type 1} → statement M
 clear_block_spec =

@@ -10,28 +10,25 @@ use Rattle.blocks.proofs.BlocksLaws.{copies_one, copies_done}
 use Rattle.blocks.proofs.copy_block.Statement.{statement}
 use Rattle.blocks.proofs.copy_block.Tie as tie
 
-abbrev invariant-loop : tie.invariant-loop
+abbrev invariant-loop : tie.invariant-loop-number
 invariant-loop region₀ from to words number₀ region number =
     (copied_m (words - number) region from.0 to.0 number ≡ copied_m (words - 2) region₀ from.0 to.0 2) × (length region ≡ length region₀)
 
-abbrev decreases-loop : tie.decreases-loop
+abbrev decreases-loop : tie.decreases-loop-number
 decreases-loop region₀ from to words number₀ region number = words - number
 
-loop-holds : tie.Need-loop-init invariant-loop decreases-loop
+loop-holds : tie.Need-loop-number-init invariant-loop decreases-loop
 loop-holds c = (refl, refl)
 
-loop-again : tie.Need-loop-preserved invariant-loop decreases-loop
+loop-again : tie.Need-loop-number-preserved invariant-loop decreases-loop
 loop-again c =
-    let stored = c.before.before in
-    let read = stored.before.before in
-    let turn = read.before.before in
-    let l = turn.before.loop in (
-      rw (stored.store.ensures, read.word.ensures) (copies_one _ _ _ _ l.number turn.loop-test.true ∙ l.invariant.0),
+    let l = c.loop-number in (
+      rw (c.store.ensures, c.word-value.ensures) (copies_one _ _ _ _ l.number c.loop-number-test.true ∙ l.invariant.0),
       search rules,
     )
 
 returns : tie.Need-returns invariant-loop decreases-loop
-returns c = copies_done _ _ _ _ _ c.loop-test.false ∙ c.before.loop.invariant.0
+returns c = copies_done _ _ _ _ _ c.loop-number-test.false ∙ c.loop-number.invariant.0
 
 pub copy_block_spec : {M : Type 1} → statement M
 copy_block_spec =

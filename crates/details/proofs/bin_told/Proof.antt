@@ -5,15 +5,13 @@ use Rattle.details.proofs.DetailsLaws.{bin_few, bin_told, no_bin_lem}
 use Rattle.details.proofs.bin_told.Statement.{statement}
 use Rattle.details.proofs.bin_told.Tie as tie
 
-returns : tie.Need-returns
-returns c = no_bin_lem _ _ c.before.before.bin-of.ensures c.enum_told.given.1
+returns : tie.Need-returns-in_default
+returns c = no_bin_lem _ _ c.bin_of-binned.ensures c.in_default.is
 
 -- behind the match: what was found
-abbrev told : tie.After-known-told → tie.After-bin-of
-told c = c.before.before.before
 
-returns-2 : tie.Need-returns-2
-returns-2 c = bin_told _ _ (told c).bin-of.ensures c.before.binned.given.1
+returns-2 : tie.Need-returns
+returns-2 c = bin_told _ _ c.bin_of-binned.ensures c.in-Bin.is
 
 pub bin_told_spec : {M : Type 1} → statement M
 bin_told_spec =
@@ -23,5 +21,5 @@ bin_told_spec =
     (λ c. search rules)
     (λ c. search rules)
     returns
-    (λ c. omega (arith, bin_few _ _ (told c).bin-of.ensures (told c).before.before.requires c.before.binned.given.1))
+    (λ c. omega (arith, bin_few _ _ c.bin_of-binned.ensures c.requires c.in-Bin.is))
     returns-2)

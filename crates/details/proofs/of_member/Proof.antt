@@ -4,19 +4,17 @@ use Rattle.details.proofs.DetailsLaws.{of_member, number_told_lem, next_member_t
 use Rattle.details.proofs.of_member.Statement.{statement}
 use Rattle.details.proofs.of_member.Tie as tie
 
-returns : tie.Need-returns
+returns : tie.Need-returns-then-question-eq-ASK_BIN
 returns c =
-    of_member (number_told_lem c.before.before.if1.true c.before.type_size.ensures c.bin_told.ensures)
+    of_member (number_told_lem c.if-question-eq-ASK_BIN.true c.size_of.ensures c.bin_told.ensures)
 
-returns-2 : tie.Need-returns-2
+returns-2 : tie.Need-returns-then-question-eq-ASK_NEXT_IN_BIN
 returns-2 c =
-    let asked = c.before.before in
-    of_member (next_member_told asked.before.if1.false c.link_told.ensures asked.if2.true c.before.word.ensures)
+    of_member (next_member_told c.if-question-eq-ASK_BIN.false c.link_told.ensures c.if-question-eq-ASK_NEXT_IN_BIN.true c.word.ensures)
 
-returns-3 : tie.Need-returns-3
+returns-3 : tie.Need-returns
 returns-3 c =
-    let asked = c.before.before in
-    of_member (previous_member_told asked.before.if1.false c.link-told2.ensures asked.if2.false c.before.word2.ensures)
+    of_member (previous_member_told c.if-question-eq-ASK_BIN.false c.link_told-2.ensures c.if-question-eq-ASK_NEXT_IN_BIN.false c.word-2.ensures)
 
 pub of_member_spec : {M : Type 1} → statement M
 of_member_spec =

@@ -4,38 +4,36 @@ use Rattle.details.proofs.DetailsLaws.{no_block, block_told, no_next_lem, next_t
 use Rattle.details.proofs.of_place.Statement.{statement}
 use Rattle.details.proofs.of_place.Tie as tie
 
-returns-2 : tie.Need-returns-2
+returns-2 : tie.Need-returns-then-question-eq-ASK_BLOCK
 returns-2 c =
-    block_told _ _ _ c.before.before.before.if1.true c.before.before.has-live-block.ensures c.before.if2.false
-    c.Block-of.ensures
+    block_told _ _ _ c.if-question-eq-ASK_BLOCK.true c.has_live_block.ensures c.if-not-has_live_block.false-raw
+    c.block_of.ensures
 
-returns : tie.Need-returns
-returns c = no_block _ _ _ c.before.before.if1.true c.before.has-live-block.ensures c.if2.true
+returns : tie.Need-returns-then-not-has_live_block
+returns c = no_block _ _ _ c.if-question-eq-ASK_BLOCK.true c.has_live_block.ensures c.if-not-has_live_block.true-raw
 
-returns-3 : tie.Need-returns-3
-returns-3 c = no_next_lem _ _ _ c.before.before.before.if1.false c.before.before.if3.true c.if4.true
+returns-3 : tie.Need-returns-then-place-bytes
+returns-3 c = no_next_lem _ _ _ c.if-question-eq-ASK_BLOCK.false c.if-question-eq-ASK_NEXT.true c.if-place-bytes.true
 
-returns-4 : tie.Need-returns-4
-returns-4 c = next_told _ _ _ c.before.before.before.if1.false c.before.before.if3.true c.if4.false
+returns-4 : tie.Need-returns-then-question-eq-ASK_NEXT
+returns-4 c = next_told _ _ _ c.if-question-eq-ASK_BLOCK.false c.if-question-eq-ASK_NEXT.true c.if-place-bytes.false
 
-returns-5 : tie.Need-returns-5
+returns-5 : tie.Need-returns-then-place-eq0
 returns-5 c =
-    let asked = c.before.before in
-    no_previous_lem _ _ _ asked.before.before.if1.false asked.before.if3.false asked.if5.true c.if6.true
+    no_previous_lem _ _ _ c.if-question-eq-ASK_BLOCK.false c.if-question-eq-ASK_NEXT.false c.if-question-eq-ASK_PREVIOUS.true c.if-place-eq0.true
 
-returns-6 : tie.Need-returns-6
+returns-6 : tie.Need-returns-then-question-eq-ASK_PREVIOUS
 returns-6 c =
-    let asked = c.before.before in
-    previous_told _ _ _ asked.before.before.if1.false asked.before.if3.false asked.if5.true c.if6.false
+    previous_told _ _ _ c.if-question-eq-ASK_BLOCK.false c.if-question-eq-ASK_NEXT.false c.if-question-eq-ASK_PREVIOUS.true c.if-place-eq0.false
 
-returns-7 : tie.Need-returns-7
+returns-7 : tie.Need-returns-then-question-eq-ASK_SIZE
 returns-7 c =
-    size_told _ _ _ c.before.before.before.before.if1.false c.before.before.before.if3.false
-    c.before.before.if5.false c.before.if7.true c.type_size.ensures
+    size_told _ _ _ c.if-question-eq-ASK_BLOCK.false c.if-question-eq-ASK_NEXT.false
+    c.if-question-eq-ASK_PREVIOUS.false c.if-question-eq-ASK_SIZE.true c.size_of.ensures
 
-returns-8 : tie.Need-returns-8
+returns-8 : tie.Need-returns
 returns-8 c =
-    type_told _ _ _ c.before.before.before.if1.false c.before.before.if3.false c.before.if5.false c.if7.false
+    type_told _ _ _ c.if-question-eq-ASK_BLOCK.false c.if-question-eq-ASK_NEXT.false c.if-question-eq-ASK_PREVIOUS.false c.if-question-eq-ASK_SIZE.false
 
 pub of_place_spec : {M : Type 1} → statement M
 of_place_spec =

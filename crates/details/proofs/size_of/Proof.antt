@@ -3,10 +3,10 @@ use native.Mathlib.Omega.{arith}
 use Rattle.details.proofs.size_of.Statement.{statement}
 use Rattle.details.proofs.size_of.Tie as tie
 
-returns : tie.Need-returns
+returns : tie.Need-returns-then-place
 returns c = omega arith
 
-returns-2 : tie.Need-returns-2
+returns-2 : tie.Need-returns
 returns-2 c = omega arith
 
 pub size_of_spec : {M : Type 1} → statement M

@@ -7,9 +7,7 @@ use Rattle.fresh.proofs.write_end.Tie as tie
 returns : tie.Need-returns
 unfolding end_words
 returns c =
-    let backward = c.before.before in
-    let forward = backward.before.before.before.before.before in
-    rw (backward.store2.ensures, backward.before.wrapping-add-u32.ensures, forward.store.ensures)
+    rw (c.store-2.ensures, c.wrapping_add_u32.ensures, c.store.ensures)
 
 pub write_end_spec : {M : Type 1} → statement M
 write_end_spec =

@@ -4,13 +4,13 @@ use Rattle.fresh.specs.FirstHeaders.{first_words}
 use Rattle.fresh.proofs.write_headers.Statement.{statement}
 use Rattle.fresh.proofs.write_headers.Tie as tie
 
-returns : tie.Need-returns
+returns : tie.Need-returns-then-donor-eq0
 unfolding first_words
-returns c = rw (c.before.before.write-without-donor.ensures, eq-eqb _ _ c.before.before.before.before.if1.true)
+returns c = rw (c.write_without_donor.ensures, eq-eqb _ _ c.if-donor-eq0.true)
 
-returns-2 : tie.Need-returns-2
+returns-2 : tie.Need-returns
 unfolding first_words
-returns-2 c = rw (c.before.before.write-with-donor.ensures, ne_eqb _ _ c.before.before.before.before.if1.false)
+returns-2 c = rw (c.write_with_donor.ensures, ne_eqb _ _ c.if-donor-eq0.false)
 
 pub write_headers_spec : {M : Type 1} → statement M
 write_headers_spec =

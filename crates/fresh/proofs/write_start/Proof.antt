@@ -7,9 +7,7 @@ use Rattle.fresh.proofs.write_start.Tie as tie
 returns : tie.Need-returns
 unfolding start_words
 returns c =
-    let backward = c.before.before in
-    let forward = backward.before.before.before.before in
-    rw (backward.store2.ensures, forward.store.ensures)
+    rw (c.store-2.ensures, c.store.ensures)
 
 pub write_start_spec : {M : Type 1} → statement M
 write_start_spec =

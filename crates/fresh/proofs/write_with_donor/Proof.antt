@@ -8,19 +8,13 @@ use Rattle.fresh.proofs.write_with_donor.Tie as tie
 returns : tie.Need-returns
 unfolding words_with_donor start_words free_words end_words
 returns c =
-    let ended = c.before.before in
-    let top_out = ended.before.before.before.before in
-    let donor_out = top_out.before.before.before.before in
-    let topped = donor_out.before.before.before.before in
-    let donated = topped.before.before.before.before in
-    let started = donated.before.before.before.before in
     rw (
-      ended.write-end.ensures,
-      top_out.write-no-bin2.ensures,
-      donor_out.write-no-bin.ensures,
-      topped.write-free2.ensures,
-      donated.write-free.ensures,
-      started.write-start.ensures,
+      c.write_end.ensures,
+      c.write_no_bin-2.ensures,
+      c.write_no_bin.ensures,
+      c.write_free-2.ensures,
+      c.write_free.ensures,
+      c.write_start.ensures,
     )
 
 pub write_with_donor_spec : {M : Type 1} → statement M

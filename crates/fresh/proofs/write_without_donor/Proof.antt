@@ -8,11 +8,7 @@ use Rattle.fresh.proofs.write_without_donor.Tie as tie
 returns : tie.Need-returns
 unfolding words_without_donor start_words free_words end_words
 returns c =
-    let ended = c.before.before in
-    let top_out = ended.before.before.before.before in
-    let topped = top_out.before.before.before.before in
-    let started = topped.before.before.before.before in
-    rw (ended.write-end.ensures, top_out.write-no-bin.ensures, topped.write-free.ensures, started.write-start.ensures)
+    rw (c.write_end.ensures, c.write_no_bin.ensures, c.write_free.ensures, c.write_start.ensures)
 
 pub write_without_donor_spec : {M : Type 1} → statement M
 write_without_donor_spec =

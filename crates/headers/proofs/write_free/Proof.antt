@@ -7,10 +7,7 @@ use Rattle.headers.proofs.write_free.Tie as tie
 returns : tie.Need-returns
 unfolding free_words
 returns c =
-    let sized = c.before.before in
-    let backward = sized.before.before.before.before.before in
-    let forward = backward.before.before.before.before in
-    rw (sized.store3.ensures, sized.before.distance.ensures, backward.store2.ensures, forward.store.ensures)
+    rw (c.store-3.ensures, c.distance.ensures, c.store-2.ensures, c.store.ensures)
 
 pub write_free_spec : {M : Type 1} → statement M
 write_free_spec =

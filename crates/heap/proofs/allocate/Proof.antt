@@ -6,7 +6,7 @@ use Rattle.heap.proofs.allocate.Tie as tie
 
 returns : tie.Need-returns
 unfolding allocate
-returns c = c.before.before.allocate-with.ensures
+returns c = c.allocate_with.ensures
 
 pub allocate_spec : {M : Type 1} → statement M
 allocate_spec = tie.close (tie.spec (λ c κs. search rules) (λ c. search rules) returns)

@@ -11,57 +11,45 @@ use Rattle.heap.proofs.AllocateLaws.{permitted_fits, allocate_meets, allocate_fa
 use Rattle.heap.proofs.allocate_with.Statement.{statement}
 use Rattle.heap.proofs.allocate_with.Tie as tie
 
-abbrev start : tie.Else1 → tie.Start
-start c = c.before.before.before.before
-
-heap-passes : (c : tie.Else1) → let a = (start c).args in passes a.region.now a.heap ≡ true
-heap-passes c = sym c.before.passes.ensures ∙ not-false _ c.if1.false
+heap-passes : (c : tie.Else-not-passes) → let a = c.args in passes a.region.now a.heap ≡ true
+heap-passes c = sym c.passes.ensures ∙ not-false _ c.if-not-passes.false-raw
 
 -- past the test of the size: the heap passes
-abbrev checked : tie.Else2 → tie.Else1
-checked c = c.before.before
 
-size_permitted : (c : tie.Else2) → permitted (start (checked c)).args.z ≡ true
-size_permitted c = sym c.before.is-permitted.ensures ∙ not-false _ c.if2.false
+size_permitted : (c : tie.Else-not-is_permitted) → permitted c.args.z ≡ true
+size_permitted c = sym c.is_permitted.ensures ∙ not-false _ c.if-not-is_permitted.false-raw
 
 -- behind the loans of the heads and tails: the need is known
-abbrev needed : tie.After-tails2 → tie.After-need-of
-needed c = c.before.before.before.before.before.before.before
 
-returns : tie.Need-returns
+returns : tie.Need-returns-then-not-passes
 returns c =
-    let a = c.before.before.before.before.before.args in
+    let a = c.args in
     rw c.refused.ensures
     (allocate_meets {z = a.z} {clears = a.clears}
-    (allocate_fails (sym c.before.before.passes.ensures ∙ not-true _ c.before.if1.true)))
+    (allocate_fails (sym c.passes.ensures ∙ not-true _ c.if-not-passes.true-raw)))
 
-returns-2 : tie.Need-returns-2
+returns-2 : tie.Need-returns-then-not-is_permitted
 returns-2 c =
-    let checked = c.before.before.before in
-    let a = (start checked).args in
-    rw c.refused2.ensures
+    let a = c.args in
+    rw c.refused-then-not-is_permitted.ensures
     (allocate_meets {z = a.z} {clears = a.clears}
-    (allocate_refuses (heap-passes checked) (sym c.before.before.is-permitted.ensures ∙ not-true _ c.before.if2.true)))
+    (allocate_refuses (heap-passes c.before.before.before) (sym c.is_permitted.ensures ∙ not-true _ c.if-not-is_permitted.true-raw)))
 
-small : tie.Need-overflow-cast-need-of
+small : tie.Need-overflow_cast-z
 small c = permitted_fits _ (size_permitted c)
 
-bins-lent : tie.Need-array-share-prefix-sizes
-bins-lent c = bins_there _ _ (heap-passes (checked (needed c).before))
+bins-lent : tie.Need-slice_bounds-sizes-end
+bins-lent c = bins_there _ _ (heap-passes c.before.before.before.before.before.before.before.before.before.before)
 
-supply-requires : tie.Need-supply-requires
-supply-requires c κs = table_valid _ _ (heap-passes (checked (needed c.before.before).before))
+supply-requires : tie.Need-supply-supplied-requires
+supply-requires c κs = table_valid _ _ (heap-passes c.before.before.before.before.before.before.before.before.before.before.before.before)
 
-returns-3 : tie.Need-returns-3
+returns-3 : tie.Need-returns
 returns-3 c =
-    let supplied = c.before.before.before.before.before in
-    let summed = supplied.before in
-    let needed = needed summed.before.before in
-    let sized = needed.before in
-    let a = (start (checked sized)).args in
+    let a = c.args in
     allocate_meets {z = a.z} {clears = a.clears}
-    (allocate_supplies (heap-passes (checked sized)) (size_permitted sized) needed.need-of.ensures summed.summary.ensures
-    supplied.supply.ensures c.with-books.ensures)
+    (allocate_supplies (heap-passes c.before.before.before.before.before.before.before.before.before.before.before.before.before.before.before.before.before.before.before) (size_permitted c.before.before.before.before.before.before.before.before.before.before.before.before.before.before.before.before.before) c.need_of-need.ensures c.summary.ensures
+    c.supply-supplied.ensures c.with_books.ensures)
 
 pub allocate_with_spec : {M : Type 1} → statement M
 allocate_with_spec =

@@ -11,24 +11,16 @@ use Rattle.heap.proofs.CallLaws.{asked_bin, asks_bin_lem, fails_bin, lent}
 use Rattle.heap.proofs.ask_bin.Statement.{statement}
 use Rattle.heap.proofs.ask_bin.Tie as tie
 
-heap-passes : (c : tie.Else1) → let a = c.before.before.before.before.args in passes a.region.now a.heap ≡ true
-heap-passes c = sym c.before.passes.ensures ∙ not-false _ c.if1.false
+heap-passes : (c : tie.Else-not-passes) → let a = c.args in passes a.region.now a.heap ≡ true
+heap-passes c = sym c.passes.ensures ∙ not-false _ c.if-not-passes.false-raw
 
--- behind the answer: the summary is made, and the heap passes
-module _ (c : tie.After-ask-bin) where
-  abbrev summed : tie.After-summary
-  summed = c.before.before.before.before
-
-  abbrev checked : tie.Else1
-  checked = summed.before.before.before.before
-
-returns : tie.Need-returns
+returns : tie.Need-returns-then-not-passes
 returns c =
     rw c.refused.ensures
-    (asked_bin (fails_bin (sym c.before.before.passes.ensures ∙ not-true _ c.before.if1.true)))
+    (asked_bin (fails_bin (sym c.passes.ensures ∙ not-true _ c.if-not-passes.true-raw)))
 
-returns-2 : tie.Need-returns-2
-returns-2 c = asked_bin (asks_bin_lem (heap-passes (checked c)) (summed c).summary.ensures c.ask-bin.ensures)
+returns-2 : tie.Need-returns
+returns-2 c = asked_bin (asks_bin_lem (heap-passes c.before.before.before.before.before.before.before) c.summary-summary.ensures c.ask_bin-answer.ensures)
 
 -- the ends that are lent are the record's, which has 32 of each
 module _ (start : tie.Start) where
@@ -38,11 +30,11 @@ module _ (start : tie.Start) where
   tails-of : 32 ≡ length start.args.heap.tails
   tails-of = sym (length_unmapped ℕ start.args.heap.tails 32 (search rules))
 
-heads-long : tie.Need-slice-aggregate-ask-bin-2
-heads-long c = heads-of c.before.before.before.before.before.before.before.before.before.before
+heads-long : tie.Need-slice_bounds-ask_bin-end-3
+heads-long c = heads-of c.before.before.before.before.before.before.before.before
 
-tails-long : tie.Need-slice-aggregate-ask-bin-3
-tails-long c = tails-of c.before.before.before.before.before.before.before.before.before.before.before
+tails-long : tie.Need-slice_bounds-ask_bin-end-4
+tails-long c = tails-of c.before.before.before.before.before.before.before.before.before
 
 pub ask_bin_spec : {M : Type 1} → statement M
 ask_bin_spec =
@@ -55,7 +47,7 @@ ask_bin_spec =
     (λ c. search rules)
     (λ c κs. search rules)
     (λ c. lent _ _ (heap-passes c.before.before.before.before))
-    (λ c. sym (length-take-le _ _ (lent _ _ (heap-passes c.before.before.before.before.before))))
+    (λ c. sym (length-take-le _ _ (lent _ _ (heap-passes c.before.before.before.before))))
     heads-long
     tails-long
     (λ c κs. search rules)

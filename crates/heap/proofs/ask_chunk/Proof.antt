@@ -9,24 +9,16 @@ use Rattle.heap.proofs.CallLaws.{asked_chunk, asks_chunk_lem, bins_there, fails_
 use Rattle.heap.proofs.ask_chunk.Statement.{statement}
 use Rattle.heap.proofs.ask_chunk.Tie as tie
 
-heap-passes : (c : tie.Else1) → let a = c.before.before.before.before.args in passes a.region.now a.heap ≡ true
-heap-passes c = sym c.before.passes.ensures ∙ not-false _ c.if1.false
+heap-passes : (c : tie.Else-not-passes) → let a = c.args in passes a.region.now a.heap ≡ true
+heap-passes c = sym c.passes.ensures ∙ not-false _ c.if-not-passes.false-raw
 
--- behind the answer: the summary is made, and the heap passes
-module _ (c : tie.After-ask-chunk) where
-  abbrev summed : tie.After-summary
-  summed = c.before.before.before
-
-  abbrev checked : tie.Else1
-  checked = summed.before.before.before.before
-
-returns : tie.Need-returns
+returns : tie.Need-returns-then-not-passes
 returns c =
     rw c.refused.ensures
-    (asked_chunk (fails_chunk (sym c.before.before.passes.ensures ∙ not-true _ c.before.if1.true)))
+    (asked_chunk (fails_chunk (sym c.passes.ensures ∙ not-true _ c.if-not-passes.true-raw)))
 
-returns-2 : tie.Need-returns-2
-returns-2 c = asked_chunk (asks_chunk_lem (heap-passes (checked c)) (summed c).summary.ensures c.ask-chunk.ensures)
+returns-2 : tie.Need-returns
+returns-2 c = asked_chunk (asks_chunk_lem (heap-passes c.before.before.before.before.before.before) c.summary-summary.ensures c.ask_chunk-answer.ensures)
 
 pub ask_chunk_spec : {M : Type 1} → statement M
 ask_chunk_spec =
@@ -40,9 +32,9 @@ ask_chunk_spec =
     (λ c. search rules)
     (λ c κs. search rules)
     (λ c. lent _ _ (heap-passes c.before.before.before.before))
-    (λ c. sym (length-take-le _ _ (lent _ _ (heap-passes c.before.before.before.before.before))))
-    (λ c. bins_there _ _ (heap-passes c.before.before.before.before.before))
-    (λ c. sym (length-take-le _ _ (bins_there _ _ (heap-passes c.before.before.before.before.before.before))))
-    (λ c κs. table_valid _ _ (heap-passes c.before.before.before.before.before.before))
+    (λ c. sym (length-take-le _ _ (lent _ _ (heap-passes c.before.before.before.before))))
+    (λ c. bins_there _ _ (heap-passes c.before.before.before.before))
+    (λ c. sym (length-take-le _ _ (bins_there _ _ (heap-passes c.before.before.before.before.before))))
+    (λ c κs. table_valid _ _ (heap-passes c.before.before.before.before.before))
     (λ c. search rules)
     returns-2)

@@ -7,10 +7,9 @@ use Rattle.heap.proofs.patrol.Tie as tie
 
 returns : tie.Need-returns
 returns c =
-    let ran = c.before.before.before in
-    let h = ran.before.before.before.args.heap in
-    ap (λ (x : Heap). record { answer = ran.tour.result.answer; heap = x; words = ran.tour.new.0 }) c.with-patrol.ensures
-    ∙ ran.tour.ensures h refl refl
+    let h = c.args.heap in
+    ap (λ (x : Heap). record { answer = c.tour-toured.result.answer; heap = x; words = c.tour-toured.new.region }) c.with_patrol.ensures
+    ∙ c.tour-toured.ensures h refl refl
 
 pub patrol_spec : {M : Type 1} → statement M
 patrol_spec = tie.close (tie.spec (λ c κs. search rules) (λ c κs. search rules) (λ c. search rules) returns)

@@ -11,72 +11,51 @@ use Rattle.heap.proofs.ReallocateLaws.{reallocate_meets, reallocate_none, reallo
 use Rattle.heap.proofs.reallocate.Statement.{statement}
 use Rattle.heap.proofs.reallocate.Tie as tie
 
-returns : tie.Need-returns
-returns c = reallocate_meets (reallocate_none c.before.before.before.before.if1.true c.before.before.allocate.ensures)
+returns : tie.Need-returns-then-block-eq0
+returns c = reallocate_meets (reallocate_none c.if-block-eq0.true c.allocate.ensures)
 
 -- past the check of the heap: a block is given
-abbrev given : tie.Else2 → tie.Else1
-given c = c.before.before.before
 
 -- past the test of the size: the heap passes
-abbrev checked : tie.Else3 → tie.Else2
-checked c = c.before.before
 
-heap-passes : (c : tie.Else2) → let a = (given c).before.before.before.args in passes a.region.now a.heap ≡ true
-heap-passes c = sym c.before.passes.ensures ∙ not-false _ c.if2.false
+heap-passes : (c : tie.Else-not-passes) → let a = c.args in passes a.region.now a.heap ≡ true
+heap-passes c = sym c.passes.ensures ∙ not-false _ c.if-not-passes.false-raw
 
-size_permitted : (c : tie.Else3) → permitted (given (checked c)).before.before.before.args.z ≡ true
-size_permitted c = sym c.before.is-permitted.ensures ∙ not-false _ c.if3.false
+size_permitted : (c : tie.Else-not-is_permitted) → permitted c.args.z ≡ true
+size_permitted c = sym c.is_permitted.ensures ∙ not-false _ c.if-not-is_permitted.false-raw
 
--- behind the size of the new block: the place of the old one is found
-module _ (needed : tie.After-need-of) where
-  abbrev found : tie.After-sought
-  found = needed.before.before.before.before
-
-  abbrev sought : tie.After-find-block
-  sought = found.before.before
-
-returns-2 : tie.Need-returns-2
+returns-2 : tie.Need-returns-then-not-passes
 returns-2 c =
     rw c.refused.ensures
     (reallocate_meets
-    (reallocate_fails c.before.before.before.before.if1.false
-    (sym c.before.before.passes.ensures ∙ not-true _ c.before.if2.true)))
+    (reallocate_fails c.if-block-eq0.false
+    (sym c.passes.ensures ∙ not-true _ c.if-not-passes.true-raw)))
 
-returns-3 : tie.Need-returns-3
+returns-3 : tie.Need-returns-then-not-is_permitted
 returns-3 c =
-    let checked = c.before.before.before in
-    rw c.refused2.ensures
+    rw c.refused-then-not-is_permitted.ensures
     (reallocate_meets
-    (reallocate_refuses (given checked).if1.false (heap-passes checked)
-    (sym c.before.before.is-permitted.ensures ∙ not-true _ c.before.if3.true)))
+    (reallocate_refuses c.if-block-eq0.false (heap-passes c.before.before.before)
+    (sym c.is_permitted.ensures ∙ not-true _ c.if-not-is_permitted.true-raw)))
 
-returns-4 : tie.Need-returns-4
+returns-4 : tie.Need-returns-in_default
 returns-4 c =
-    let sought = c.before.before.before in
-    let sized = sought.before.before in
-    let checked = checked sized in
-    rw c.refused3.ensures
+    rw c.refused-in_default.ensures
     (reallocate_meets
-    (reallocate_misses (given checked).if1.left (heap-passes checked) (size_permitted sized)
-    sought.find-block.ensures c.before.enum_told.given.1))
+    (reallocate_misses c.if-block-eq0.false (heap-passes c.before.before.before.before.before) (size_permitted c.before.before.before)
+    c.find_block-sought.ensures c.in_default.is))
 
-bins-lent : tie.Need-array-share-prefix-sizes
-bins-lent c = bins_there _ _ (heap-passes (checked (sought c.before).before.before))
+bins-lent : tie.Need-slice_bounds-sizes-end
+bins-lent c = bins_there _ _ (heap-passes c.before.before.before.before.before.before.before.before)
 
 resize-requires : tie.Need-resize-requires
-resize-requires c κs = table_valid _ _ (heap-passes (checked (sought c.before.before).before.before))
+resize-requires c κs = table_valid _ _ (heap-passes c.before.before.before.before.before.before.before.before.before)
 
-returns-5 : tie.Need-returns-5
+returns-5 : tie.Need-returns
 returns-5 c =
-    let resized = c.before.before in
-    let needed = resized.before.before.before in
-    let sought = sought needed in
-    let sized = sought.before.before in
-    let checked = checked sized in
     reallocate_meets
-    (reallocate_resizes (given checked).if1.left (heap-passes checked) (size_permitted sized)
-    sought.find-block.ensures (found needed).sought.given.1 needed.need-of.ensures resized.resize.ensures)
+    (reallocate_resizes c.if-block-eq0.false (heap-passes c.before.before.before.before.before.before.before.before.before.before.before.before) (size_permitted c.before.before.before.before.before.before.before.before.before.before)
+    c.find_block-sought.ensures c.in-Found.is c.need_of-need.ensures c.resize.ensures)
 
 pub reallocate_spec : {M : Type 1} → statement M
 reallocate_spec =

@@ -6,15 +6,15 @@ use Rattle.heap.proofs.CallLaws.{fails_merge, sets_merge_lem}
 use Rattle.heap.proofs.set_merge.Statement.{statement}
 use Rattle.heap.proofs.set_merge.Tie as tie
 
-returns : tie.Need-returns
+returns : tie.Need-returns-then-not-passes
 returns c =
     rw c.refused.ensures
-    (fails_merge _ _ _ (sym c.before.before.passes.ensures ∙ not-true _ c.before.if1.true))
+    (fails_merge _ _ _ (sym c.passes.ensures ∙ not-true _ c.if-not-passes.true-raw))
 
-returns-2 : tie.Need-returns-2
+returns-2 : tie.Need-returns
 returns-2 c =
-    rw c.with-merge.ensures
-    (sets_merge_lem _ _ _ (sym c.before.before.passes.ensures ∙ not-false _ c.before.if1.false))
+    rw c.with_merge.ensures
+    (sets_merge_lem _ _ _ (sym c.passes.ensures ∙ not-false _ c.if-not-passes.false-raw))
 
 pub set_merge_spec : {M : Type 1} → statement M
 set_merge_spec =

@@ -6,7 +6,7 @@ use Rattle.marks.proofs.is_marked.Tie as tie
 
 returns : tie.Need-returns
 returns c =
-    let given = c.before.args in
+    let given = c.args in
     rw shifted (mark_numbered given.marks.now given.number)
 
 pub is_marked_spec : {M : Type 1} → statement M

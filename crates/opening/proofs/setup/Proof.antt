@@ -10,53 +10,47 @@ use Rattle.opening.proofs.SetupMeaning.{fits_room, refuses_short, refuses_long, 
 use Rattle.opening.proofs.setup.Statement.{statement}
 use Rattle.opening.proofs.setup.Tie as tie
 
-returns : tie.Need-returns
-returns c = rw c.refused-setup.ensures (met (refuses_short (omega arith)))
+returns : tie.Need-returns-then-region-lt-FEWEST_WORDS
+returns c = rw c.refused_setup.ensures (met (refuses_short (omega arith)))
 
-returns-2 : tie.Need-returns-2
-returns-2 c = rw c.refused-setup2.ensures (met (refuses_long (omega arith) (omega arith)))
+returns-2 : tie.Need-returns-then-region-gt-MOST_WORDS
+returns-2 c = rw c.refused_setup-then-region-gt-MOST_WORDS.ensures (met (refuses_long (omega arith) (omega arith)))
 
-returns-3 : tie.Need-returns-3
+returns-3 : tie.Need-returns-then-not-valid
 returns-3 c =
-    rw c.refused-setup3.ensures
+    rw c.refused_setup-then-not-valid.ensures
     (met (refuses_table (omega arith) (omega arith)
-    (sym c.before.before.valid.ensures ∙ not-true _ c.before.if3.true)))
+    (sym c.valid.ensures ∙ not-true _ c.if-not-valid.true-raw)))
 
 -- behind a valid table: the call began
-abbrev start : tie.Else3 → tie.Start
-start c = c.before.before.before.before.before.before
 
-returns-4 : tie.Need-returns-4
+returns-4 : tie.Need-returns-then-not-donor_fits
 returns-4 c =
-    let right = c.before.before.before in
-    rw c.refused-setup4.ensures
+    rw c.refused_setup-then-not-donor_fits.ensures
     (met (refuses_donor (omega arith) (omega arith)
-    (sym right.before.valid.ensures ∙ not-false _ right.if3.false)
-    (sym c.before.before.donor-fits.ensures ∙ not-true _ c.before.if4.true)
+    (sym c.valid.ensures ∙ not-false _ c.if-not-valid.false-raw)
+    (sym c.donor_fits.ensures ∙ not-true _ c.if-not-donor_fits.true-raw)
     (omega arith)))
 
-add-t16 : tie.Need-overflow-add-t16
+add-t16 : tie.Need-overflow_add-top
 add-t16 c =
-    let a = (start c.before.before).args in
+    let a = c.args in
     let room =
     fits_room (length a.region.now / 2 * 2 * 4) a.donor
-    (sym c.before.donor-fits.ensures ∙ not-false _ c.if4.false) (omega arith) in
+    (sym c.donor_fits.ensures ∙ not-false _ c.if-not-donor_fits.false-raw) (omega arith) in
     omega arith
 
-slice-aggregate-write-headers : tie.Need-slice-aggregate-write-headers
+slice-aggregate-write-headers : tie.Need-slice_bounds-write_headers-end-2
 slice-aggregate-write-headers c = sym (length-take-le _ _ (omega arith))
 
-returns-5 : tie.Need-returns-5
+returns-5 : tie.Need-returns
 returns-5 c =
-    let written = c.before.before.before in
-    let fits = written.before.before in
-    let right = fits.before.before in
-    let a = (start right).args in
-    rw (c.fresh.ensures, written.write-headers.ensures)
+    let a = c.args in
+    rw (c.fresh.ensures, c.write_headers.ensures)
     (met (accepts (omega arith) (omega arith)
-    (sym right.before.valid.ensures ∙ not-false _ right.if3.false)
+    (sym c.valid.ensures ∙ not-false _ c.if-not-valid.false-raw)
     (length a.region.now / 2 * 2)
-    (sym fits.before.donor-fits.ensures ∙ not-false _ fits.if4.false)
+    (sym c.donor_fits.ensures ∙ not-false _ c.if-not-donor_fits.false-raw)
     (omega arith)
     (omega arith)))
 

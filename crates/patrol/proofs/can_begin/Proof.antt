@@ -6,21 +6,19 @@ use Rattle.patrol.specs.Tours.{can_begin_m}
 use Rattle.patrol.proofs.can_begin.Statement.{statement}
 use Rattle.patrol.proofs.can_begin.Tie as tie
 
-returns : tie.Need-returns
+returns : tie.Need-returns-then-not-fits_length
 unfolding can_begin_m
-returns c = rw (sym c.before.fits-length.ensures ∙ not-true _ c.if1.true)
+returns c = rw (sym c.fits_length.ensures ∙ not-true _ c.if-not-fits_length.true-raw)
 
-returns-2 : tie.Need-returns-2
+returns-2 : tie.Need-returns-then-place-ne0
 unfolding can_begin_m
 returns-2 c =
-    let fits = c.before.before.before in
-    rw (sym fits.fits-length.ensures ∙ not-false _ c.before.before.if1.false, ne_eqb _ _ c.if2.true)
+    rw (sym c.fits_length.ensures ∙ not-false _ c.if-not-fits_length.false-raw, ne_eqb _ _ c.if-place-ne0.true)
 
-returns-3 : tie.Need-returns-3
+returns-3 : tie.Need-returns
 unfolding can_begin_m
 returns-3 c =
-    let fits = c.before.before.before.before in
-    rw (sym fits.fits-length.ensures ∙ not-false _ c.before.before.before.if1.false, eq-eqb _ _ c.before.if2.false)
+    rw (sym c.fits_length.ensures ∙ not-false _ c.if-not-fits_length.false-raw, eq-eqb _ _ c.if-place-ne0.false)
 
 pub can_begin_spec : {M : Type 1} → statement M
 can_begin_spec =

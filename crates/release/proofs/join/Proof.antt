@@ -7,19 +7,16 @@ use Rattle.release.proofs.join.Tie as tie
 returns : tie.Need-returns
 unfolding join_m joined_m
 returns c =
-    let read = c.before.before.before.before in
-    let reached = read.before in
-    let lower = reached.before.before in
     rw (
-      c.is-ordinary2.ensures,
-      c.before.joined_as.ensures,
-      c.before.before.lower_of.ensures,
-      c.before.before.before.below_of.ensures,
-      read.word.ensures,
-      reached.reach.ensures,
-      reached.before.neighbour2.ensures,
-      lower.is_ordinary_lem.ensures,
-      lower.before.neighbour.ensures,
+      c.is_ordinary.ensures,
+      c.joined_as.ensures,
+      c.lower_of.ensures,
+      c.below_of.ensures,
+      c.word-flags.ensures,
+      c.reach-to.ensures,
+      c.neighbour-above.ensures,
+      c.is_ordinary-lower.ensures,
+      c.neighbour.ensures,
     )
 
 pub join_spec : {M : Type 1} → statement M

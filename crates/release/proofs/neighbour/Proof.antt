@@ -5,15 +5,14 @@ use Rattle.release.specs.Release.{neighbour_m}
 use Rattle.release.proofs.neighbour.Statement.{statement}
 use Rattle.release.proofs.neighbour.Tie as tie
 
-returns : tie.Need-returns
+returns : tie.Need-returns-then-not-summary
 unfolding neighbour_m
-returns c = rw (not-true c.before.before.before.args.summary.merge c.if1.true)
+returns c = rw (not-true c.args.summary.merge c.if-not-summary.true)
 
-returns-2 : tie.Need-returns-2
+returns-2 : tie.Need-returns
 unfolding neighbour_m
 returns-2 c =
-    let merging = c.before.before in
-    rw (c.kind-of.ensures 0, c.before.word.ensures, not-false merging.before.before.before.args.summary.merge merging.if1.false)
+    rw (c.kind_of.ensures 0, c.word-flags.ensures, not-false c.args.summary.merge c.if-not-summary.false)
 
 pub neighbour_spec : {M : Type 1} → statement M
 neighbour_spec =

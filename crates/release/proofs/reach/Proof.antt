@@ -4,11 +4,11 @@ use borrow.Author.Tests.{not-true, not-false}
 use Rattle.release.proofs.reach.Statement.{statement}
 use Rattle.release.proofs.reach.Tie as tie
 
-returns : tie.Need-returns
-returns c = rw (← c.before.is_free.ensures, not-true c.before.is_free.result c.if1.true)
+returns : tie.Need-returns-then-not-is_free
+returns c = rw (← c.is_free.ensures, not-true c.is_free.result c.if-not-is_free.true-raw)
 
-returns-2 : tie.Need-returns-2
-returns-2 c = rw (c.word.ensures, ← c.before.before.is_free.ensures, not-false c.before.before.is_free.result c.before.if1.false)
+returns-2 : tie.Need-returns
+returns-2 c = rw (c.word.ensures, ← c.is_free.ensures, not-false c.is_free.result c.if-not-is_free.false-raw)
 
 pub reach_spec : {M : Type 1} → statement M
 reach_spec =

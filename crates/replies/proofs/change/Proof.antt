@@ -6,22 +6,22 @@ use Rattle.replies.specs.Replies.{change_m}
 use Rattle.replies.proofs.change.Statement.{statement}
 use Rattle.replies.proofs.change.Tie as tie
 
-returns : tie.Need-returns
+returns : tie.Need-returns-then-before-gt-LARGEST_HEAP
 unfolding change_m
-returns c = simp (lt-ltb _ _ c.if1.true)
+returns c = simp (lt-ltb _ _ c.if-before-gt-LARGEST_HEAP.true)
 
-returns-2 : tie.Need-returns-2
+returns-2 : tie.Need-returns-then-after-gt-LARGEST_HEAP
 unfolding change_m
-returns-2 c = simp (le-ltb _ _ c.before.if1.false, lt-ltb _ _ c.if2.true)
+returns-2 c = simp (le-ltb _ _ c.if-before-gt-LARGEST_HEAP.false, lt-ltb _ _ c.if-after-gt-LARGEST_HEAP.true)
 
-sub-result : tie.Need-overflow-sub-result
-sub-result c = let a = c.before.before.args in machine_fits a.after a.before c.if2.false c.before.if1.false
+sub-result : tie.Need-overflow_sub-result
+sub-result c = let a = c.args in machine_fits a.after a.before c.if-after-gt-LARGEST_HEAP.false c.if-before-gt-LARGEST_HEAP.false
 
-returns-3 : tie.Need-returns-3
+returns-3 : tie.Need-returns
 unfolding change_m
 returns-3 c =
-    let a = c.before.before.args in
-    rw (le-ltb _ _ c.before.if1.false, le-ltb _ _ c.if2.false) (machine_is a.after a.before c.if2.false c.before.if1.false)
+    let a = c.args in
+    rw (le-ltb _ _ c.if-before-gt-LARGEST_HEAP.false, le-ltb _ _ c.if-after-gt-LARGEST_HEAP.false) (machine_is a.after a.before c.if-after-gt-LARGEST_HEAP.false c.if-before-gt-LARGEST_HEAP.false)
 
 pub change_spec : {M : Type 1} → statement M
 change_spec = tie.close (tie.spec returns returns-2 (search rules) (search rules) sub-result returns-3)

@@ -4,24 +4,19 @@ use Rattle.resize.proofs.ResizeSteps.{resizes, resized_up, resized_down, resized
 use Rattle.resize.proofs.resize.Statement.{statement}
 use Rattle.resize.proofs.resize.Tie as tie
 
-returns : tie.Need-returns
+returns : tie.Need-returns-then-size-need
 returns c =
-    let larger = c.before.before.before.before in
-    resizes (resized_up larger.before.distance.ensures larger.if1.true c.before.before.move-block.ensures)
+    resizes (resized_up c.distance-size.ensures c.if-size-need.true c.move_block.ensures)
 
-returns-2 : tie.Need-returns-2
+returns-2 : tie.Need-returns-then-need-size
 returns-2 c =
-    let smaller = c.before.before.before.before in
-    let enough = smaller.before in
     resizes
-    (resized_down enough.before.distance.ensures enough.if1.false smaller.if2.true c.before.before.shrink.ensures)
+    (resized_down c.distance-size.ensures c.if-size-need.false c.if-need-size.true c.shrink.ensures)
 
-returns-3 : tie.Need-returns-3
+returns-3 : tie.Need-returns
 returns-3 c =
-    let same = c.before.before in
-    let enough = same.before in
     resizes
-    (resized_not enough.before.distance.ensures enough.if1.false same.if2.false c.before.Block-of.ensures c.change.ensures)
+    (resized_not c.distance-size.ensures c.if-size-need.false c.if-need-size.false c.block_of.ensures c.change.ensures)
 
 pub resize_spec : {M : Type 1} → statement M
 resize_spec =

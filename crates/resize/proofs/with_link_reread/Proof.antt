@@ -6,7 +6,7 @@ use Rattle.resize.proofs.with_link_reread.Tie as tie
 
 returns : tie.Need-returns
 unfolding reread_m
-returns c = rw c.word.ensures refl
+returns c = rw c.word-link.ensures refl
 
 pub with_link_reread_spec : {M : Type 1} → statement M
 with_link_reread_spec = tie.close (tie.spec (λ c κs. search rules) (λ c. search rules) returns)

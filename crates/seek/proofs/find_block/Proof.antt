@@ -4,32 +4,20 @@ use Rattle.seek.proofs.SeekLaws.{block_nowhere, block_dead, block_found}
 use Rattle.seek.proofs.find_block.Statement.{statement}
 use Rattle.seek.proofs.find_block.Tie as tie
 
-returns : tie.Need-returns
+returns : tie.Need-returns-in_default
 returns c =
-    block_nowhere _ _ _ c.before.before.before.Chunk-of.ensures c.before.before.find-chunk.ensures
-    c.enum_told.given.1
+    block_nowhere _ _ _ c.chunk_of-chunk.ensures c.find_chunk-sought.ensures
+    c.in_default.is
 
--- behind the question whether the block is live: the chunk is found
-module _ (asked : tie.After-has-live-block) where
-  abbrev found : tie.After-sought
-  found = asked.before.before
-
-  abbrev sought : tie.After-find-chunk
-  sought = found.before.before
-
-returns-3 : tie.Need-returns-3
+returns-3 : tie.Need-returns
 returns-3 c =
-    let asked = c.before in
-    let sought = sought asked in
-    block_found _ _ _ sought.before.Chunk-of.ensures sought.find-chunk.ensures (found asked).sought.given.1
-    asked.has-live-block.ensures c.if1.false
+    block_found _ _ _ c.chunk_of-chunk.ensures c.find_chunk-sought.ensures c.in-Found.is
+    c.has_live_block.ensures c.if-not-has_live_block.false-raw
 
-returns-2 : tie.Need-returns-2
+returns-2 : tie.Need-returns-then-not-has_live_block
 returns-2 c =
-    let asked = c.before in
-    let sought = sought asked in
-    block_dead _ _ _ sought.before.Chunk-of.ensures sought.find-chunk.ensures (found asked).sought.given.1
-    asked.has-live-block.ensures c.if1.true
+    block_dead _ _ _ c.chunk_of-chunk.ensures c.find_chunk-sought.ensures c.in-Found.is
+    c.has_live_block.ensures c.if-not-has_live_block.true-raw
 
 pub find_block_spec : {M : Type 1} → statement M
 find_block_spec =

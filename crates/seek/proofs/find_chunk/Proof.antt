@@ -8,35 +8,31 @@ use Rattle.seek.proofs.SeekLaws.{Seeking, seeking_begins, seeking_found, seeking
 use Rattle.seek.proofs.find_chunk.Statement.{statement}
 use Rattle.seek.proofs.find_chunk.Tie as tie
 
-abbrev invariant-loop : tie.invariant-loop
+abbrev invariant-loop : tie.invariant-loop-at
 invariant-loop region bytes place before₀ at₀ before at = Seeking region bytes place before at
 
-abbrev decreases-loop : tie.decreases-loop
+abbrev decreases-loop : tie.decreases-loop-at
 decreases-loop region bytes place before₀ at₀ before at = bytes - at
 
-loop-holds : tie.Need-loop-init invariant-loop decreases-loop
+loop-holds : tie.Need-loop-at-init invariant-loop decreases-loop
 loop-holds c = seeking_begins
 
-returns : tie.Need-returns invariant-loop decreases-loop
+returns : tie.Need-returns-then-at-place invariant-loop decreases-loop
 returns c =
-    let here = c.before.before.before in
-    seeking_found here.before.loop.invariant here.word.ensures c.before.before.end_of_lem.ensures c.before.if1.true c.word2.ensures refl
+    seeking_found c.loop-at.invariant c.word-next.ensures c.end_of-end.ensures c.if-at-place.true c.word-flags.ensures refl
 
-returns-2 : tie.Need-returns-2 invariant-loop decreases-loop
+returns-2 : tie.Need-returns-then-end-bytes invariant-loop decreases-loop
 returns-2 c =
-    let here = c.before.before.before in
-    seeking_ends here.before.loop.invariant here.word.ensures c.before.before.end_of_lem.ensures c.before.if1.false c.if2.true
+    seeking_ends c.loop-at.invariant c.word-next.ensures c.end_of-end.ensures c.if-at-place.false c.if-end-bytes.true
 
-loop-less : tie.Need-loop-smaller invariant-loop decreases-loop
+loop-less : tie.Need-loop-at-smaller invariant-loop decreases-loop
 loop-less c =
-    let here = c.before.before.before in
-    let g = seeking_goes here.before.loop.invariant here.word.ensures c.before.before.end_of_lem.ensures c.before.if1.false c.if2.false in
+    let g = seeking_goes c.loop-at.invariant c.word-next.ensures c.end_of-end.ensures c.if-at-place.false c.if-end-bytes.false in
     omega (arith, g.0, g.1)
 
-loop-again : tie.Need-loop-preserved invariant-loop decreases-loop
+loop-again : tie.Need-loop-at-preserved invariant-loop decreases-loop
 loop-again c =
-    let here = c.before.before.before in
-    (seeking_goes here.before.loop.invariant here.word.ensures c.before.before.end_of_lem.ensures c.before.if1.false c.if2.false).2
+    (seeking_goes c.loop-at.invariant c.word-next.ensures c.end_of-end.ensures c.if-at-place.false c.if-end-bytes.false).2
 
 pub find_chunk_spec : {M : Type 1} → statement M
 find_chunk_spec =

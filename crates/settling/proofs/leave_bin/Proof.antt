@@ -5,17 +5,14 @@ use Rattle.settling.specs.Settling.{leave_bin_m}
 use Rattle.settling.proofs.leave_bin.Statement.{statement}
 use Rattle.settling.proofs.leave_bin.Tie as tie
 
-returns : tie.Need-returns
+returns : tie.Need-returns-then-not-binned
 unfolding leave_bin_m
-returns c = rw (not-true c.before.before.before.before.args.binned c.if1.true)
+returns c = rw (not-true c.args.binned c.if-not-binned.true-raw)
 
-returns-2 : tie.Need-returns-2
+returns-2 : tie.Need-returns
 unfolding leave_bin_m
 returns-2 c =
-    let left = c.before.before.before.before.before.before in
-    let binned = left.before.before.before.before in
-    let start = binned.before.before.before.before in
-    rw (not-false start.args.binned binned.if1.false) left.leave.ensures
+    rw (not-false c.args.binned c.if-not-binned.false-raw) c.leave.ensures
 
 pub leave_bin_spec : {M : Type 1} → statement M
 leave_bin_spec =

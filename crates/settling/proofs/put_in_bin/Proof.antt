@@ -4,31 +4,14 @@ use Rattle.settling.proofs.SettlingSteps.{is_put, put_binned, put_nowhere}
 use Rattle.settling.proofs.put_in_bin.Statement.{statement}
 use Rattle.settling.proofs.put_in_bin.Tie as tie
 
-returns : tie.Need-returns
-returns c = is_put (put_nowhere _ c.before.before.bin-of.ensures c.enum_told.given.1)
+returns : tie.Need-returns-in_default
+returns c = is_put (put_nowhere _ c.bin_of-binned.ensures c.in_default.is)
 
--- the steps of a put, from its end back
-module _ (c : tie.After-slice-known6) where
-  abbrev put : tie.After-put-between
-  put = c.before.before.before.before.before.before
-
-  abbrev found : tie.After-slot-for
-  found = put.before.before.before.before
-
-  abbrev asked : tie.After-in-small-array
-  asked = found.before.before.before.before
-
-  abbrev binned : tie.After-binned
-  binned = asked.before.before
-
-  abbrev told : tie.After-bin-of
-  told = binned.before.before
-
-returns-2 : tie.Need-returns-2
+returns-2 : tie.Need-returns
 returns-2 c =
     is_put
-    (put_binned _ (told c).bin-of.ensures (binned c).binned.given.1 (asked c).in-small-array.ensures (found c).slot-for.ensures
-    (put c).put_between_lem.ensures)
+    (put_binned _ c.bin_of-binned.ensures c.in-Bin.is c.in_small_array-small.ensures c.slot_for-slot.ensures
+    c.put_between.ensures)
 
 pub put_in_bin_spec : {M : Type 1} → statement M
 put_in_bin_spec =

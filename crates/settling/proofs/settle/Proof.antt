@@ -5,20 +5,15 @@ use Rattle.settling.specs.Settling.{settle_m}
 use Rattle.settling.proofs.settle.Statement.{statement}
 use Rattle.settling.proofs.settle.Tie as tie
 
-returns : tie.Need-returns
+returns : tie.Need-returns-then-not-is_ordinary
 unfolding settle_m
 returns c =
-    let other = c.before.before.before.before in
-    let told = other.before in
-    rw (c.before.before.write-no-bin.ensures, ← told.is_ordinary_lem.ensures, not-true told.is_ordinary_lem.result other.if1.true)
+    rw (c.write_no_bin.ensures, ← c.is_ordinary.ensures, not-true c.is_ordinary.result c.if-not-is_ordinary.true-raw)
 
-returns-2 : tie.Need-returns-2
+returns-2 : tie.Need-returns
 unfolding settle_m
 returns-2 c =
-    let put = c.before.before.before.before.before.before in
-    let ordinary = put.before.before.before.before in
-    let told = ordinary.before in
-    rw (← told.is_ordinary_lem.ensures, not-false told.is_ordinary_lem.result ordinary.if1.false) put.put-in-bin.ensures
+    rw (← c.is_ordinary.ensures, not-false c.is_ordinary.result c.if-not-is_ordinary.false-raw) c.put_in_bin.ensures
 
 pub settle_spec : {M : Type 1} → statement M
 settle_spec =

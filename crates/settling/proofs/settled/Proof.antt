@@ -3,11 +3,11 @@ use borrow.Author.Rules.{rules}
 use Rattle.settling.proofs.settled.Statement.{statement}
 use Rattle.settling.proofs.settled.Tie as tie
 
-returns-4 : tie.Need-returns-4
-returns-4 c = rw c.before.enum-told4.given.1 c.with-donor.ensures
+returns-4 : tie.Need-returns-in-Donor
+returns-4 c = rw c.in-Donor.is c.with_donor.ensures
 
-returns-5 : tie.Need-returns-5
-returns-5 c = rw c.before.enum-told5.given.1 c.with-top.ensures
+returns-5 : tie.Need-returns-in-Top
+returns-5 c = rw c.in-Top.is c.with_top.ensures
 
 pub settled_spec : {M : Type 1} → statement M
 settled_spec =

@@ -5,18 +5,15 @@ use Rattle.supply.specs.Supply.{filled_m}
 use Rattle.supply.proofs.fill.Statement.{statement}
 use Rattle.supply.proofs.fill.Tie as tie
 
-returns : tie.Need-returns
+returns : tie.Need-returns-then-not-clears
 unfolding filled_m
-returns c = rw (not-true c.before.before.args.clears c.if1.true)
+returns c = rw (not-true c.args.clears c.if-not-clears.true-raw)
 
-returns-2 : tie.Need-returns-2
+returns-2 : tie.Need-returns
 unfolding filled_m
 returns-2 c =
-    let placed = c.before.before.before in
-    let ended = placed.before.before in
-    let clears = ended.before in
-    rw (not-false clears.before.before.args.clears clears.if1.false, sym placed.Block-of.ensures, sym ended.wrapping-add-u32.ensures)
-    c.before.before.clear-block.ensures
+    rw (not-false c.args.clears c.if-not-clears.false-raw, sym c.block_of.ensures, sym c.wrapping_add_u32-end.ensures)
+    c.clear_block.ensures
 
 pub fill_spec : {M : Type 1} → statement M
 fill_spec =

@@ -5,13 +5,12 @@ use Rattle.survey.proofs.added.Tie as tie
 
 returns : tie.Need-returns
 returns c =
-    let donors = c.before.before in
     rw (
-      c.wrapping-add-u325.ensures,
-      c.before.wrapping-add-u324.ensures,
-      donors.wrapping-add-u323.ensures,
-      donors.before.wrapping-add-u322.ensures,
-      donors.before.before.wrapping-add-u32.ensures,
+      c.wrapping_add_u32-5.ensures,
+      c.wrapping_add_u32-4.ensures,
+      c.wrapping_add_u32-3.ensures,
+      c.wrapping_add_u32-2.ensures,
+      c.wrapping_add_u32.ensures,
     )
 
 pub added_spec : {M : Type 1} → statement M

@@ -4,13 +4,13 @@ use Rattle.survey.specs.Chunks.{is_first_m}
 use Rattle.survey.proofs.is_first.Statement.{statement}
 use Rattle.survey.proofs.is_first.Tie as tie
 
-returns : tie.Need-returns
+returns : tie.Need-returns-then-next-ne-END_SIZE
 unfolding is_first_m
-returns c = rw (ne_eqb _ _ c.if1.true)
+returns c = rw (ne_eqb _ _ c.if-next-ne-END_SIZE.true)
 
-returns-2 : tie.Need-returns-2
+returns-2 : tie.Need-returns
 unfolding is_first_m
-returns-2 c = rw (eq-eqb _ _ c.if1.false)
+returns-2 c = rw (eq-eqb _ _ c.if-next-ne-END_SIZE.false)
 
 pub is_first_spec : {M : Type 1} → statement M
 is_first_spec = tie.close (tie.spec returns returns-2)

@@ -4,15 +4,14 @@ use Rattle.survey.specs.Survey.{mark_m}
 use Rattle.survey.proofs.mark.Statement.{statement}
 use Rattle.survey.proofs.mark.Tie as tie
 
-returns : tie.Need-returns
+returns : tie.Need-returns-then-is_ordinary
 unfolding mark_m
 returns c =
-    let b = c.before.before.before.before in
-    rw (← b.before.is_ordinary_lem.ensures, b.if1.true) c.before.before.flip.ensures
+    rw (← c.is_ordinary.ensures, c.if-is_ordinary.true) c.flip.ensures
 
-returns-2 : tie.Need-returns-2
+returns-2 : tie.Need-returns-else-is_ordinary
 unfolding mark_m
-returns-2 c = rw (← c.before.is_ordinary_lem.ensures, c.if1.false)
+returns-2 c = rw (← c.is_ordinary.ensures, c.if-is_ordinary.false)
 
 pub mark_spec : {M : Type 1} → statement M
 mark_spec =

@@ -4,29 +4,29 @@ use Rattle.survey.proofs.SurveyLaws.{tallies}
 use Rattle.survey.proofs.tallied.Statement.{statement}
 use Rattle.survey.proofs.tallied.Tie as tie
 
-returns : tie.Need-returns
+returns : tie.Need-returns-in-Start
 returns c =
-    rw c.before.before.enum_told.given.1 (tallies c.before.before.before.before.args.tally c.before.shares.ensures c.added.ensures)
+    rw c.in-Start.is (tallies c.args.tally c.shares.ensures c.added.ensures)
 
-returns-2 : tie.Need-returns-2
+returns-2 : tie.Need-returns-in-InUse
 returns-2 c =
-    rw c.before.before.enum-told2.given.1 (tallies c.before.before.before.before.args.tally c.before.shares2.ensures c.added2.ensures)
+    rw c.in-InUse.is (tallies c.args.tally c.shares-in-InUse.ensures c.added-in-InUse.ensures)
 
-returns-3 : tie.Need-returns-3
+returns-3 : tie.Need-returns-in-Ordinary
 returns-3 c =
-    rw c.before.before.enum-told3.given.1 (tallies c.before.before.before.before.args.tally c.before.shares3.ensures c.added3.ensures)
+    rw c.in-Ordinary.is (tallies c.args.tally c.shares-in-Ordinary.ensures c.added-in-Ordinary.ensures)
 
-returns-4 : tie.Need-returns-4
+returns-4 : tie.Need-returns-in-Donor
 returns-4 c =
-    rw c.before.before.enum-told4.given.1 (tallies c.before.before.before.before.args.tally c.before.shares4.ensures c.added4.ensures)
+    rw c.in-Donor.is (tallies c.args.tally c.shares-in-Donor.ensures c.added-in-Donor.ensures)
 
-returns-5 : tie.Need-returns-5
+returns-5 : tie.Need-returns-in-Top
 returns-5 c =
-    rw c.before.before.enum-told5.given.1 (tallies c.before.before.before.before.args.tally c.before.shares5.ensures c.added5.ensures)
+    rw c.in-Top.is (tallies c.args.tally c.shares-in-Top.ensures c.added-in-Top.ensures)
 
-returns-6 : tie.Need-returns-6
+returns-6 : tie.Need-returns-in-End
 returns-6 c =
-    rw c.before.before.enum-told6.given.1 (tallies c.before.before.before.before.args.tally c.before.shares6.ensures c.added6.ensures)
+    rw c.in-End.is (tallies c.args.tally c.shares-in-End.ensures c.added-in-End.ensures)
 
 pub tallied_spec : {M : Type 1} → statement M
 tallied_spec =

@@ -6,20 +6,20 @@ use Rattle.sweep.proofs.SweepLaws.{nothing_passed, one_passed}
 use Rattle.sweep.proofs.next_listed.Statement.{statement}
 use Rattle.sweep.proofs.next_listed.Tie as tie
 
-abbrev invariant-loop : tie.invariant-loop
+abbrev invariant-loop : tie.invariant-loop-bin
 invariant-loop heads tails from count bin₀ bin = NextListed heads tails from bin
 
-abbrev decreases-loop : tie.decreases-loop
+abbrev decreases-loop : tie.decreases-loop-bin
 decreases-loop heads tails from count bin₀ bin = count - bin
 
-returns : tie.Need-returns invariant-loop decreases-loop
-returns c = c.before.before.before.before.loop.invariant
+returns : tie.Need-returns-then-heads-bin-ne0 invariant-loop decreases-loop
+returns c = c.loop-bin.invariant
 
-loop-again : tie.Need-loop-preserved invariant-loop decreases-loop
-loop-again c = one_passed c.before.before.before.before.loop.invariant c.if1.false
+loop-again : tie.Need-loop-bin-preserved invariant-loop decreases-loop
+loop-again c = one_passed c.loop-bin.invariant c.if-heads-bin-ne0.false
 
-returns-2 : tie.Need-returns-2 invariant-loop decreases-loop
-returns-2 c = c.before.loop.invariant
+returns-2 : tie.Need-returns invariant-loop decreases-loop
+returns-2 c = c.loop-bin.invariant
 
 pub next_listed_spec : {M : Type 1} → statement M
 next_listed_spec =

@@ -6,23 +6,21 @@ use Rattle.sweep.proofs.sizes_of.Statement.{statement}
 use Rattle.sweep.proofs.sizes_of.Tie as tie
 
 -- behind the read of the next bin's size: it is greater than the bin's
-module _ (read : tie.After-shared-slice-known3) where
-  abbrev start : tie.Start
-  start = read.before.before.before.before.before
+module _ (read : tie.After-shared_slice_known-then-next-table-1) where
 
-  ascends : size_at start.args.table.now start.args.bin < size_at start.args.table.now (start.args.bin + 1)
-  ascends = rw add-one (start.pre.0.ascends start.args.bin (rw add-one at read.before.if1.taken))
+  ascends : size_at read.args.table.now read.args.bin < size_at read.args.table.now (read.args.bin + 1)
+  ascends = rw add-one (read.requires.0.ascends read.args.bin (rw add-one at read.if-next-table.true))
 
-returns : tie.Need-returns
+returns : tie.Need-returns-then-next-table
 returns c = (
-  rw (c.before.before.before.bin_word.ensures, lt-leb _ _ (rw add-one at c.before.if1.true), add-one),
+  rw (c.bin_word.ensures, lt-leb _ _ (rw add-one at c.if-next-table.true), add-one),
   omega (arith, ascends c),
 )
 
-returns-2 : tie.Need-returns-2
+returns-2 : tie.Need-returns-else-next-table
 returns-2 c = (
-  rw (c.before.before.bin_word.ensures, le-leb _ _ (rw add-one at c.if1.false)),
-  omega (arith, c.before.shared-slice-known2.given c.before.before.before.before.args.bin),
+  rw (c.bin_word.ensures, le-leb _ _ (rw add-one at c.if-next-table.false)),
+  omega (arith, c.shared_slice_known-2-1.given c.args.bin),
 )
 
 pub sizes_of_spec : {M : Type 1} → statement M

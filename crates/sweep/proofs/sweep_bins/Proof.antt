@@ -5,84 +5,60 @@ use Rattle.sweep.proofs.SweepLaws.{Sweeping, sweeping_begins, sweeping_skips, sw
 use Rattle.sweep.proofs.sweep_bins.Statement.{statement}
 use Rattle.sweep.proofs.sweep_bins.Tie as tie
 
-abbrev invariant-loop : tie.invariant-loop
+abbrev invariant-loop : tie.invariant-loop-bin
 invariant-loop region marks table heads tails bytes met₀ bin₀ met bin = Sweeping region table heads tails bytes marks bin met
 
-abbrev decreases-loop : tie.decreases-loop
+abbrev decreases-loop : tie.decreases-loop-bin
 decreases-loop region marks table heads tails bytes met₀ bin₀ met bin = length table - bin
 
 -- in the loop: what the function was given
-abbrev start : tie.In-loop invariant-loop decreases-loop → tie.Start invariant-loop decreases-loop
-start turn = turn.before.before.before.before.before.before.before.before
 
 -- behind the sweep of a list: the bin is one of the table's
-abbrev turn : tie.After-sweep-list invariant-loop decreases-loop → tie.In-loop invariant-loop decreases-loop
-turn swept = swept.before.before
 
-ends : tie.Need-next-listed-requires invariant-loop decreases-loop
+ends : tie.Need-next_listed-bin-requires invariant-loop decreases-loop
 ends c κs =
-    let start = c.before.before.before.before.before in
-    (start.requires.1.1.1.enough_heads, start.requires.1.1.1.enough_tails)
+    (c.requires.1.1.1.enough_heads, c.requires.1.1.1.enough_tails)
 
-loop-holds : tie.Need-loop-init invariant-loop decreases-loop
-loop-holds c = sweeping_skips sweeping_begins c.next-listed.ensures
+loop-holds : tie.Need-loop-bin-init invariant-loop decreases-loop
+loop-holds c = sweeping_skips sweeping_begins c.next_listed-bin.ensures
 
-head-inside : tie.Need-shared-slice-read-sweep-list invariant-loop decreases-loop
-head-inside c = let ends = (start c.before).pre.1.1.1 in omega arith
+head-inside : tie.Need-bounds-heads-bin invariant-loop decreases-loop
+head-inside c = let ends = c.requires.1.1.1 in omega arith
 
-list-lent : tie.Need-sweep-list-requires invariant-loop decreases-loop
+list-lent : tie.Need-sweep_list-swept-requires invariant-loop decreases-loop
 list-lent c κs =
-    let turn = c.before in
-    ((start turn).requires.0, ((start turn).requires.1.0, ((start turn).requires.1.1.0, turn.loop-test.true)))
+    (c.requires.0, (c.requires.1.0, (c.requires.1.1.0, c.loop-bin-test.true)))
 
-returns : tie.Need-returns invariant-loop decreases-loop
+returns : tie.Need-returns-in_default invariant-loop decreases-loop
 returns c =
-    let swept = c.before.before in
-    let turn = turn swept in
-    dirty_list turn.before.loop.inv turn.loop-test.taken refl swept.sweep-list.ensures c.enum_told.given.1
+    dirty_list c.loop-bin.invariant c.loop-bin-test.true refl c.sweep_list-swept.ensures c.in_default.is
 
-tail-inside : tie.Need-shared-slice-read-if1 invariant-loop decreases-loop
+tail-inside : tie.Need-bounds-tails-bin invariant-loop decreases-loop
 tail-inside c =
-    let swept = c.before.before.before.before in
-    let ends = (start (turn swept)).pre.1.1.1 in
+    let ends = c.requires.1.1.1 in
     omega arith
 
-returns-2 : tie.Need-returns-2 invariant-loop decreases-loop
+returns-2 : tie.Need-returns-then-tails-bin invariant-loop decreases-loop
 returns-2 c =
-    let whole = c.before.before.before in
-    let swept = whole.before.before in
-    let turn = turn swept in
-    dirty_tail turn.before.loop.inv turn.loop-test.taken refl swept.sweep-list.ensures
-    whole.swept.given.1 refl c.if1.true
+    dirty_tail c.loop-bin.invariant c.loop-bin-test.true refl c.sweep_list-swept.ensures
+    c.in-Whole.is refl c.if-tails-bin.true
 
--- behind the sum: the tail is the last member met
-module _ (summed : tie.After-wrapping-add-u32 invariant-loop decreases-loop) where
-  abbrev whole : tie.After-swept invariant-loop decreases-loop
-  whole = summed.before.before.before.before
-
-  abbrev list-swept : tie.After-sweep-list invariant-loop decreases-loop
-  list-swept = whole.before.before
-
-ends-2 : tie.Need-next-listed-requires-2 invariant-loop decreases-loop
+ends-2 : tie.Need-next_listed-bin-requires-in-loop-bin invariant-loop decreases-loop
 ends-2 c κs =
-    let start = start (turn (list-swept c)) in
-    (start.pre.1.1.1.enough_heads, start.pre.1.1.1.enough_tails)
+    (c.requires.1.1.1.enough_heads, c.requires.1.1.1.enough_tails)
 
-fewer-left : tie.Need-loop-smaller invariant-loop decreases-loop
-fewer-left c = omega (arith, c.next-listed2.ensures.onward)
+fewer-left : tie.Need-loop-bin-smaller invariant-loop decreases-loop
+fewer-left c = omega (arith, c.next_listed-bin-in-loop-bin.ensures.onward)
 
-loop-again : tie.Need-loop-preserved invariant-loop decreases-loop
+loop-again : tie.Need-loop-bin-preserved invariant-loop decreases-loop
 loop-again c =
-    let summed = c.before in
-    let swept = list-swept summed in
-    let turn = turn swept in
     sweeping_skips
-    (sweeping_goes turn.before.loop.inv turn.loop-test.taken refl swept.sweep-list.ensures
-    (whole summed).swept.given.1 refl summed.before.if1.false summed.wrapping-add-u32.ensures)
-    c.next-listed2.ensures
+    (sweeping_goes c.loop-bin.invariant c.loop-bin-test.true refl c.sweep_list-swept.ensures
+    c.in-Whole.is refl c.if-tails-bin.false c.wrapping_add_u32-met.ensures)
+    c.next_listed-bin-in-loop-bin.ensures
 
-returns-3 : tie.Need-returns-3 invariant-loop decreases-loop
-returns-3 c = all_clean c.before.loop.invariant c.loop-test.false
+returns-3 : tie.Need-returns invariant-loop decreases-loop
+returns-3 c = all_clean c.loop-bin.invariant c.loop-bin-test.false
 
 pub sweep_bins_spec : {M : Type 1} → statement M
 sweep_bins_spec =

@@ -5,13 +5,13 @@ use Rattle.chain.proofs.LengthLaws.{too_few, too_many, by_bytes}
 use Rattle.chain.proofs.length.fits_length.Statement.{statement}
 use Rattle.chain.proofs.length.fits_length.Tie as tie
 
-returns : tie.Need-returns
-returns c = too_few _ _ c.if1.true
+returns : tie.Need-returns-then-words-lt-FEWEST_WORDS
+returns c = too_few _ _ c.if-words-lt-FEWEST_WORDS.true
 
-returns-2 : tie.Need-returns-2
-returns-2 c = too_many _ _ c.before.if1.false (omega arith)
+returns-2 : tie.Need-returns-then-words-gt-MOST_WORDS
+returns-2 c = too_many _ _ c.if-words-lt-FEWEST_WORDS.false (omega arith)
 
-returns-3 : tie.Need-returns-3
+returns-3 : tie.Need-returns
 returns-3 c = by_bytes _ _ (omega arith) (omega arith)
 
 pub fits_length_spec : {M : Type 1} → statement M

@@ -6,7 +6,7 @@ use Rattle.fresh.proofs.first_record.fresh.Tie as tie
 
 returns : tie.Need-returns
 unfolding fresh_m
-returns c = rw (c.donor-place.ensures, c.before.padded.ensures, c.before.before.bin-count.ensures)
+returns c = rw (c.donor_place.ensures, c.padded.ensures, c.bin_count.ensures)
 
 pub fresh_spec : {M : Type 1} → statement M
 fresh_spec =

@@ -6,31 +6,31 @@ use Rattle.fresh.proofs.FirstRecordMeaning.{copies_one, copies_fill, copies_all}
 use Rattle.fresh.proofs.first_record.padded.Statement.{statement}
 use Rattle.fresh.proofs.first_record.padded.Tie as tie
 
-abbrev invariant-loop : tie.invariant-loop
+abbrev invariant-loop : tie.invariant-loop-i
 invariant-loop table sizes₀ i₀ sizes i =
     (i ≤ length table) × (i ≤ 32) × (sizes ≡ take i table ++ drop i zeros)
 
-abbrev decreases-loop : tie.decreases-loop
+abbrev decreases-loop : tie.decreases-loop-i
 decreases-loop table sizes₀ i₀ sizes i = length table - i
 
-loop-holds : tie.Need-loop-init invariant-loop decreases-loop
+loop-holds : tie.Need-loop-i-init invariant-loop decreases-loop
 loop-holds c = (omega arith, omega arith, refl)
 
-returns : tie.Need-returns invariant-loop decreases-loop
+returns : tie.Need-returns-then-i-ge-PLACES invariant-loop decreases-loop
 unfolding padded_m
 returns c =
-    let l = c.before.before.loop in
+    let l = c.loop-i in
     rw l.invariant.2 (copies_fill _ zeros l.i (omega arith) (omega arith))
 
-loop-again : tie.Need-loop-preserved invariant-loop decreases-loop
+loop-again : tie.Need-loop-i-preserved invariant-loop decreases-loop
 loop-again c =
-    let l = c.before.before.before.loop in
+    let l = c.loop-i in
     (omega arith, omega arith, rw l.invariant.2 (copies_one _ zeros l.i (omega arith) (omega arith)))
 
-returns-2 : tie.Need-returns-2 invariant-loop decreases-loop
+returns-2 : tie.Need-returns invariant-loop decreases-loop
 unfolding padded_m
 returns-2 c =
-    let l = c.before.loop in
+    let l = c.loop-i in
     rw l.invariant.2 (copies_all _ zeros l.i (omega arith) (omega arith))
 
 pub padded_spec : {M : Type 1} → statement M

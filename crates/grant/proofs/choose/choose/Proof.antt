@@ -2,58 +2,40 @@
 use Rattle.std.proofs.Common.{sym, ◌∙◌, inl, inr, rules}
 use Rattle.grant.proofs.ChooseLaws.{chooses, from_own, from_donor_first, from_larger, from_rest}
 use Rattle.grant.proofs.choose.choose.Statement.{statement}
+use Rattle.grant.proofs.choose.choose.Lts.{else-donor-via-then-donor+else-is_small, else-donor-via-else-donor}
 use Rattle.grant.proofs.choose.choose.Tie as tie
 
-returns : tie.Need-returns
+returns : tie.Need-returns-then-own-ne0
 returns c =
-    let own = c.before.before in
-    chooses (from_own (record { taken = own.before.bin-of.ensures; found = own.own_bin_lem.ensures }) c.if1.true)
+    chooses (from_own (record { taken = c.bin_of-binned.ensures; found = c.own_bin-own.ensures }) c.if-own-ne0.true)
 
--- behind the question to the donor: the own bin has nothing
-module _ (asked : tie.After-donor-serves) where
-  abbrev own-empty : tie.Else1
-  own-empty = asked.before
-
-  abbrev own-sought : tie.After-own-bin
-  own-sought = own-empty.before.before
-
-returns-2 : tie.Need-returns-2
+returns-2 : tie.Need-returns-then-is_small
 returns-2 c =
-    let small = c.before in
-    let serves = small.before in
-    let donor = serves.before in
-    let own = own-sought donor in
     chooses
-    (from_donor_first (record { taken = own.before.bin-of.ensures; found = own.own_bin_lem.ensures }) (own-empty donor).if1.false
-    donor.donor-serves.ensures serves.if2.true (sym small.is-small.ensures ∙ c.if3.true))
+    (from_donor_first (record { taken = c.bin_of-binned.ensures; found = c.own_bin-own.ensures }) c.if-own-ne0.false
+    c.donor_serves-donor.ensures c.if-donor.true (sym c.is_small.ensures ∙ c.if-is_small.true))
 
--- behind the search of the larger bins: the donor was asked, and its turn did not come before them
-module _ (sought : tie.After-larger-bin) where
-  abbrev donor-asked : tie.After-donor-serves
-  donor-asked = sought.before.before
-
-returns-3 : tie.Need-returns-3
+returns-3 : tie.Need-returns-then-larger-ne0
 returns-3 c =
-    let larger = c.before.before in
-    let donor = donor-asked larger in
-    let own = own-sought donor in
     chooses
-    (from_larger (record { taken = own.before.bin-of.ensures; found = own.own_bin_lem.ensures }) (own-empty donor).if1.left
-    donor.donor-serves.ensures larger.larger-bin.ensures
-    (elim larger.before.if2.branch [ inl (serves, small, large) ↦ inr (sym small.ensures ∙ large.left) | inr spared ↦ inl spared.left ])
-    c.if4.true)
+    (from_larger (record { taken = c.bin_of-binned.ensures; found = c.own_bin-own.ensures }) c.if-own-ne0.false
+    c.donor_serves-donor.ensures c.larger_bin-larger.ensures
+    (elim c.else-donor.branch [
+      else-donor-via-then-donor+else-is_small w ↦ inr (sym w.is_small.ensures ∙ w.if-is_small.false)
+      | else-donor-via-else-donor w ↦ inl w.if-donor.false
+    ])
+    c.if-larger-ne0.true)
 
-returns-4 : tie.Need-returns-4
+returns-4 : tie.Need-returns
 returns-4 c =
-    let top = c.before in
-    let larger = top.before.before.before in
-    let donor = donor-asked larger in
-    let own = own-sought donor in
     chooses
-    (from_rest (record { taken = own.before.bin-of.ensures; found = own.own_bin_lem.ensures }) (own-empty donor).if1.left
-    donor.donor-serves.ensures larger.larger-bin.ensures
-    (elim larger.before.if2.branch [ inl (serves, small, large) ↦ inr (sym small.ensures ∙ large.left) | inr spared ↦ inl spared.left ])
-    top.before.if4.false top.top-serves.ensures c.top-or-donor.ensures)
+    (from_rest (record { taken = c.bin_of-binned.ensures; found = c.own_bin-own.ensures }) c.if-own-ne0.false
+    c.donor_serves-donor.ensures c.larger_bin-larger.ensures
+    (elim c.else-donor.branch [
+      else-donor-via-then-donor+else-is_small w ↦ inr (sym w.is_small.ensures ∙ w.if-is_small.false)
+      | else-donor-via-else-donor w ↦ inl w.if-donor.false
+    ])
+    c.if-larger-ne0.false c.top_serves.ensures c.top_or_donor.ensures)
 
 pub choose_spec : {M : Type 1} → statement M
 choose_spec =

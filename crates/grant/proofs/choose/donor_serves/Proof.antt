@@ -4,13 +4,13 @@ use Rattle.grant.specs.Choose.{donor_m}
 use Rattle.grant.proofs.choose.donor_serves.Statement.{statement}
 use Rattle.grant.proofs.choose.donor_serves.Tie as tie
 
-returns : tie.Need-returns
+returns : tie.Need-returns-then-donor-eq0
 unfolding donor_m
-returns c = rw (eq-eqb _ _ c.if1.true)
+returns c = rw (eq-eqb _ _ c.if-donor-eq0.true)
 
-returns-2 : tie.Need-returns-2
+returns-2 : tie.Need-returns
 unfolding donor_m
-returns-2 c = rw (ne_eqb _ _ c.before.if1.false, c.word.ensures)
+returns-2 c = rw (ne_eqb _ _ c.if-donor-eq0.false, c.word.ensures)
 
 pub donor_serves_spec : {M : Type 1} → statement M
 donor_serves_spec = tie.close (tie.spec returns (λ c. search rules) (λ c. search rules) (λ c κs. search rules) (λ c. search rules) returns-2)

@@ -4,13 +4,13 @@ use Rattle.grant.specs.Choose.{own_m}
 use Rattle.grant.proofs.choose.own_bin.Statement.{statement}
 use Rattle.grant.proofs.choose.own_bin.Tie as tie
 
-returns : tie.Need-returns
+returns : tie.Need-returns-in-Bin
 unfolding own_m
-returns c = rw (c.before.before.before.binned.given.1, ← c.before.list-end.ensures) c.first-fit.ensures
+returns c = rw (c.in-Bin.is, ← c.list_end.ensures) c.first_fit.ensures
 
-returns-2 : tie.Need-returns-2
+returns-2 : tie.Need-returns-in-NoBin
 unfolding own_m
-returns-2 c = rw c.enum_told.given.1
+returns-2 c = rw c.in-NoBin.is
 
 pub own_bin_spec : {M : Type 1} → statement M
 own_bin_spec = tie.close (tie.spec (λ c. search rules) (λ c κs. search rules) (λ c κs. search rules) (λ c. search rules) returns returns-2)

@@ -7,15 +7,13 @@ use Rattle.grant.proofs.cut.cut_of.Tie as tie
 returns : tie.Need-returns
 unfolding cut_m
 returns c =
-    let granted = c.before.before.before in
-    let sized = granted.before in
     rw (
-      c.wrapping-add-u32.ensures,
-      granted.granted.ensures,
-      sized.word2.ensures,
-      c.before.word4.ensures,
-      c.before.before.word3.ensures,
-      sized.before.word.ensures,
+      c.wrapping_add_u32.ensures,
+      c.granted-given.ensures,
+      c.word.ensures,
+      c.word-flags.ensures,
+      c.word-end.ensures,
+      c.word-below.ensures,
     )
 
 pub cut_of_spec : {M : Type 1} → statement M

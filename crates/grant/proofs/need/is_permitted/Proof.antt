@@ -4,11 +4,11 @@ use borrow.Author.Tests.{lt-leb}
 use Rattle.grant.proofs.need.is_permitted.Statement.{statement}
 use Rattle.grant.proofs.need.is_permitted.Tie as tie
 
-returns : tie.Need-returns
-returns c = rw (lt-leb _ _ c.if1.true)
+returns : tie.Need-returns-then-z-lt1
+returns c = rw (lt-leb _ _ c.if-z-lt1.true)
 
-returns-2 : tie.Need-returns-2
-returns-2 c = rw (le-leb _ _ c.if1.false)
+returns-2 : tie.Need-returns
+returns-2 c = rw (le-leb _ _ c.if-z-lt1.false)
 
 pub is_permitted_spec : {M : Type 1} → statement M
 is_permitted_spec = tie.close (tie.spec returns (λ c. search rules) returns-2)

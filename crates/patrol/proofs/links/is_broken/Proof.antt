@@ -6,19 +6,17 @@ use Rattle.patrol.proofs.LinksLaws.{broken_is}
 use Rattle.patrol.proofs.links.is_broken.Statement.{statement}
 use Rattle.patrol.proofs.links.is_broken.Tie as tie
 
-returns : tie.Need-returns
+returns : tie.Need-returns-then-not-can_follow
 returns c =
-    let followed = c.before in
-    rw (← broken_is, ← followed.before.least_size.ensures, sym followed.can-follow.ensures ∙ not-true _ c.if1.true)
+    rw (← broken_is, ← c.least_size.ensures, sym c.can_follow.ensures ∙ not-true _ c.if-not-can_follow.true-raw)
 
-returns-2 : tie.Need-returns-2
+returns-2 : tie.Need-returns
 returns-2 c =
-    let followed = c.before.before in
     rw (
-      c.is-skip.ensures,
+      c.is_skip.ensures,
       ← broken_is,
-      ← followed.before.least_size.ensures,
-      sym followed.can-follow.ensures ∙ not-false _ c.before.if1.false,
+      ← c.least_size.ensures,
+      sym c.can_follow.ensures ∙ not-false _ c.if-not-can_follow.false-raw,
     )
 
 pub is_broken_spec : {M : Type 1} → statement M

@@ -5,13 +5,13 @@ use Rattle.patrol.specs.Mends.{mend_back_m}
 use Rattle.patrol.proofs.mend.mend_back.Statement.{statement}
 use Rattle.patrol.proofs.mend.mend_back.Tie as tie
 
-add-fits : tie.Need-overflow-add-mend-word
+add-fits : tie.Need-overflow_add-below
 add-fits c = omega arith
 
 returns : tie.Need-returns
 unfolding mend_back_m
 returns c =
-    rw (c.before.before.mend-word.ensures, ← c.before.before.before.before.before.before.word.ensures)
+    rw (c.mend_word.ensures, ← c.word-flags.ensures)
 
 pub mend_back_spec : {M : Type 1} → statement M
 mend_back_spec =

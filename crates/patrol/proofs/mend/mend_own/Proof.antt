@@ -5,24 +5,23 @@ use Rattle.patrol.specs.Mends.{mend_own_m}
 use Rattle.patrol.proofs.mend.mend_own.Statement.{statement}
 use Rattle.patrol.proofs.mend.mend_own.Tie as tie
 
-returns : tie.Need-returns
+returns : tie.Need-returns-then-chunk-eq0
 unfolding mend_own_m
-returns c = rw (c.before.before.mend-back.ensures, eq-eqb _ _ c.before.before.before.before.if1.true)
+returns c = rw (c.mend_back.ensures, eq-eqb _ _ c.if-chunk-eq0.true)
 
-returns-2 : tie.Need-returns-2
+returns-2 : tie.Need-returns-then-word-eq1
 unfolding mend_own_m
-returns-2 c = rw (ne_eqb _ _ c.before.before.before.if1.false, ← c.before.word.ensures, eq-eqb _ _ c.if2.true)
+returns-2 c = rw (ne_eqb _ _ c.if-chunk-eq0.false, ← c.word.ensures, eq-eqb _ _ c.if-word-eq1.true)
 
-returns-3 : tie.Need-returns-3
+returns-3 : tie.Need-returns
 unfolding mend_own_m
 returns-3 c =
-    let read = c.before.before.before.before.before.before in
     rw (
-      c.before.before.mend-word.ensures,
-      c.before.before.before.distance.ensures,
-      ne_eqb _ _ read.before.before.if1.false,
-      ← read.word.ensures,
-      ne_eqb _ _ c.before.before.before.before.before.if2.false,
+      c.mend_word.ensures,
+      c.distance.ensures,
+      ne_eqb _ _ c.if-chunk-eq0.false,
+      ← c.word.ensures,
+      ne_eqb _ _ c.if-word-eq1.false,
     )
 
 pub mend_own_spec : {M : Type 1} → statement M

@@ -4,13 +4,12 @@ use borrow.Author.Tests.{eq-eqb, ne_eqb}
 use Rattle.patrol.proofs.mend.mend_word.Statement.{statement}
 use Rattle.patrol.proofs.mend.mend_word.Tie as tie
 
-returns : tie.Need-returns
-returns c = rw (← c.before.word.ensures, eq-eqb _ _ c.if1.true)
+returns : tie.Need-returns-then-word-value
+returns c = rw (← c.word.ensures, eq-eqb _ _ c.if-word-value.true)
 
-returns-2 : tie.Need-returns-2
+returns-2 : tie.Need-returns
 returns-2 c =
-    let read = c.before.before.before.before.before in
-    rw (c.before.before.store.ensures, ← read.word.ensures, ne_eqb _ _ c.before.before.before.before.if1.false)
+    rw (c.store.ensures, ← c.word.ensures, ne_eqb _ _ c.if-word-value.false)
 
 pub mend_word_spec : {M : Type 1} → statement M
 mend_word_spec =

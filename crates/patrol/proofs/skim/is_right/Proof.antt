@@ -5,13 +5,13 @@ use Rattle.patrol.specs.Skim.{is_right_m}
 use Rattle.patrol.proofs.skim.is_right.Statement.{statement}
 use Rattle.patrol.proofs.skim.is_right.Tie as tie
 
-returns : tie.Need-returns
+returns : tie.Need-returns-then-back-eq1
 unfolding is_right_m
-returns c = rw (eq-eqb _ _ c.if1.true)
+returns c = rw (eq-eqb _ _ c.if-back-eq1.true)
 
-returns-2 : tie.Need-returns-2
+returns-2 : tie.Need-returns
 unfolding is_right_m
-returns-2 c = rw (ne_eqb _ _ c.before.if1.false, c.word.ensures)
+returns-2 c = rw (ne_eqb _ _ c.if-back-eq1.false, c.word.ensures)
 
 pub is_right_spec : {M : Type 1} → statement M
 is_right_spec = tie.close (tie.spec returns (λ c κs. search rules) returns-2)

@@ -6,21 +6,21 @@ use Rattle.patrol.specs.Skim.{is_start_whole_m}
 use Rattle.patrol.proofs.skim.is_start_whole.Statement.{statement}
 use Rattle.patrol.proofs.skim.is_start_whole.Tie as tie
 
-returns : tie.Need-returns
+returns : tie.Need-returns-then-not-can_follow
 unfolding is_start_whole_m
-returns c = rw (sym c.before.can-follow.ensures ∙ not-true _ c.if1.true)
+returns c = rw (sym c.can_follow.ensures ∙ not-true _ c.if-not-can_follow.true-raw)
 
-returns-2 : tie.Need-returns-2
+returns-2 : tie.Need-returns-then-above-ge-ALIGNMENT
 unfolding is_start_whole_m
 returns-2 c =
-    rw (sym c.before.before.before.can-follow.ensures ∙ not-false _ c.before.before.if1.false, le-ltb _ _ c.if2.true)
+    rw (sym c.can_follow.ensures ∙ not-false _ c.if-not-can_follow.false-raw, le-ltb _ _ c.if-above-ge-ALIGNMENT.true)
 
-returns-3 : tie.Need-returns-3
+returns-3 : tie.Need-returns
 unfolding is_start_whole_m
 returns-3 c =
     rw (
-      sym c.before.before.before.before.can-follow.ensures ∙ not-false _ c.before.before.before.if1.false,
-      lt-ltb _ _ c.before.if2.false,
+      sym c.can_follow.ensures ∙ not-false _ c.if-not-can_follow.false-raw,
+      lt-ltb _ _ c.if-above-ge-ALIGNMENT.false,
     )
 
 pub is_start_whole_spec : {M : Type 1} → statement M

@@ -6,24 +6,23 @@ use Rattle.patrol.specs.Skim.{is_whole_m}
 use Rattle.patrol.proofs.skim.is_whole.Statement.{statement}
 use Rattle.patrol.proofs.skim.is_whole.Tie as tie
 
-returns : tie.Need-returns
+returns : tie.Need-returns-then-not-can_follow
 unfolding is_whole_m
-returns c = rw (sym c.before.can-follow.ensures ∙ not-true _ c.if1.true)
+returns c = rw (sym c.can_follow.ensures ∙ not-true _ c.if-not-can_follow.true-raw)
 
-returns-2 : tie.Need-returns-2
+returns-2 : tie.Need-returns-then-back-chunk
 unfolding is_whole_m
 returns-2 c =
-    rw (sym c.before.before.before.can-follow.ensures ∙ not-false _ c.before.before.if1.false, ne_eqb _ _ c.if2.true)
+    rw (sym c.can_follow.ensures ∙ not-false _ c.if-not-can_follow.false-raw, ne_eqb _ _ c.if-back-chunk.true)
 
-returns-3 : tie.Need-returns-3
+returns-3 : tie.Need-returns
 unfolding is_whole_m
 returns-3 c =
-    let named = c.before.before in
     rw (
-      sym named.before.before.before.can-follow.ensures ∙ not-false _ named.before.before.if1.false,
-      eq-eqb _ _ named.if2.false,
+      sym c.can_follow.ensures ∙ not-false _ c.if-not-can_follow.false-raw,
+      eq-eqb _ _ c.if-back-chunk.false,
       c.is_right.ensures,
-      c.before.distance.ensures,
+      c.distance.ensures,
     )
 
 pub is_whole_spec : {M : Type 1} → statement M

@@ -4,23 +4,21 @@ use Rattle.patrol.proofs.SkimLaws.{above_start_lem, none_asked, start_stops, sta
 use Rattle.patrol.proofs.skim.skim.Statement.{statement}
 use Rattle.patrol.proofs.skim.skim.Tie as tie
 
-returns : tie.Need-returns
-returns c = above_start_lem _ _ _ _ c.before.if1.true c.skim-above.ensures
+returns : tie.Need-returns-then-from-ne0
+returns c = above_start_lem _ _ _ _ c.if-from-ne0.true c.skim_above.ensures
 
-returns-2 : tie.Need-returns-2
-returns-2 c = none_asked _ _ _ _ c.before.if1.false c.if2.true
+returns-2 : tie.Need-returns-then-count-eq0
+returns-2 c = none_asked _ _ _ _ c.if-from-ne0.false c.if-count-eq0.true
 
-returns-3 : tie.Need-returns-3
+returns-3 : tie.Need-returns-then-not-is_start_whole
 returns-3 c =
-    let read = c.before.before in
-    start_stops _ _ _ _ read.before.before.before.if1.false read.before.before.if2.false read.before.links-of.ensures
-    read.links-of2.ensures c.before.is-start-whole.ensures c.if3.true
+    start_stops _ _ _ _ c.if-from-ne0.false c.if-count-eq0.false c.links_of-links.ensures
+    c.links_of-above.ensures c.is_start_whole.ensures c.if-not-is_start_whole.true-raw
 
-returns-4 : tie.Need-returns-4
+returns-4 : tie.Need-returns
 returns-4 c =
-    let read = c.before.before.before in
-    start_goes _ _ _ _ read.before.before.before.if1.false read.before.before.if2.false read.before.links-of.ensures
-    read.links-of2.ensures c.before.before.is-start-whole.ensures c.before.if3.false c.skim-above2.ensures
+    start_goes _ _ _ _ c.if-from-ne0.false c.if-count-eq0.false c.links_of-links.ensures
+    c.links_of-above.ensures c.is_start_whole.ensures c.if-not-is_start_whole.false-raw c.skim_above-2.ensures
 
 pub skim_spec : {M : Type 1} → statement M
 skim_spec =

@@ -5,27 +5,25 @@ use Rattle.patrol.proofs.SkimLaws.{Skimming, links_are, skim_spent, skim_stops, 
 use Rattle.patrol.proofs.skim.skim_above.Statement.{statement}
 use Rattle.patrol.proofs.skim.skim_above.Tie as tie
 
-abbrev invariant-loop : tie.invariant-loop
+abbrev invariant-loop : tie.invariant-loop-left
 invariant-loop region end count at₀ left₀ links₀ at left links = Skimming region end at₀ count at left links
 
-abbrev decreases-loop : tie.decreases-loop
+abbrev decreases-loop : tie.decreases-loop-left
 decreases-loop region end count at₀ left₀ links₀ at left links = left
 
-loop-holds : tie.Need-loop-init invariant-loop decreases-loop
-loop-holds c = record { links = links_are _ _ c.links-of.ensures; same = refl }
+loop-holds : tie.Need-loop-left-init invariant-loop decreases-loop
+loop-holds c = record { links = links_are _ _ c.links_of-links.ensures; same = refl }
 
-returns : tie.Need-returns invariant-loop decreases-loop
+returns : tie.Need-returns-then-not-is_whole invariant-loop decreases-loop
 returns c =
-    let read = c.before.before in
-    skim_stops read.before.before.loop.invariant read.before.loop-test.true read.links-of2.ensures c.before.is_whole.ensures c.if1.true
+    skim_stops c.loop-left.invariant c.loop-left-test.true c.links_of-above.ensures c.is_whole.ensures c.if-not-is_whole.true-raw
 
-loop-again : tie.Need-loop-preserved invariant-loop decreases-loop
+loop-again : tie.Need-loop-left-preserved invariant-loop decreases-loop
 loop-again c =
-    let read = c.before.before in
-    skim_goes read.before.before.loop.invariant read.before.loop-test.true read.links-of2.ensures c.before.is_whole.ensures c.if1.false
+    skim_goes c.loop-left.invariant c.loop-left-test.true c.links_of-above.ensures c.is_whole.ensures c.if-not-is_whole.false-raw
 
-returns-2 : tie.Need-returns-2 invariant-loop decreases-loop
-returns-2 c = skim_spent c.before.loop.invariant c.loop-test.false
+returns-2 : tie.Need-returns invariant-loop decreases-loop
+returns-2 c = skim_spent c.loop-left.invariant c.loop-left-test.false
 
 pub skim_above_spec : {M : Type 1} → statement M
 skim_above_spec =

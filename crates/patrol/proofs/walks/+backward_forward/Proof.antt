@@ -42,20 +42,20 @@ forward-at t = and 1 forward-kinds.ps (is 1 forward-kinds.ps μ-forward t) forwa
 abbrev forward-below : ℕ → In 1 forward-kinds.ps
 forward-below t = and 1 forward-kinds.ps (falls 1 forward-kinds.ps ◌<◌ μ-forward t) forward.Pre
 
-abbrev backward-Inv-loop : backward-lts.invariant-loop
+abbrev backward-Inv-loop : backward-lts.invariant-loop-chunk
 backward-Inv-loop region₀ end chunk left writes at₀ region at = Seeking region₀ end chunk.0 region at
 
-abbrev backward-μ-loop : backward-lts.decreases-loop
+abbrev backward-μ-loop : backward-lts.decreases-loop-chunk
 backward-μ-loop region₀ end chunk left writes at₀ region at = at
 
-abbrev forward-Inv-loop : forward-lts.invariant-loop
+abbrev forward-Inv-loop : forward-lts.invariant-loop-left
 forward-Inv-loop region₀ end count writes at₀ left₀ region at left = Walking writes region₀ end at₀ count region at left
 
-abbrev forward-μ-loop : forward-lts.decreases-loop
+abbrev forward-μ-loop : forward-lts.decreases-loop-left
 forward-μ-loop region₀ end count writes at₀ left₀ region at left = left
 
-pub +backward-forward-spec : {M : Type 1} → statement M
-+backward-forward-spec =
+pub +backward_forward_spec : {M : Type 1} → statement M
++backward_forward_spec =
     close μ-backward μ-forward
     (λ t. backward-lts.spec
     (back-of-reads.Asked, back-of-reads.Learnt, is-near-reads.Asked, is-near-reads.Learnt, handle-reads.Asked, handle-reads.Learnt, forward-below t, forward.Post)
@@ -66,26 +66,18 @@ pub +backward-forward-spec : {M : Type 1} → statement M
     (λ c. seeking_begins _ _ _)
     (λ c κs. search rules)
     (λ c κs. search rules)
-    (λ c. ap length c.before.before.before.before.loop.invariant.kept)
-    (λ c. let read = c.before.before in
-    backward_near read.before.before.loop.invariant read.back-of.ensures c.before.is-near.ensures _ _ c.if1.true)
-    (λ c. ap length c.before.before.before.before.before.before.loop.invariant.kept)
-    (λ c. let read = c.before.before.before.before in
-    backward_low read.before.before.loop.invariant read.back-of.ensures c.before.before.before.is-near.ensures _ _ c.if2.true)
+    (λ c. ap length c.loop-chunk.invariant.kept)
+    (λ c. backward_near c.loop-chunk.invariant c.back_of-below.ensures c.is_near.ensures _ _ c.if-is_near.true)
+    (λ c. ap length c.loop-chunk.invariant.kept)
+    (λ c. backward_low c.loop-chunk.invariant c.back_of-below.ensures c.is_near.ensures _ _ c.if-below-chunk.true)
     (λ c κs. search rules)
     (λ c κs. (omega arith, tt))
-    (λ c. let mended = c.before.before.before.before.before.before in
-    let read = mended.before.before.before.before.before.before.before.before in
-    c.before.before.forward.auto.0 ∙ mended.handle.auto.0 ∙ ap length read.before.before.loop.invariant.kept)
-    (λ c. let mended = c.before.before.before.before.before.before in
-    let read = mended.before.before.before.before.before.before.before.before in
-    backward_mends read.before.before.loop.invariant read.back-of.ensures mended.before.before.before.before.before.before.before.is-near.ensures _ _
-    mended.before.before.before.before.before.before.if1.false mended.before.before.if3.true mended.handle.ensures c.before.before.forward.ensures)
-    (λ c. let read = c.before.before.before.before.before.before in
-    backward_down read.before.before.loop.invariant read.back-of.ensures c.before.before.before.before.before.is-near.ensures c.before.before.before.before.if1.false)
-    (λ c. let read = c.before.before.before.before.before.before in
-    backward_goes read.before.before.loop.invariant read.back-of.ensures c.before.before.before.before.before.is-near.ensures c.before.before.before.before.if1.false
-    c.before.before.if2.false c.if3.false))
+    (λ c. c.forward.auto.region ∙ c.handle.auto.region ∙ ap length c.loop-chunk.invariant.kept)
+    (λ c. backward_mends c.loop-chunk.invariant c.back_of-below.ensures c.is_near.ensures _ _
+    c.if-is_near.false c.if-below-chunk-2.true c.handle.ensures c.forward.ensures)
+    (λ c. backward_down c.loop-chunk.invariant c.back_of-below.ensures c.is_near.ensures c.if-is_near.false)
+    (λ c. backward_goes c.loop-chunk.invariant c.back_of-below.ensures c.is_near.ensures c.if-is_near.false
+    c.if-below-chunk.false c.if-below-chunk-2.false))
     (λ t. forward-lts.spec
     (word-reads.Asked, word-reads.Learnt, is-broken-reads.Asked, is-broken-reads.Learnt, backward-below t, backward.Post, handle-reads.Asked, handle-reads.Learnt)
     (forward-at t)
@@ -93,23 +85,20 @@ pub +backward-forward-spec : {M : Type 1} → statement M
     forward-Inv-loop
     forward-μ-loop
     (λ c. record { fewer = omega arith; long = refl; same = refl })
-    (λ c. c.before.before.loop.invariant.long)
-    (λ c. forward_ends c.before.before.loop.invariant c.before.loop-test.true c.if1.true)
+    (λ c. c.loop-left.invariant.long)
+    (λ c. forward_ends c.loop-left.invariant c.loop-left-test.true c.if-at-end.true)
     (λ c κs. search rules)
     (λ c κs. search rules)
     (λ c. search rules)
-    (λ c κs. (omega (arith, c.before.before.before.before.before.before.before.before.loop.invariant.fewer), tt))
-    (λ c. let read = c.before.before.before.before.before.before.before in
-    c.before.before.backward.auto.0 ∙ read.before.before.before.before.loop.invariant.long)
-    (λ c. let read = c.before.before.before.before.before.before.before in
-    forward_seeks read.before.before.before.before.loop.invariant read.before.before.before.loop-test.true read.before.before.if1.false
-    read.word.ensures c.before.before.before.before.before.is-broken.ensures c.before.before.before.before.if2.true c.before.before.backward.ensures)
+    (λ c κs. (omega (arith, c.loop-left.invariant.fewer), tt))
+    (λ c. c.backward.auto.region ∙ c.loop-left.invariant.long)
+    (λ c. forward_seeks c.loop-left.invariant c.loop-left-test.true c.if-at-end.false
+    c.word-link.ensures c.is_broken.ensures c.if-is_broken.true c.backward.ensures)
     (λ c κs. search rules)
     (λ c. search rules)
     (λ c. search rules)
-    (λ c. let read = c.before.before.before.before.before.before.before in
-    forward_goes read.before.before.before.before.loop.invariant read.before.before.before.loop-test.true read.before.before.if1.false
-    read.word.ensures c.before.before.before.before.before.is-broken.ensures c.before.before.before.before.if2.false
-    c.before.before.handle.ensures c.before.before.handle.auto.0)
-    (λ c. c.before.loop.invariant.long)
-    (λ c. forward_spent c.before.loop.invariant c.loop-test.false))
+    (λ c. forward_goes c.loop-left.invariant c.loop-left-test.true c.if-at-end.false
+    c.word-link.ensures c.is_broken.ensures c.if-is_broken.false
+    c.handle.ensures c.handle.auto.region)
+    (λ c. c.loop-left.invariant.long)
+    (λ c. forward_spent c.loop-left.invariant c.loop-left-test.false))

@@ -4,11 +4,11 @@ use Rattle.survey.proofs.ChunkLaws.{found_used, found_unbacked}
 use Rattle.survey.proofs.chunks.examine.Statement.{statement}
 use Rattle.survey.proofs.chunks.examine.Tie as tie
 
-returns : tie.Need-returns
-returns c = found_used _ _ _ c.before.before.before.before.requires c.if1.true
+returns : tie.Need-returns-then-visit
+returns c = found_used _ _ _ c.requires c.if-visit.true
 
-returns-2 : tie.Need-returns-2
-returns-2 c = found_unbacked _ _ _ c.before.before.before.before.before.before.requires c.before.before.if1.false c.if2.true
+returns-2 : tie.Need-returns-then-visit-2
+returns-2 c = found_unbacked _ _ _ c.requires c.if-visit.false c.if-visit-2.true
 
 pub examine_spec : {M : Type 1} → statement M
 examine_spec = tie.close (tie.spec (λ c. search rules) returns returns-2 (λ c κs. search rules) (λ c. search rules))

@@ -5,17 +5,17 @@ use Rattle.survey.specs.Chunks.{goes_on_m}
 use Rattle.survey.proofs.chunks.goes_on.Statement.{statement}
 use Rattle.survey.proofs.chunks.goes_on.Tie as tie
 
-returns : tie.Need-returns
+returns : tie.Need-returns-then-visit-ne0
 unfolding goes_on_m
-returns c = rw (ne_eqb _ _ c.if1.true)
+returns c = rw (ne_eqb _ _ c.if-visit-ne0.true)
 
-returns-2 : tie.Need-returns-2
+returns-2 : tie.Need-returns-then-visit
 unfolding goes_on_m
-returns-2 c = rw (eq-eqb _ _ c.before.before.before.if1.false, lt-leb _ _ c.if2.true)
+returns-2 c = rw (eq-eqb _ _ c.if-visit-ne0.false, lt-leb _ _ c.if-visit.true)
 
-returns-3 : tie.Need-returns-3
+returns-3 : tie.Need-returns
 unfolding goes_on_m
-returns-3 c = rw (eq-eqb _ _ c.before.before.before.before.if1.false, le-leb _ _ c.before.if2.false)
+returns-3 c = rw (eq-eqb _ _ c.if-visit-ne0.false, le-leb _ _ c.if-visit.false)
 
 pub goes_on_spec : {M : Type 1} → statement M
 goes_on_spec = tie.close (tie.spec returns (λ c. search rules) returns-2 returns-3)

@@ -5,13 +5,13 @@ use Rattle.survey.specs.Chunks.{is_donor_m}
 use Rattle.survey.proofs.chunks.is_donor.Statement.{statement}
 use Rattle.survey.proofs.chunks.is_donor.Tie as tie
 
-returns : tie.Need-returns
+returns : tie.Need-returns-then-not-is_unbinned
 unfolding is_donor_m
-returns c = stops_at _ c.before.is-unbinned.ensures c.if1.true
+returns c = stops_at _ c.is_unbinned.ensures c.if-not-is_unbinned.true-raw
 
-returns-2 : tie.Need-returns-2
+returns-2 : tie.Need-returns
 unfolding is_donor_m
-returns-2 c = goes_on_lem c.before.before.is-unbinned.ensures c.before.if1.false refl
+returns-2 c = goes_on_lem c.is_unbinned.ensures c.if-not-is_unbinned.false-raw refl
 
 pub is_donor_spec : {M : Type 1} → statement M
 is_donor_spec = tie.close (tie.spec (λ c κs. search rules) returns returns-2)

@@ -4,17 +4,17 @@ use Rattle.region.specs.Words.{word}
 use Rattle.survey.proofs.chunks.is_unbinned.Statement.{statement}
 use Rattle.survey.proofs.chunks.is_unbinned.Tie as tie
 
-returns : tie.Need-returns
+returns : tie.Need-returns-then-region-i-ne0
 unfolding word
-returns c = rw (ne_eqb _ _ c.if1.true)
+returns c = rw (ne_eqb _ _ c.if-region-i-ne0.true)
 
-returns-2 : tie.Need-returns-2
+returns-2 : tie.Need-returns-then-region-i-ne0-2
 unfolding word
-returns-2 c = rw (eq-eqb _ _ c.before.before.if1.false, ne_eqb _ _ c.if2.true)
+returns-2 c = rw (eq-eqb _ _ c.if-region-i-ne0.false, ne_eqb _ _ c.if-region-i-ne0-2.true)
 
-returns-3 : tie.Need-returns-3
+returns-3 : tie.Need-returns
 unfolding word
-returns-3 c = rw (eq-eqb _ _ c.before.before.before.if1.false, eq-eqb _ _ c.before.if2.false)
+returns-3 c = rw (eq-eqb _ _ c.if-region-i-ne0.false, eq-eqb _ _ c.if-region-i-ne0-2.false)
 
 pub is_unbinned_spec : {M : Type 1} → statement M
 is_unbinned_spec =
