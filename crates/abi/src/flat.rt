@@ -40,7 +40,7 @@ const WORD: i64 = 4294967296;
 
 // All words of `from`, to where `at` says; they fit there.
 fn copy(to: &mut [u32], at: usize, from: &[u32])
-    requires* { do ⌜ at + (← ⟦from.len()⟧) ≤ (← ⟦to.len()⟧) ⌝ }
+    requires { at + length from.now ≤ length to.old }
     ensures { to.new ≡ paste to.old at from.now (length from.now) }
 {
     let mut i = 0;

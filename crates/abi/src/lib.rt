@@ -1,4 +1,4 @@
-// The calls for C, each with the record and the answer as flat words: include/kruzhvela.h declares them.
+// The calls for C, each with the record and the answer as flat words; the crate abi_c exports them, and include/kruzhvela.h declares them.
 // What a call does is in the crate heap, and how words say a record in flat. The check and the patrol are called in crates of their own
 // (audit, patrol), since they need not have the record whole. The record's words are called `state` here: `record` is a word of the
 // language of the proofs.
@@ -32,8 +32,7 @@ pub const RECORD_WORDS: usize = PATROL + 1;
 pub const ANSWER_WORDS: usize = 5;
 
 // What the record was before is not read.
-#[unsafe(no_mangle)]
-pub extern "C" fn kz_setup(
+pub fn kz_setup(
     region: &mut [u32],
     table: &[u32],
     donor: u32,
@@ -52,8 +51,7 @@ pub extern "C" fn kz_setup(
     words[0]
 }
 
-#[unsafe(no_mangle)]
-pub extern "C" fn kz_allocate(
+pub fn kz_allocate(
     region: &mut [u32],
     state: &mut [u32; RECORD_WORDS],
     z: u32,
@@ -69,8 +67,7 @@ pub extern "C" fn kz_allocate(
     hand_back(reply, state, answer)
 }
 
-#[unsafe(no_mangle)]
-pub extern "C" fn kz_allocate_cleared(
+pub fn kz_allocate_cleared(
     region: &mut [u32],
     state: &mut [u32; RECORD_WORDS],
     count: u32,
@@ -87,8 +84,7 @@ pub extern "C" fn kz_allocate_cleared(
     hand_back(reply, state, answer)
 }
 
-#[unsafe(no_mangle)]
-pub extern "C" fn kz_free(
+pub fn kz_free(
     region: &mut [u32],
     state: &mut [u32; RECORD_WORDS],
     block: u32,
@@ -104,8 +100,7 @@ pub extern "C" fn kz_free(
     hand_back(reply, state, answer)
 }
 
-#[unsafe(no_mangle)]
-pub extern "C" fn kz_reallocate(
+pub fn kz_reallocate(
     region: &mut [u32],
     state: &mut [u32; RECORD_WORDS],
     block: u32,
@@ -122,8 +117,7 @@ pub extern "C" fn kz_reallocate(
     hand_back(reply, state, answer)
 }
 
-#[unsafe(no_mangle)]
-pub extern "C" fn kz_set_merge(
+pub fn kz_set_merge(
     region: &mut [u32],
     state: &mut [u32; RECORD_WORDS],
     on: bool,
@@ -140,8 +134,7 @@ pub extern "C" fn kz_set_merge(
 }
 
 // The check is lent the record's arrays where they stand in the words, so that it copies none of them.
-#[unsafe(no_mangle)]
-pub extern "C" fn kz_check(
+pub fn kz_check(
     region: &mut [u32],
     state: &mut [u32; RECORD_WORDS],
     answer: &mut [u32; ANSWER_WORDS],
@@ -160,8 +153,7 @@ pub extern "C" fn kz_check(
     tell(answer_of(found), answer)
 }
 
-#[unsafe(no_mangle)]
-pub extern "C" fn kz_ask_chunk(
+pub fn kz_ask_chunk(
     region: &mut [u32],
     state: &mut [u32; RECORD_WORDS],
     question: u32,
@@ -179,8 +171,7 @@ pub extern "C" fn kz_ask_chunk(
     tell(said, answer)
 }
 
-#[unsafe(no_mangle)]
-pub extern "C" fn kz_ask_bin(
+pub fn kz_ask_bin(
     region: &mut [u32],
     state: &mut [u32; RECORD_WORDS],
     question: u32,
@@ -199,8 +190,7 @@ pub extern "C" fn kz_ask_bin(
 }
 
 // Of the record the patrol reads the heap bytes and its own place, and writes its place: no other word decides or changes.
-#[unsafe(no_mangle)]
-pub extern "C" fn kz_patrol(
+pub fn kz_patrol(
     region: &mut [u32],
     state: &mut [u32; RECORD_WORDS],
     chunks: u32,

@@ -2,11 +2,11 @@
 // What is printed is asked of the heap by its public calls alone.
 #![tactic(auto)]
 
-use io::{print_decimal, write_all};
 use record::answers::Answer;
 use record::heap::Heap;
 use record::questions::{ASK_BIN, ASK_NEXT, ASK_SIZE, ASK_TYPE};
 use region::Block;
+use std::io;
 
 // Asked where there is a value.
 fn ask(region: &mut [u32], heap: Heap, question: u32, chunk: u32) -> u32 {
@@ -28,46 +28,39 @@ fn has_next(region: &mut [u32], heap: Heap, chunk: u32) -> bool {
     true
 }
 
-fn print_number(n: u32) {
-    print_decimal(1, n as u64);
-    write_all(1, b" ");
+fn print_number(rt: &impl Print, n: u32) -> io::Result<()> {
+    print!(rt; "{n} ")
 }
 
 // Free chunks by what the record says of them; an ordinary one with its bin.
-fn print_free(region: &mut [u32], heap: Heap, chunk: u32) {
+fn print_free(rt: &impl Print, region: &mut [u32], heap: Heap, chunk: u32) -> io::Result<()> {
     if chunk == heap.donor.0 {
-        write_all(1, b"donor\n");
-        return;
+        return println!(rt; "donor");
     }
     if chunk == heap.top.0 {
-        write_all(1, b"top\n");
-        return;
+        return println!(rt; "top");
     }
-    write_all(1, b"free ");
-    print_decimal(1, ask(region, heap, ASK_BIN, chunk) as u64);
-    write_all(1, b"\n");
+    let bin = ask(region, heap, ASK_BIN, chunk);
+    println!(rt; "free {bin}")
 }
 
-fn print_kind(region: &mut [u32], heap: Heap, chunk: u32) {
+fn print_kind(rt: &impl Print, region: &mut [u32], heap: Heap, chunk: u32) -> io::Result<()> {
     if chunk == 0 {
-        write_all(1, b"start\n");
-        return;
+        return println!(rt; "start");
     }
     if !has_next(region, heap, chunk) {
-        write_all(1, b"end\n");
-        return;
+        return println!(rt; "end");
     }
     if ask(region, heap, ASK_TYPE, chunk) == 1 {
-        write_all(1, b"inuse\n");
-        return;
+        return println!(rt; "inuse");
     }
-    print_free(region, heap, chunk);
+    print_free(rt, region, heap, chunk)
 }
 
-fn print_chunk(region: &mut [u32], heap: Heap, chunk: u32) {
-    print_number(chunk);
-    print_number(ask(region, heap, ASK_SIZE, chunk));
-    print_kind(region, heap, chunk);
+fn print_chunk(rt: &impl Print, region: &mut [u32], heap: Heap, chunk: u32) -> io::Result<()> {
+    print_number(rt, chunk)?;
+    print_number(rt, ask(region, heap, ASK_SIZE, chunk))?;
+    print_kind(rt, region, heap, chunk)
 }
 
 // The words of the demonstration's region.
@@ -76,17 +69,18 @@ const REGION_WORDS: usize = 64;
 // Every chunk has two words at least.
 const MOST_CHUNKS: u32 = REGION_WORDS as u32 / 2;
 
-fn print_chunks(region: &mut [u32], heap: Heap) {
+fn print_chunks(rt: &impl Print, region: &mut [u32], heap: Heap) -> io::Result<()> {
     let mut chunk = 0;
     let mut left = MOST_CHUNKS;
     while left != 0 {
-        print_chunk(region, heap, chunk);
+        print_chunk(rt, region, heap, chunk)?;
         if !has_next(region, heap, chunk) {
-            return;
+            return Ok(());
         }
         chunk = ask(region, heap, ASK_NEXT, chunk);
         left -= 1;
     }
+    Ok(())
 }
 
 // Calls 1 to 4: the first from the donor, which has too little to spare from then on, the others from the top.
@@ -105,7 +99,7 @@ fn churn(region: &mut [u32], full: Heap) -> Heap {
     heap::allocate(region, eighth, 16).heap
 }
 
-fn main() {
+fn main(rt: HostRuntime) -> io::Result<()> {
     let mut region = [0u32; REGION_WORDS];
     let table = [24u32, 32, 40, 128];
     let fresh = heap::setup(&mut region, &table, 64, true).heap;
@@ -113,9 +107,9 @@ fn main() {
     // Call 5: nothing can serve it.
     let refused = heap::allocate(&mut region, full, 16).heap;
     let heap = churn(&mut region, refused);
-    print_number(heap.bytes);
-    print_number(heap.bins);
-    print_decimal(1, heap.used as u64);
-    write_all(1, b"\n");
-    print_chunks(&mut region, heap);
+    print_number(&rt, heap.bytes)?;
+    print_number(&rt, heap.bins)?;
+    let used = heap.used;
+    println!(rt; "{used}")?;
+    print_chunks(&rt, &mut region, heap)
 }

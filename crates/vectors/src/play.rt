@@ -7,7 +7,7 @@ use crate::digest::{START, digest};
 use crate::script::{MOST_ARGS, action_at};
 use crate::words::{fill, set_word, smaller};
 use abi::{ANSWER_WORDS, RECORD_WORDS};
-use io::{print_decimal, write_all};
+use std::io;
 
 // What an action asks for; any other number is a call's.
 const REGION: u32 = 0;
@@ -37,32 +37,41 @@ fn new_region(words: u32, seed: u32, space: &mut [u32], state: &mut [u32; RECORD
     count
 }
 
-fn print_digest(answer: [u32; ANSWER_WORDS], state: &[u32; RECORD_WORDS], region: &[u32]) {
+fn print_digest(
+    rt: &impl Print,
+    answer: [u32; ANSWER_WORDS],
+    state: &[u32; RECORD_WORDS],
+    region: &[u32],
+) -> io::Result<()> {
     let said = digest(START, &answer);
     let all = digest(digest(said, state), region);
-    print_decimal(1, all as u64);
-    write_all(1, b"\n");
+    println!(rt; "{all}")
 }
 
 // Every action but a new region.
-fn apply(op: u32, args: [u32; MOST_ARGS], region: &mut [u32], state: &mut [u32; RECORD_WORDS]) {
+fn apply(
+    rt: &impl Print,
+    op: u32,
+    args: [u32; MOST_ARGS],
+    region: &mut [u32],
+    state: &mut [u32; RECORD_WORDS],
+) -> io::Result<()> {
     if op == WRITE {
         set_word(region, args[0], args[1]);
-        return;
+        return Ok(());
     }
     if op == RECORD {
         set_word(state, args[0], args[1]);
-        return;
+        return Ok(());
     }
     if op > PATROL {
-        write_all(1, b"unknown\n");
-        return;
+        return println!(rt; "unknown");
     }
     let answer = call(op, args, region, state);
-    print_digest(answer, state, region);
+    print_digest(rt, answer, state, region)
 }
 
-pub fn play(script: &[u8]) {
+pub fn play(rt: &impl Print, script: &[u8]) -> io::Result<()> {
     let mut space = space();
     let mut state = [0; RECORD_WORDS];
     let mut words = 0;
@@ -70,14 +79,15 @@ pub fn play(script: &[u8]) {
     while at < script.len() {
         let action = action_at(script, at);
         if !action.found {
-            return;
+            return Ok(());
         }
         let args = action.args;
         if action.op == REGION {
             words = new_region(args[0], args[1], &mut space, &mut state);
         } else {
-            apply(action.op, args, &mut space[..words], &mut state);
+            apply(rt, action.op, args, &mut space[..words], &mut state)?;
         }
         at = action.after;
     }
+    Ok(())
 }

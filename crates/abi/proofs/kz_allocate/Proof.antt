@@ -5,17 +5,14 @@ use Rattle.abi.proofs.HandedLaws.{refuses_merge_word, answers}
 use Rattle.abi.proofs.kz_allocate.Statement.{statement}
 use Rattle.abi.proofs.kz_allocate.Tie as tie
 
-returns : tie.Need-returns
-returns c = refuses_merge_word _ c.before.before.if1.true c.refuse-record.ensures
+returns : tie.Need-returns-then-state-gt1
+returns c = refuses_merge_word _ c.if-state-gt1.true c.refuse_record.ensures
 
-returns-2 : tie.Need-returns-2
+returns-2 : tie.Need-returns
 returns-2 c =
-    let called = c.before.before.before.before.before in
-    let read = called.before.before in
-    let well = read.before.before in
-    let a = well.before.before.before.args in
-    answers _ _ (λ h. allocate a.region.now h a.z) _ well.if1.false read.unpack.ensures.0
-    called.allocate.ensures c.hand-back.ensures
+    let a = c.args in
+    answers _ _ (λ h. allocate a.region.now h a.z) _ c.if-state-gt1.false c.unpack-heap.ensures.0
+    c.allocate-reply.ensures c.hand_back.ensures
 
 pub kz_allocate_spec : {M : Type 1} → statement M
 kz_allocate_spec =

@@ -5,18 +5,15 @@ use Rattle.abi.proofs.HandedLaws.{refuses_merge_word, tells, chunk_stays}
 use Rattle.abi.proofs.kz_ask_chunk.Statement.{statement}
 use Rattle.abi.proofs.kz_ask_chunk.Tie as tie
 
-returns : tie.Need-returns
-returns c = refuses_merge_word _ c.before.before.if1.true c.refuse-record.ensures
+returns : tie.Need-returns-then-state-gt1
+returns c = refuses_merge_word _ c.if-state-gt1.true c.refuse_record.ensures
 
-returns-2 : tie.Need-returns-2
+returns-2 : tie.Need-returns
 returns-2 c =
-    let called = c.before.before.before.before in
-    let read = called.before.before in
-    let well = read.before.before in
-    let a = well.before.before.before.args in
-    tells a.region.now a.state.now read.unpack.ensures.1 well.if1.false
+    let a = c.args in
+    tells a.region.now a.state.now c.unpack-heap.ensures.1 c.if-state-gt1.false
     (λ h. ask_chunk a.region.now h a.question a.place) (chunk_stays a.region.now a.question a.place) _
-    read.unpack.ensures.0 called.ask-chunk.ensures c.tell.ensures
+    c.unpack-heap.ensures.0 c.ask_chunk-reply.ensures c.tell.ensures
 
 pub kz_ask_chunk_spec : {M : Type 1} → statement M
 kz_ask_chunk_spec =

@@ -4,20 +4,16 @@ use Rattle.abi.proofs.HandedLaws.{refuses_merge_word, tells_check}
 use Rattle.abi.proofs.kz_check.Statement.{statement}
 use Rattle.abi.proofs.kz_check.Tie as tie
 
-returns : tie.Need-returns
-returns c = refuses_merge_word _ c.before.before.if1.true c.refuse-record.ensures
+returns : tie.Need-returns-then-state-gt1
+returns c = refuses_merge_word _ c.if-state-gt1.true c.refuse_record.ensures
 
-returns-2 : tie.Need-returns-2
+returns-2 : tie.Need-returns
 returns-2 c =
-    let looked = c.before.before.before in
-    let lent = looked.before.before.before.before.before in
-    let read = lent.before.before in
-    let well = read.before.before in
-    let a = well.before.before.before.args in
+    let a = c.args in
     -- the record has its words
-    let whole = lent.words2.given.0 in
-    tells_check a.region.now a.state.now whole looked.look.result read.unpack-summary.ensures looked.look.ensures
-    well.if1.false c.before.before.answer-of.ensures c.tell.ensures
+    let whole = c.words-2-1.given in
+    tells_check a.region.now a.state.now whole c.look-found.result c.unpack_summary-summary.ensures c.look-found.ensures
+    c.if-state-gt1.false c.answer_of.ensures c.tell.ensures
 
 pub kz_check_spec : {M : Type 1} → statement M
 kz_check_spec =

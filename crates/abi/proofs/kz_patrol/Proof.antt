@@ -10,10 +10,9 @@ use Rattle.abi.proofs.kz_patrol.Tie as tie
 returns : tie.Need-returns
 unfolding record_in
 returns c =
-    let ran = c.before.before.before.before in
-    let a = ran.before.before.before.before.before.args in
+    let a = c.args in
     let h = record_in a.state.now in
-    patrols a.region.now a.state.now (patrol a.region.now h a.chunks) h (ran.tour.ensures h refl refl) c.tell.ensures
+    patrols a.region.now a.state.now (patrol a.region.now h a.chunks) h (c.tour-toured.ensures h refl refl) c.tell.ensures
 
 pub kz_patrol_spec : {M : Type 1} → statement M
 kz_patrol_spec =

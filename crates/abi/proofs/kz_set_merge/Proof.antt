@@ -5,17 +5,14 @@ use Rattle.abi.proofs.HandedLaws.{refuses_merge_word, answers}
 use Rattle.abi.proofs.kz_set_merge.Statement.{statement}
 use Rattle.abi.proofs.kz_set_merge.Tie as tie
 
-returns : tie.Need-returns
-returns c = refuses_merge_word _ c.before.before.if1.true c.refuse-record.ensures
+returns : tie.Need-returns-then-state-gt1
+returns c = refuses_merge_word _ c.if-state-gt1.true c.refuse_record.ensures
 
-returns-2 : tie.Need-returns-2
+returns-2 : tie.Need-returns
 returns-2 c =
-    let called = c.before.before.before.before.before in
-    let read = called.before.before in
-    let well = read.before.before in
-    let a = well.before.before.before.args in
-    answers _ _ (λ h. set_merge a.region.now h a.on) _ well.if1.false read.unpack.ensures.0
-    called.set-merge.ensures c.hand-back.ensures
+    let a = c.args in
+    answers _ _ (λ h. set_merge a.region.now h a.on) _ c.if-state-gt1.false c.unpack-heap.ensures.0
+    c.set_merge-reply.ensures c.hand_back.ensures
 
 pub kz_set_merge_spec : {M : Type 1} → statement M
 kz_set_merge_spec =

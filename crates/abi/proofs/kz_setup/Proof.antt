@@ -6,9 +6,7 @@ use Rattle.abi.proofs.kz_setup.Tie as tie
 
 returns : tie.Need-returns
 returns c =
-    let said = c.before in
-    let called = said.before.before.before.before in
-    opens _ _ _ called.setup.ensures said.answer-words.ensures c.pack.ensures
+    opens _ _ _ c.setup-reply.ensures c.answer_words-words.ensures c.pack.ensures
 
 pub kz_setup_spec : {M : Type 1} → statement M
 kz_setup_spec =

@@ -10,32 +10,30 @@ use Rattle.abi.proofs.FlatLaws.{copies_one}
 use Rattle.abi.proofs.flat.copy.Statement.{statement}
 use Rattle.abi.proofs.flat.copy.Tie as tie
 
-abbrev invariant-loop : tie.invariant-loop
+abbrev invariant-loop : tie.invariant-loop-i
 invariant-loop to₀ at from i₀ to i = (i ≤ length from) × (to ≡ paste to₀ at from i) × (length to ≡ length to₀)
 
-abbrev decreases-loop : tie.decreases-loop
+abbrev decreases-loop : tie.decreases-loop-i
 decreases-loop to₀ at from i₀ to i = length from - i
 
-loop-holds : tie.Need-loop-init invariant-loop decreases-loop
+loop-holds : tie.Need-loop-i-init invariant-loop decreases-loop
 loop-holds c = let a = c.args in (omega arith, paste-zero a.to.now a.at a.from.now, refl)
 
-loop-again : tie.Need-loop-preserved invariant-loop decreases-loop
+loop-again : tie.Need-loop-i-preserved invariant-loop decreases-loop
 loop-again c =
-    let l = c.before.before.loop in
-    let s = c.before.before.before in
-    (omega arith, copies_one s.args.to.now s.args.from.now l.to s.args.at l.i s.requires l.invariant.1 (search rules), length-set l.to _ _ ∙ l.invariant.2)
+    let l = c.loop-i in
+    (omega arith, copies_one c.args.to.now c.args.from.now l.to c.args.at l.i c.requires l.invariant.1 (search rules), length-set l.to _ _ ∙ l.invariant.2)
 
-slice-write-to : tie.Need-slice-write-to invariant-loop decreases-loop
+slice-write-to : tie.Need-bounds-to-at invariant-loop decreases-loop
 slice-write-to c =
-    let l = c.before.before.loop in
-    omega (arith, l.invariant.2, c.before.before.before.requires, c.before.loop-test.true)
+    let l = c.loop-i in
+    omega (arith, l.invariant.2, c.requires, c.loop-i-test.true)
 
 returns : tie.Need-returns invariant-loop decreases-loop
 returns c =
-    let l = c.before.loop in
-    let s = c.before.before in
-    let all : l.i ≡ length s.args.from.now = omega (arith, l.invariant.0, c.loop-test.false) in
-    l.invariant.1 ∙ ap (paste s.args.to.now s.args.at s.args.from.now) all
+    let l = c.loop-i in
+    let all : l.i ≡ length c.args.from.now = omega (arith, l.invariant.0, c.loop-i-test.false) in
+    l.invariant.1 ∙ ap (paste c.args.to.now c.args.at c.args.from.now) all
 
 pub copy_spec : {M : Type 1} → statement M
 copy_spec =

@@ -11,6 +11,6 @@ hand_back_spec =
     (tie.spec
     (λ c κs. search rules)
     (λ c. search rules)
-    (λ c. refusal_keeps _ _ _ _ c.before.answer-words.ensures c.if1.true)
+    (λ c. refusal_keeps _ _ _ _ c.answer_words-words.ensures c.if-refusal-ne0.true)
     (λ c κs. search rules)
-    (λ c. acceptance_packs _ _ _ _ c.before.before.answer-words.ensures _ c.before.if1.false c.pack.ensures))
+    (λ c. acceptance_packs _ _ _ _ c.answer_words-words.ensures _ c.if-refusal-ne0.false c.pack.ensures))

@@ -10,7 +10,7 @@ use Rattle.abi.proofs.flat.tell.Tie as tie
 
 returns : tie.Need-returns
 returns c =
-    let said = c.answer-words.ensures in
+    let said = c.answer_words-words.ensures in
     (ap (λ (words : List ℕ). get_or words 0 0) said ∙ refusal_first _, said)
 
 pub tell_spec : {M : Type 1} → statement M

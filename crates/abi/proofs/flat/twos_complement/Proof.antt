@@ -7,9 +7,9 @@ pub twos_complement_spec : {M : Type 1} → statement M
 twos_complement_spec =
     tie.close
     (tie.spec
-    (λ c. (plain_held _ c.before.ranges.change c.if1.true).0)
-    (λ c. (plain_held _ c.before.ranges.change c.if1.true).1)
-    (λ c. wide_held _ c.before.ranges.change)
-    (λ c. raised_fits _ c.before.ranges.change c.if1.false)
-    (λ c. (raised_held _ c.before.ranges.change c.if1.false).0)
-    (λ c. (raised_held _ c.before.ranges.change c.if1.false).1))
+    (λ c. (plain_held _ c.ranges.change c.if-change-ge0.true).0)
+    (λ c. (plain_held _ c.ranges.change c.if-change-ge0.true).1)
+    (λ c. wide_held _ c.ranges.change)
+    (λ c. raised_fits _ c.ranges.change c.if-change-ge0.false)
+    (λ c. (raised_held _ c.ranges.change c.if-change-ge0.false).0)
+    (λ c. (raised_held _ c.ranges.change c.if-change-ge0.false).1))

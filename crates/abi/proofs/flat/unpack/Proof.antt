@@ -8,25 +8,20 @@ use Rattle.abi.proofs.FlatLaws.{fills_whole, part_length}
 use Rattle.abi.proofs.flat.unpack.Statement.{statement}
 use Rattle.abi.proofs.flat.unpack.Tie as tie
 
-whole : (c : tie.Start) → length c.args.t1 ≡ record_words
+whole : (c : tie.Start) → length c.args.words ≡ record_words
 whole c = search rules
 
 returns : tie.Need-returns
 unfolding record_in
 returns c =
-    let summed = c.before.before.before in
-    let tails = summed.before.before.before in
-    let heads = tails.before.before.before.before.before in
-    let sizes = heads.before.before.before.before.before in
-    let s = sizes.before.before.before.before in
-    let words = s.args.t1 in (
+    let words = c.args.words in (
       rw (
-        summed.unpack-summary.ensures,
-        tails.copy3.ensures ∙ fills_whole (replicate 32 0) (take 32 (drop tails_from words)) refl (part_length words tails_from (whole s) (omega arith)),
-        heads.copy2.ensures ∙ fills_whole (replicate 32 0) (take 32 (drop heads_from words)) refl (part_length words heads_from (whole s) (omega arith)),
-        sizes.copy.ensures ∙ fills_whole (replicate 32 0) (take 32 (drop sizes_from words)) refl (part_length words sizes_from (whole s) (omega arith)),
+        c.unpack_summary-summary.ensures,
+        c.copy-3.ensures ∙ fills_whole (replicate 32 0) (take 32 (drop tails_from words)) refl (part_length words tails_from (whole c.before.before.before.before.before.before.before.before.before.before.before.before.before.before.before.before.before) (omega arith)),
+        c.copy-2.ensures ∙ fills_whole (replicate 32 0) (take 32 (drop heads_from words)) refl (part_length words heads_from (whole c.before.before.before.before.before.before.before.before.before.before.before.before.before.before.before.before.before) (omega arith)),
+        c.copy.ensures ∙ fills_whole (replicate 32 0) (take 32 (drop sizes_from words)) refl (part_length words sizes_from (whole c.before.before.before.before.before.before.before.before.before.before.before.before.before.before.before.before.before) (omega arith)),
       ),
-      whole s,
+      whole c.before.before.before.before.before.before.before.before.before.before.before.before.before.before.before.before.before,
     )
 
 pub unpack_spec : {M : Type 1} → statement M

@@ -10,24 +10,23 @@ use Rattle.vectors.proofs.DigestLaws.{digests_one}
 use Rattle.vectors.proofs.digest.digest.Statement.{statement}
 use Rattle.vectors.proofs.digest.digest.Tie as tie
 
-abbrev invariant-loop : tie.invariant-loop
+abbrev invariant-loop : tie.invariant-loop-i
 invariant-loop start words d₀ i₀ d i = digest_from d (drop i words) ≡ digest_from start words
 
-abbrev decreases-loop : tie.decreases-loop
+abbrev decreases-loop : tie.decreases-loop-i
 decreases-loop start words d₀ i₀ d i = length words - i
 
-loop-again : tie.Need-loop-preserved invariant-loop decreases-loop
+loop-again : tie.Need-loop-i-preserved invariant-loop decreases-loop
 loop-again c =
-    let turn = c.before.before.before in
-    let l = turn.loop in
-    let ws = turn.before.before.args.words.now in
-    ap (λ d. digest_from d (drop (l.i + 1) ws)) c.mix.ensures ∙ digests_one l.d l.i ws (search rules) ∙ l.invariant
+    let l = c.loop-i in
+    let ws = c.args.words.now in
+    ap (λ d. digest_from d (drop (l.i + 1) ws)) c.mix-d.ensures ∙ digests_one l.d l.i ws (search rules) ∙ l.invariant
 
 returns : tie.Need-returns invariant-loop decreases-loop
 unfolding digest_from
 returns c =
-    let l = c.before.loop in
-    let ws = c.before.before.before.args.words.now in
+    let l = c.loop-i in
+    let ws = c.args.words.now in
     rw (drop_of_length-le ws {i = l.i} (omega arith)) at l.invariant
 
 pub digest_spec : {M : Type 1} → statement M

@@ -15,10 +15,10 @@ joined c = bit_xor c.args.d c.args.word
 joined_small : (c : tie.Start) → joined c < 2 ^ 32
 joined_small c = xor_lt 32 _ _ c.ranges.d.fits c.ranges.word.fits
 
-cast-result : tie.Need-overflow-cast-result
+cast-result : tie.Need-overflow_cast-result
 cast-result c = rw (rotates (joined c) (joined_small c)) (omega (arith, rotated_small (joined c) (joined_small c)))
 
-mul-result : tie.Need-overflow-mul-result
+mul-result : tie.Need-overflow_mul-result
 mul-result c = rw (rotates (joined c) (joined_small c)) (omega (arith, rotated_small (joined c) (joined_small c)))
 
 returns : tie.Need-returns

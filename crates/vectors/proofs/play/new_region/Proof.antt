@@ -12,7 +12,7 @@ new_region_spec =
     (tie.spec
     (λ c κs. search rules)
     (λ c. search rules)
-    (λ c. sym (length-take-le c.before.smaller.result _ (omega arith)))
+    (λ c. sym (length-take-le c.smaller-count.result _ (omega arith)))
     (λ c κs. search rules)
     (λ c. search rules)
     (λ c. search rules))

@@ -6,10 +6,10 @@ use borrow.Author.Rules.{rules}
 use Rattle.vectors.proofs.script.line_end.Statement.{statement}
 use Rattle.vectors.proofs.script.line_end.Tie as tie
 
-abbrev invariant-loop : tie.invariant-loop
+abbrev invariant-loop : tie.invariant-loop-i
 invariant-loop script at i₀ i = at ≤ i
 
-abbrev decreases-loop : tie.decreases-loop
+abbrev decreases-loop : tie.decreases-loop-i
 decreases-loop script at i₀ i = length script - i
 
 pub line_end_spec : {M : Type 1} → statement M

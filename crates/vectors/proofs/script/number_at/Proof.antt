@@ -7,10 +7,10 @@ use borrow.Author.Tests.{ltb-true}
 use Rattle.vectors.proofs.script.number_at.Statement.{statement}
 use Rattle.vectors.proofs.script.number_at.Tie as tie
 
-abbrev invariant-loop : tie.invariant-loop
+abbrev invariant-loop : tie.invariant-loop-i
 invariant-loop script at start value₀ i₀ value i = start ≤ i
 
-abbrev decreases-loop : tie.decreases-loop
+abbrev decreases-loop : tie.decreases-loop-i
 decreases-loop script at start value₀ i₀ value i = length script - i
 
 returns : tie.Need-returns invariant-loop decreases-loop

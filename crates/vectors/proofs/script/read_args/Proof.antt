@@ -5,10 +5,10 @@ use borrow.Author.Rules.{rules}
 use Rattle.vectors.proofs.script.read_args.Statement.{statement}
 use Rattle.vectors.proofs.script.read_args.Tie as tie
 
-abbrev invariant-loop : tie.invariant-loop
+abbrev invariant-loop : tie.invariant-loop-i
 invariant-loop script at count args₀ i₀ place₀ args i place = at ≤ place
 
-abbrev decreases-loop : tie.decreases-loop
+abbrev decreases-loop : tie.decreases-loop-i
 decreases-loop script at count args₀ i₀ place₀ args i place = count - i
 
 pub read_args_spec : {M : Type 1} → statement M

@@ -7,10 +7,10 @@ use borrow.Author.Rules.{rules}
 use Rattle.vectors.proofs.words.fill.Statement.{statement}
 use Rattle.vectors.proofs.words.fill.Tie as tie
 
-abbrev invariant-loop : tie.invariant-loop
+abbrev invariant-loop : tie.invariant-loop-i
 invariant-loop words₀ seed w₀ i₀ words w i = length words ≡ length words₀
 
-abbrev decreases-loop : tie.decreases-loop
+abbrev decreases-loop : tie.decreases-loop-i
 decreases-loop words₀ seed w₀ i₀ words w i = length words - i
 
 pub fill_spec : {M : Type 1} → statement M
