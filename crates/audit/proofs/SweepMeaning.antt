@@ -31,7 +31,7 @@ Trail ws (p ∷ ps) = (0 < p) × (word ws p previous_in_bin ≡ head_or 0 ps) ×
 -- so each of them names 0, or one that was passed before the last
 named : (ws : List ℕ) (p : ℕ) (ps : List ℕ) → Trail ws (p ∷ ps) → (c : ℕ) → Mem c (p ∷ ps)
     → (word ws c previous_in_bin ≡ 0) ⊎ Mem (word ws c previous_in_bin) ps
-named ws p [] (placed , back , trail) c (Memᴰ.tail m) = elim m [ ]
+named ws p [] (placed, back, trail) c (Memᴰ.tail m) = elim m [ ]
 named ws p [] (placed, back, trail) c (Memᴰ.head e) = inl (ap (λ (x : ℕ). word ws x previous_in_bin) e ∙ back)
 named ws p (d ∷ ds) (placed, back, trail) c (Memᴰ.head e) = inr (Memᴰ.head (ap (λ (x : ℕ). word ws x previous_in_bin) e ∙ back))
 named ws p (d ∷ ds) (placed, back, trail) c (Memᴰ.tail m) = further (named ws d ds trail c m)

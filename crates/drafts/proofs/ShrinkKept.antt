@@ -14,7 +14,7 @@ use Rattle.record.specs.declared.heap.Heap.{Heap}
 use Rattle.region.specs.Words.{Store, put, written, forward, backward, size, next_in_bin, previous_in_bin, bin}
 use Rattle.region.proofs.WordsLaws.{Off, word_same, word_other}
 use Rattle.rules.specs.Shape.{Entry, entry, shape, chunk_end}
-use Rattle.rules.specs.Kinds.{live_kind, live, used, block_of, outside}
+use Rattle.rules.specs.Kinds.{live_kind, live, block_of, outside}
 use Rattle.rules.specs.Check.{used_bytes, IsChunk, Passes}
 use Rattle.rules.specs.Draft.{Draft, Spot, as_read, now_uses}
 use Rattle.rules.specs.Join.{joining, release}

@@ -20,7 +20,7 @@ use Rattle.rules.specs.Kinds.{used, overhead, block_of}
 use Rattle.rules.specs.Check.{Passes, passes, counts_of}
 use Rattle.rules.specs.Draft.{Draft, Spot, as_read, also_writes}
 use Rattle.rules.specs.Serve.{need}
-use Rattle.rules.specs.Outcome.{Outcome, Refusals, judged, heap_fails, unchanged, change_of, grants}
+use Rattle.rules.specs.Outcome.{Outcome, Refusals, judged, heap_fails, unchanged, change_of}
 use Rattle.rules.specs.Allocate.{source_of, grant}
 use Rattle.rules.specs.Free.{is_live, block_spot, free_block}
 use Rattle.rules.specs.Reallocate.{shrunk}

@@ -22,7 +22,7 @@ use Rattle.rules.specs.Calls.{Check, step}
 use Rattle.rules.proofs.BytesLaws.{bytes_shared}
 use Rattle.rules.proofs.ChainLaws.{places_once, shape_chain}
 use Rattle.rules.proofs.CheckLaws.{passes_iff}
-use Rattle.rules.proofs.SpotLaws.{inside, bounds, ends}
+use Rattle.rules.proofs.SpotLaws.{inside, bounds}
 use Rattle.promises.specs.Ways.{ours}
 use Rattle.promises.specs.Counting.{Right, Counting}
 

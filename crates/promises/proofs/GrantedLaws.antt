@@ -22,7 +22,6 @@ use Rattle.rules.specs.Shape.{Entry, shape, chunk_end}
 use Rattle.rules.specs.Kinds.{live, block_of, block_words}
 use Rattle.rules.specs.Check.{Passes}
 use Rattle.rules.specs.Draft.{Draft, as_read, also_writes}
-use Rattle.rules.specs.Serve.{serves}
 use Rattle.rules.specs.Cut.{Grant}
 use Rattle.rules.specs.Outcome.{made}
 use Rattle.rules.specs.Allocate.{grant, cleared}

@@ -42,7 +42,7 @@ use Rattle.rules.specs.Draft.{Draft, as_read}
 use Rattle.rules.specs.Serve.{need}
 use Rattle.rules.specs.Outcome.{Outcome, Refusals, judged, heap_fails, unchanged}
 use Rattle.rules.specs.Setup.{setup, setup_refusals, opened}
-use Rattle.rules.specs.Free.{free_block, free}
+use Rattle.rules.specs.Free.{free_block}
 use Rattle.rules.specs.Reallocate.{shrunk}
 use Rattle.rules.specs.Merge.{set_merge, checked, check}
 use Rattle.rules.specs.Ask.{ask_chunk, ask_bin, chunk_answers, asked_spot, is_there, bin_answers, answer_to, ask_refusals, asked}

@@ -1,7 +1,7 @@
 -- Coalescing (manual 5.4, 5.5; document 01, "The calls": Free, Reallocate): on a heap that passes, what joins when a chunk is given back, by free or as the
 -- tail of a block that shrinks. With merging off nothing joins. With merging on an ordinary chunk just below joins, and any free chunk just
 -- above; nothing joins a donor below, since a donor is not ordinary.
-use Rattle.std.specs.Prelude.{◌≡◌, ◌≢◌, ◌⊎◌, Bool, true, false, cond, ◌&&◌, List, [], ◌∷◌, ◌++◌, ℕ, ◌+◌, ◌-◌, ◌≤◌, ℤ}
+use Rattle.std.specs.Prelude.{◌≡◌, ◌≢◌, ◌⊎◌, true, false, cond, ◌&&◌, List, ◌∷◌, ◌++◌, ℕ, ◌+◌, ◌-◌, ◌≤◌, ℤ}
 use Rattle.record.specs.declared.answers.Answer.TheVariants.{Granted}
 use Rattle.record.specs.declared.heap.Heap.{Heap}
 use Rattle.record.specs.declared.kinds.Kind.TheVariants.{Donor, Top}

@@ -4,7 +4,7 @@ use Rattle.std.specs.Prelude.{◌≡◌, ◌≢◌, List, [], ◌∷◌, ℕ, �
 use Rattle.record.specs.declared.answers.Answer.TheVariants.{Granted, Refused}
 use Rattle.record.specs.declared.answers.Refusal.TheVariants.{NotLive}
 use Rattle.region.specs.declared.Block.{Block}
-use Rattle.rules.specs.Calls.{Call, Free, State}
+use Rattle.rules.specs.Calls.{Free, State}
 use Rattle.promises.specs.Ways.{Way}
 use Rattle.promises.specs.Kept.{Passing, Accepted, after}
 use Rattle.promises.specs.Runs.{Step, Calls, Writes, after_step, IsRun}

@@ -1,11 +1,11 @@
 -- Fresh (manual 5.1; document 01, "The calls": Setup): what an accepted setup leaves, whatever the region held. The chain is start, donor if one was asked for,
 -- top and end, so that no block is live; the record has the table and the merge setting that were asked for, empty bins and no used bytes; a free chunk
 -- keeps what lies above its header.
-use Rattle.std.specs.Prelude.{◌≡◌, Bool, false, List, [], ◌∷◌, ◌++◌, ℕ, ◌+◌, ◌*◌, ◌-◌, ◌≤◌, ◌<◌, length}
+use Rattle.std.specs.Prelude.{◌≡◌, Bool, List, [], ◌∷◌, ◌++◌, ℕ, ◌+◌, ◌*◌, ◌-◌, ◌≤◌, ◌<◌, length}
 use Rattle.record.specs.declared.heap.Heap.{Heap}
 use Rattle.record.specs.Heap.{table_of}
 use Rattle.region.specs.Words.{word}
-use Rattle.rules.specs.Shape.{Entry, entry, shape, bin_list, heap_bytes}
+use Rattle.rules.specs.Shape.{Entry, entry, bin_list, heap_bytes}
 use Rattle.rules.specs.Kinds.{end_size, used, unused}
 use Rattle.rules.specs.Setup.{donor_chunk}
 use Rattle.rules.specs.Statements.{Left}

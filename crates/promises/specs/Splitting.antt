@@ -1,7 +1,7 @@
 -- Splitting (manual 5.2, 5.5; document 01, "The calls": Allocate, Reallocate): on a heap that passes, a call grants no more than is needed. A new block
 -- gets the lowest n bytes of its chunk, or all of it where fewer than 24 would be left, and no other chunk of the chain changes; what remains of donor or top
 -- is donor or top; no block that is granted or resized has a chunk of n + 24 bytes or more.
-use Rattle.std.specs.Prelude.{◌≡◌, ◌≢◌, List, [], ◌∷◌, ◌++◌, ℕ, ◌+◌, ◌*◌, ◌-◌, ◌≤◌, ◌<◌, ℤ}
+use Rattle.std.specs.Prelude.{◌≡◌, ◌≢◌, List, ◌∷◌, ◌++◌, ℕ, ◌+◌, ◌*◌, ◌-◌, ◌≤◌, ◌<◌, ℤ}
 use Rattle.record.specs.declared.answers.Answer.TheVariants.{Granted}
 use Rattle.record.specs.declared.heap.Heap.{Heap}
 use Rattle.record.specs.declared.kinds.Kind.TheVariants.{Donor, Top}

@@ -1,5 +1,5 @@
 -- What the laws rely on of a chunk's flags. They hold for every sort of chunk. As yet no other law cites them. Assumes nothing.
-use mathlib.Core.Path.{◌≡◌, refl, sym, ap, ◌∙◌}
+use mathlib.Core.Path.{◌≡◌, refl}
 use mathlib.Core.Bool.{Bool, true, false, not, ◌||◌, false≢true}
 use Prim.Native.Nat.{ℕ, ◌+◌, ◌%◌, ◌≤◌, ◌<◌}
 use native.Mathlib.Omega.{arith}
@@ -7,7 +7,7 @@ use borrow.Author.Tests.{eqb-true, eqb-false}
 use lib.Dec.{eqb}
 use Rattle.record.specs.declared.heap.Heap.{Heap}
 use Rattle.rules.specs.Kinds.{unused, used}
-use Rattle.rules.specs.Flags.{permitted_flags, say_used, have_size, least_with, lead, trail}
+use Rattle.rules.specs.Flags.{permitted_flags, have_size, least_with, lead, trail}
 
 -- the flags that are permitted
 pub unused_permitted : permitted_flags unused ≡ true

@@ -33,11 +33,10 @@ returns-3 c s h t =
 
 -- the walks get the words of the heap bytes, a valid table, and both ends of every bin's list
 walk-all-requires : tie.Need-walk_all-requires
-walk-all-requires c κs =
-    (
-      lent_even _ _ (fits c.before.before.before.before),
-      ((lent_table _ _ _ _ (tabled c.before)).1, lent_ends _ _ _ _ c.requires (tabled c.before)),
-    )
+walk-all-requires c κs = (
+  lent_even _ _ (fits c.before.before.before.before),
+  ((lent_table _ _ _ _ (tabled c.before)).1, lent_ends _ _ _ _ c.requires (tabled c.before)),
+)
 
 pub look_spec : {M : Type 1} → statement M
 look_spec =

@@ -42,7 +42,6 @@ loop-holds c =
 
 -- a turn of the loop: where the call began, and the links of the chunk that the walk stands at
 module _ (turn : tie.At-loop-seen invariant-loop decreases-loop) where
-
   abbrev visit : Visit
   visit = visited_in turn.args.region.now turn.loop-seen.visit.before.0 turn.loop-seen.visit.chunk.0
 
@@ -141,12 +140,11 @@ loop-less-2 c =
     omega (arith, c.loop-seen.invariant.0.below, c.if-limit-last.false)
 
 loop-again-2 : tie.Need-loop-seen-preserved invariant-loop decreases-loop
-loop-again-2 c =
-    (
-      walk_turns _ _ c.requires.0 c.loop-seen.invariant.0 refl (stops c.before.before.before) c.if-limit-last.false c.if-chunk-limit.false,
-      c.loop-seen.invariant.1,
-      c.loop-seen.invariant.2,
-    )
+loop-again-2 c = (
+  walk_turns _ _ c.requires.0 c.loop-seen.invariant.0 refl (stops c.before.before.before) c.if-limit-last.false c.if-chunk-limit.false,
+  c.loop-seen.invariant.1,
+  c.loop-seen.invariant.2,
+)
 
 pub walk_spec : {M : Type 1} → statement M
 walk_spec =

@@ -7,7 +7,6 @@ use Rattle.sweep.proofs.is_listed.Tie as tie
 
 -- behind the read of the size: it is a word of the region, so it is below 2 ^ 32
 module _ (read : tie.After-shared_slice_known-2-1) where
-
   is_word : get_or read.args.region.now (read.args.chunk.0 / 4 + size) 0 < 2 ^ 32
   is_word = omega (arith, read.shared_slice_known-2-1.given (read.args.chunk.0 / 4 + size))
 

@@ -7,7 +7,6 @@ use Rattle.sweep.proofs.sizes_of.Tie as tie
 
 -- behind the read of the next bin's size: it is greater than the bin's
 module _ (read : tie.After-shared_slice_known-then-next-table-1) where
-
   ascends : size_at read.args.table.now read.args.bin < size_at read.args.table.now (read.args.bin + 1)
   ascends = rw add-one (read.requires.0.ascends read.args.bin (rw add-one at read.if-next-table.true))
 

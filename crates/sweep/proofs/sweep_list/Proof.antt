@@ -20,13 +20,11 @@ decreases-loop region marks table bin first bytes sizes₀ at₀ before₀ left�
 
 -- the test of a member's place
 module _ (tested : tie.After-is_placed invariant-loop decreases-loop) where
-
   place-tested : tested.is_placed.result ≡ is_placed_m tested.args.bytes tested.loop-at.at
   place-tested = by_number tested.requires.0 tested.loop-at.at tested.number_of-number.ensures tested.is_placed.ensures
 
 -- behind it: the member's header is among the words, its mark in the bitmap
 module _ (placed : tie.Else-not-is_placed invariant-loop decreases-loop) where
-
   in_words : placed.loop-at.at / 4 + bin < length placed.args.region.now
   in_words = header_inside placed.requires.0 placed.loop-at.at (place-tested placed.before) placed.if-not-is_placed.false-raw
 
@@ -44,7 +42,6 @@ mark-read c =
 
 -- behind the test of its words: what the three tests come to
 module _ (told : tie.After-is_listed invariant-loop decreases-loop) where
-
   member-tested :
       Tested told.args.region.now told.args.table.now told.args.bin told.args.bytes
       told.args.marks.now told.loop-at.before told.loop-at.sizes.least told.loop-at.at told.is_listed.result

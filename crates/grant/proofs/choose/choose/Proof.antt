@@ -21,7 +21,7 @@ returns-3 c =
     (from_larger (record { taken = c.bin_of-binned.ensures; found = c.own_bin-own.ensures }) c.if-own-ne0.false
     c.donor_serves-donor.ensures c.larger_bin-larger.ensures
     (elim c.else-donor.branch [
-      else-donor-via-then-donor+else-is_small w ↦ inr (sym w.is_small.ensures ∙ w.if-is_small.false)
+      | else-donor-via-then-donor+else-is_small w ↦ inr (sym w.is_small.ensures ∙ w.if-is_small.false)
       | else-donor-via-else-donor w ↦ inl w.if-donor.false
     ])
     c.if-larger-ne0.true)
@@ -32,7 +32,7 @@ returns-4 c =
     (from_rest (record { taken = c.bin_of-binned.ensures; found = c.own_bin-own.ensures }) c.if-own-ne0.false
     c.donor_serves-donor.ensures c.larger_bin-larger.ensures
     (elim c.else-donor.branch [
-      else-donor-via-then-donor+else-is_small w ↦ inr (sym w.is_small.ensures ∙ w.if-is_small.false)
+      | else-donor-via-then-donor+else-is_small w ↦ inr (sym w.is_small.ensures ∙ w.if-is_small.false)
       | else-donor-via-else-donor w ↦ inl w.if-donor.false
     ])
     c.if-larger-ne0.false c.top_serves.ensures c.top_or_donor.ensures)

@@ -1,5 +1,5 @@
 -- `play::play` ends: each action ends further on than it began. The invariant: the region is a part of the space, which keeps its length.
-use Rattle.std.proofs.Common.{◌≤◌, ◌-◌, ◌≡◌, length}
+use Rattle.std.proofs.Common.{◌≤◌, ◌-◌, length}
 use Rattle.vectors.proofs.play.play.Given as goal
 
 abbrev pub invariant-loop-at : goal.invariant-loop-at
