@@ -2,7 +2,7 @@
  * @file kruzhvela.h
  * @brief Kruzhvela for C: a binned heap in one region of 32-bit words that the caller lends.
  *
- * crates/abi proves of every function here that the answer, the record and the region afterwards are those of the call's rule
+ * crates/abi_c proves of every function here that the answer, the record and the region afterwards are those of the call's rule
  * (crates/rules/specs), for all arguments that meet these preconditions, which no proof covers:
  *
  * - Each pointer is not null, is aligned for uint32_t and points to what the declaration says: region to `words` words, table to
