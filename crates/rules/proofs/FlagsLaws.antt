@@ -7,7 +7,7 @@ use borrow.Author.Tests.{eqb-true, eqb-false}
 use lib.Dec.{eqb}
 use Rattle.record.specs.declared.heap.Heap.{Heap}
 use Rattle.rules.specs.Kinds.{unused, used}
-use Rattle.rules.specs.Flags.{permitted_flags, have_size, least_with, lead, trail}
+use Rattle.rules.proofs.Flags.{permitted_flags, have_size, least_with, lead, trail}
 
 -- the flags that are permitted
 pub unused_permitted : permitted_flags unused ≡ true

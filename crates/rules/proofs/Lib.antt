@@ -1,5 +1,6 @@
 pub mod ShapeLaws
 pub mod ChainLaws
+pub mod Flags
 pub mod FlagsLaws
 pub mod KindsLaws
 pub mod BytesLaws

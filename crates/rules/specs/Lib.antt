@@ -1,6 +1,5 @@
 pub mod Shape
 pub mod Kinds
-pub mod Flags
 pub mod Check
 pub mod Serve
 pub mod Draft

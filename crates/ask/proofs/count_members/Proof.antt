@@ -13,14 +13,14 @@ invariant-loop region first steps at₀ met₀ at met = CountsMembers region ste
 abbrev decreases-loop : tie.decreases-loop-met
 decreases-loop region first steps at₀ met₀ at met = steps - met
 
-loop-holds : tie.Need-loop-met-init invariant-loop decreases-loop
-loop-holds c = counting_begins
+loop_holds : tie.Need-loop-met-init invariant-loop decreases-loop
+loop_holds c = counting_begins
 
 returns : tie.Need-returns-then-at-eq0 invariant-loop decreases-loop
 returns c = counted_all c.loop-met.invariant c.if-at-eq0.true
 
-loop-again : tie.Need-loop-met-preserved invariant-loop decreases-loop
-loop-again c =
+loop_again : tie.Need-loop-met-preserved invariant-loop decreases-loop
+loop_again c =
     counting_goes c.loop-met.invariant c.if-at-eq0.false c.loop-met-test.true
     c.word-at.ensures
 
@@ -33,10 +33,10 @@ count_members_spec =
     (tie.spec
     invariant-loop
     decreases-loop
-    loop-holds
+    loop_holds
     returns
     (λ c κs. search rules)
     (λ c. omega arith)
     (λ c. omega arith)
-    loop-again
+    loop_again
     returns-2)

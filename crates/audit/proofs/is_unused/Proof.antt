@@ -18,8 +18,8 @@ invariant-loop sizes heads tails from seen₀ i₀ seen i = (eqb seen 0 && unuse
 abbrev decreases-loop : tie.decreases-loop-i
 decreases-loop sizes heads tails from seen₀ i₀ seen i = places - i
 
-loop-again : tie.Need-loop-i-preserved invariant-loop decreases-loop
-loop-again c =
+loop_again : tie.Need-loop-i-preserved invariant-loop decreases-loop
+loop_again c =
     rw add-one (unused_goes _ _ _ c.requires c.loop-i.i c.loop-i-test.true c.loop-i.seen ∙ c.loop-i.invariant)
 
 returns : tie.Need-returns invariant-loop decreases-loop
@@ -41,5 +41,5 @@ is_unused_spec =
     (λ c. search rules)
     (λ c. omega arith)
     (λ c. omega arith)
-    loop-again
+    loop_again
     returns)

@@ -23,8 +23,8 @@ returns-2 c =
     sym (fit_here a.region.now a.need l.at l.left (omega arith) c.if-at-eq0.false (omega (arith, c.word.ensures)))
     ∙ l.invariant
 
-loop-again : tie.Need-loop-left-preserved invariant-loop decreases-loop
-loop-again c =
+loop_again : tie.Need-loop-left-preserved invariant-loop decreases-loop
+loop_again c =
     let l = c.loop-left in
     let a = c.args in
     rw c.word-at.ensures
@@ -47,5 +47,5 @@ first_fit_spec =
     (λ c κs. search rules)
     (λ c. omega arith)
     (λ c. omega arith)
-    loop-again
+    loop_again
     returns-3)

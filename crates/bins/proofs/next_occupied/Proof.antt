@@ -15,9 +15,9 @@ returns : tie.Need-returns-then-bins-above invariant-loop decreases-loop
 unfolding next_occupied_m
 returns c = sym (end_spent _ _ _ (omega arith))
 
-loop-holds : tie.Need-loop-i-init invariant-loop decreases-loop
+loop_holds : tie.Need-loop-i-init invariant-loop decreases-loop
 unfolding next_occupied_m
-loop-holds c =
+loop_holds c =
     let a = c.args in
     ap (λ (i : ℕ). some_end (a.bins - i) a.heads.now i) (add-one a.above)
 
@@ -27,8 +27,8 @@ returns-2 c =
     rw c.list_end-head.ensures
     (sym (end_here _ _ _ (omega arith) (rw c.list_end-head.ensures at c.if-head-ne0.true)) ∙ l.invariant)
 
-loop-again : tie.Need-loop-i-preserved invariant-loop decreases-loop
-loop-again c =
+loop_again : tie.Need-loop-i-preserved invariant-loop decreases-loop
+loop_again c =
     let l = c.loop-i in
     sym (end_goes_from _ _ _ c.loop-i-test.true (rw c.list_end-head.ensures at c.if-head-ne0.false))
     ∙ l.invariant
@@ -44,10 +44,10 @@ next_occupied_spec =
     decreases-loop
     returns
     (λ c. omega arith)
-    loop-holds
+    loop_holds
     (λ c κs. search rules)
     returns-2
     (λ c. omega arith)
     (λ c. omega arith)
-    loop-again
+    loop_again
     returns-3)

@@ -15,11 +15,11 @@ invariant-loop words₀ i₀ words i = (i ≤ length words₀) × (words ≡ rep
 abbrev decreases-loop : tie.decreases-loop-i
 decreases-loop words₀ i₀ words i = length words₀ - i
 
-loop-holds : tie.Need-loop-i-init invariant-loop decreases-loop
-loop-holds c = (omega arith, refl, refl)
+loop_holds : tie.Need-loop-i-init invariant-loop decreases-loop
+loop_holds c = (omega arith, refl, refl)
 
-loop-again : tie.Need-loop-i-preserved invariant-loop decreases-loop
-loop-again c =
+loop_again : tie.Need-loop-i-preserved invariant-loop decreases-loop
+loop_again c =
     let l = c.loop-i in
     (omega (arith, l.invariant.2), ap (λ (ws : List ℕ). set ws l.i 0) l.invariant.1 ∙ clears_one _ l.i (omega (arith, l.invariant.2)), length-set l.words l.i 0 ∙ l.invariant.2)
 
@@ -34,11 +34,11 @@ clear_spec =
     (tie.spec
     invariant-loop
     decreases-loop
-    loop-holds
+    loop_holds
     (λ c. search rules)
     (λ c. search rules)
     (λ c. search rules)
     (λ c. omega arith)
-    loop-again
+    loop_again
     (λ c. search rules)
     returns)

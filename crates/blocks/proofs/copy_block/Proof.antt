@@ -17,11 +17,11 @@ invariant-loop region₀ from to words number₀ region number =
 abbrev decreases-loop : tie.decreases-loop-number
 decreases-loop region₀ from to words number₀ region number = words - number
 
-loop-holds : tie.Need-loop-number-init invariant-loop decreases-loop
-loop-holds c = (refl, refl)
+loop_holds : tie.Need-loop-number-init invariant-loop decreases-loop
+loop_holds c = (refl, refl)
 
-loop-again : tie.Need-loop-number-preserved invariant-loop decreases-loop
-loop-again c =
+loop_again : tie.Need-loop-number-preserved invariant-loop decreases-loop
+loop_again c =
     let l = c.loop-number in (
       rw (c.store.ensures, c.word-value.ensures) (copies_one _ _ _ _ l.number c.loop-number-test.true ∙ l.invariant.0),
       search rules,
@@ -36,11 +36,11 @@ copy_block_spec =
     (tie.spec
     invariant-loop
     decreases-loop
-    loop-holds
+    loop_holds
     (λ c κs. search rules)
     (λ c κs. search rules)
     (λ c. omega arith)
     (λ c. omega arith)
-    loop-again
+    loop_again
     (λ c. search rules)
     returns)

@@ -8,8 +8,6 @@ use Rattle.details.proofs.bin_told.Tie as tie
 returns : tie.Need-returns-in_default
 returns c = no_bin_lem _ _ c.bin_of-binned.ensures c.in_default.is
 
--- behind the match: what was found
-
 returns-2 : tie.Need-returns
 returns-2 c = bin_told _ _ c.bin_of-binned.ensures c.in-Bin.is
 

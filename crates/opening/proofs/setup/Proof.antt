@@ -3,7 +3,6 @@ use mathlib.Core.Path.{sym, ◌∙◌}
 use Prim.Native.Nat.{◌*◌, ◌/◌}
 use native.Mathlib.Omega.{arith}
 use borrow.Author.Rules.{rules}
-use borrow.Author.Tests.{not-true, not-false}
 use lib.ListN.{length}
 use lib.Seq.{length-take-le}
 use Rattle.opening.proofs.SetupMeaning.{fits_room, refuses_short, refuses_long, refuses_table, refuses_donor, accepts, met}
@@ -20,37 +19,35 @@ returns-3 : tie.Need-returns-then-not-valid
 returns-3 c =
     rw c.refused_setup-then-not-valid.ensures
     (met (refuses_table (omega arith) (omega arith)
-    (sym c.valid.ensures ∙ not-true _ c.if-not-valid.true-raw)))
-
--- behind a valid table: the call began
+    (sym c.valid.ensures ∙ c.if-not-valid.true)))
 
 returns-4 : tie.Need-returns-then-not-donor_fits
 returns-4 c =
     rw c.refused_setup-then-not-donor_fits.ensures
     (met (refuses_donor (omega arith) (omega arith)
-    (sym c.valid.ensures ∙ not-false _ c.if-not-valid.false-raw)
-    (sym c.donor_fits.ensures ∙ not-true _ c.if-not-donor_fits.true-raw)
+    (sym c.valid.ensures ∙ c.if-not-valid.false)
+    (sym c.donor_fits.ensures ∙ c.if-not-donor_fits.true)
     (omega arith)))
 
-add-t16 : tie.Need-overflow_add-top
-add-t16 c =
+add_t16 : tie.Need-overflow_add-top
+add_t16 c =
     let a = c.args in
     let room =
     fits_room (length a.region.now / 2 * 2 * 4) a.donor
-    (sym c.donor_fits.ensures ∙ not-false _ c.if-not-donor_fits.false-raw) (omega arith) in
+    (sym c.donor_fits.ensures ∙ c.if-not-donor_fits.false) (omega arith) in
     omega arith
 
-slice-aggregate-write-headers : tie.Need-slice_bounds-write_headers-end-2
-slice-aggregate-write-headers c = sym (length-take-le _ _ (omega arith))
+slice_aggregate_write_headers : tie.Need-slice_bounds-write_headers-end-2
+slice_aggregate_write_headers c = sym (length-take-le _ _ (omega arith))
 
 returns-5 : tie.Need-returns
 returns-5 c =
     let a = c.args in
     rw (c.fresh.ensures, c.write_headers.ensures)
     (met (accepts (omega arith) (omega arith)
-    (sym c.valid.ensures ∙ not-false _ c.if-not-valid.false-raw)
+    (sym c.valid.ensures ∙ c.if-not-valid.false)
     (length a.region.now / 2 * 2)
-    (sym c.donor_fits.ensures ∙ not-false _ c.if-not-donor_fits.false-raw)
+    (sym c.donor_fits.ensures ∙ c.if-not-donor_fits.false)
     (omega arith)
     (omega arith)))
 
@@ -71,10 +68,10 @@ setup_spec =
     (λ c κs. search rules)
     (λ c κs. search rules)
     returns-4
-    add-t16
+    add_t16
     (λ c. search rules)
     (λ c. search rules)
-    slice-aggregate-write-headers
+    slice_aggregate_write_headers
     (λ c κs. search rules)
     (λ c κs. search rules)
     (λ c. search rules)

@@ -1,24 +1,24 @@
 -- `patrol::can_begin` tests the region's length, then the place. Assumes nothing.
 use mathlib.Core.Path.{sym, ◌∙◌}
 use borrow.Author.Rules.{rules}
-use borrow.Author.Tests.{not-true, not-false, eq-eqb, ne_eqb}
+use borrow.Author.Tests.{eq-eqb, ne_eqb}
 use Rattle.patrol.specs.Tours.{can_begin_m}
 use Rattle.patrol.proofs.can_begin.Statement.{statement}
 use Rattle.patrol.proofs.can_begin.Tie as tie
 
 returns : tie.Need-returns-then-not-fits_length
 unfolding can_begin_m
-returns c = rw (sym c.fits_length.ensures ∙ not-true _ c.if-not-fits_length.true-raw)
+returns c = rw (sym c.fits_length.ensures ∙ c.if-not-fits_length.true)
 
 returns-2 : tie.Need-returns-then-place-ne0
 unfolding can_begin_m
 returns-2 c =
-    rw (sym c.fits_length.ensures ∙ not-false _ c.if-not-fits_length.false-raw, ne_eqb _ _ c.if-place-ne0.true)
+    rw (sym c.fits_length.ensures ∙ c.if-not-fits_length.false, ne_eqb _ _ c.if-place-ne0.true)
 
 returns-3 : tie.Need-returns
 unfolding can_begin_m
 returns-3 c =
-    rw (sym c.fits_length.ensures ∙ not-false _ c.if-not-fits_length.false-raw, eq-eqb _ _ c.if-place-ne0.false)
+    rw (sym c.fits_length.ensures ∙ c.if-not-fits_length.false, eq-eqb _ _ c.if-place-ne0.false)
 
 pub can_begin_spec : {M : Type 1} → statement M
 can_begin_spec =

@@ -5,8 +5,6 @@ use Rattle.patrol.proofs.RunMeaning.{run_spent, run_ended, run_stops, run_goes}
 use Rattle.patrol.proofs.run.Statement.{statement}
 use Rattle.patrol.proofs.run.Tie as tie
 
--- behind the walk that decides: what is whole was passed
-
 returns : tie.Need-returns-then-skimmed-eq0
 returns c = run_spent _ _ _ _ c.skim-skimmed.ensures c.if-skimmed-eq0.true
 

@@ -13,8 +13,8 @@ returns-2 : tie.Need-returns-then-not-can_begin
 returns-2 c =
     tour_fails _ _ _ _ c.if-chunks-eq0.false c.can_begin.ensures c.if-not-can_begin.true-raw c.refused-then-not-can_begin.ensures
 
-sub-run : tie.Need-overflow_sub-bytes
-sub-run c =
+sub_run : tie.Need-overflow_sub-bytes
+sub_run c =
     let a = c.args in
     let (big, even, eights, inside) =
     room a.region.now a.bytes a.place.0 a.chunks c.if-chunks-eq0.false c.can_begin.ensures c.if-not-can_begin.false-raw in
@@ -44,7 +44,7 @@ tour_spec =
     (λ c κs. search rules)
     (λ c κs. search rules)
     returns-2
-    sub-run
+    sub_run
     (λ c κs. search rules)
     (λ c. search rules)
     (λ c. search rules)

@@ -14,8 +14,8 @@ returns-2 : tie.Need-returns-then-after-gt-LARGEST_HEAP
 unfolding change_m
 returns-2 c = simp (le-ltb _ _ c.if-before-gt-LARGEST_HEAP.false, lt-ltb _ _ c.if-after-gt-LARGEST_HEAP.true)
 
-sub-result : tie.Need-overflow_sub-result
-sub-result c = let a = c.args in machine_fits a.after a.before c.if-after-gt-LARGEST_HEAP.false c.if-before-gt-LARGEST_HEAP.false
+sub_result : tie.Need-overflow_sub-result
+sub_result c = let a = c.args in machine_fits a.after a.before c.if-after-gt-LARGEST_HEAP.false c.if-before-gt-LARGEST_HEAP.false
 
 returns-3 : tie.Need-returns
 unfolding change_m
@@ -24,4 +24,4 @@ returns-3 c =
     rw (le-ltb _ _ c.if-before-gt-LARGEST_HEAP.false, le-ltb _ _ c.if-after-gt-LARGEST_HEAP.false) (machine_is a.after a.before c.if-after-gt-LARGEST_HEAP.false c.if-before-gt-LARGEST_HEAP.false)
 
 pub change_spec : {M : Type 1} → statement M
-change_spec = tie.close (tie.spec returns returns-2 (search rules) (search rules) sub-result returns-3)
+change_spec = tie.close (tie.spec returns returns-2 (search rules) (search rules) sub_result returns-3)

@@ -8,8 +8,6 @@ use Rattle.resize.proofs.ResizeSteps.{moves, moved_nowhere, moved_by}
 use Rattle.resize.proofs.move_block.Statement.{statement}
 use Rattle.resize.proofs.move_block.Tie as tie
 
--- behind the choice of a source: the summary is made
-
 returns : tie.Need-returns-then-is_nowhere
 returns c =
     moves
@@ -18,23 +16,23 @@ returns c =
 
 -- the ends that are lent to the grant are the record's, which has 32 of each
 module _ (start : tie.Start) where
-  heads-of : 32 ≡ length start.args.heap.heads
-  heads-of = sym (length_unmapped ℕ start.args.heap.heads 32 (search rules))
+  heads_of : 32 ≡ length start.args.heap.heads
+  heads_of = sym (length_unmapped ℕ start.args.heap.heads 32 (search rules))
 
-  tails-of : 32 ≡ length start.args.heap.tails
-  tails-of = sym (length_unmapped ℕ start.args.heap.tails 32 (search rules))
+  tails_of : 32 ≡ length start.args.heap.tails
+  tails_of = sym (length_unmapped ℕ start.args.heap.tails 32 (search rules))
 
-heads-long : tie.Need-slice_bounds-serve-end
-heads-long c = heads-of c.before.before.before.before.before.before.before.before.before.before.before
+heads_long : tie.Need-slice_bounds-serve-end
+heads_long c = heads_of c.before.before.before.before.before.before.before.before.before.before.before
 
-tails-long : tie.Need-slice_bounds-serve-end-2
-tails-long c = tails-of c.before.before.before.before.before.before.before.before.before.before.before.before
+tails_long : tie.Need-slice_bounds-serve-end-2
+tails_long c = tails_of c.before.before.before.before.before.before.before.before.before.before.before.before
 
 same_length : tie.Need-shape_of-region
 same_length c = search rules
 
-give-up-requires : tie.Need-give_up-freed-requires
-give-up-requires c κs = c.requires
+give_up_requires : tie.Need-give_up-freed-requires
+give_up_requires c κs = c.requires
 
 returns-2 : tie.Need-returns
 returns-2 c =
@@ -57,15 +55,15 @@ move_block_spec =
     (λ c κs. search rules)
     (λ c. search rules)
     returns
-    heads-long
-    tails-long
+    heads_long
+    tails_long
     (λ c κs. search rules)
     (λ c κs. search rules)
     (λ c κs. search rules)
     (λ c κs. search rules)
     (λ c. search rules)
     (λ c. search rules)
-    give-up-requires
+    give_up_requires
     (λ c κs. search rules)
     (λ c κs. search rules)
     (λ c κs. search rules)

@@ -14,8 +14,8 @@ invariant-loop region bytes place before₀ at₀ before at = Seeking region byt
 abbrev decreases-loop : tie.decreases-loop-at
 decreases-loop region bytes place before₀ at₀ before at = bytes - at
 
-loop-holds : tie.Need-loop-at-init invariant-loop decreases-loop
-loop-holds c = seeking_begins
+loop_holds : tie.Need-loop-at-init invariant-loop decreases-loop
+loop_holds c = seeking_begins
 
 returns : tie.Need-returns-then-at-place invariant-loop decreases-loop
 returns c =
@@ -25,13 +25,13 @@ returns-2 : tie.Need-returns-then-end-bytes invariant-loop decreases-loop
 returns-2 c =
     seeking_ends c.loop-at.invariant c.word-next.ensures c.end_of-end.ensures c.if-at-place.false c.if-end-bytes.true
 
-loop-less : tie.Need-loop-at-smaller invariant-loop decreases-loop
-loop-less c =
+loop_less : tie.Need-loop-at-smaller invariant-loop decreases-loop
+loop_less c =
     let g = seeking_goes c.loop-at.invariant c.word-next.ensures c.end_of-end.ensures c.if-at-place.false c.if-end-bytes.false in
     omega (arith, g.0, g.1)
 
-loop-again : tie.Need-loop-at-preserved invariant-loop decreases-loop
-loop-again c =
+loop_again : tie.Need-loop-at-preserved invariant-loop decreases-loop
+loop_again c =
     (seeking_goes c.loop-at.invariant c.word-next.ensures c.end_of-end.ensures c.if-at-place.false c.if-end-bytes.false).2
 
 pub find_chunk_spec : {M : Type 1} → statement M
@@ -40,11 +40,11 @@ find_chunk_spec =
     (tie.spec
     invariant-loop
     decreases-loop
-    loop-holds
+    loop_holds
     (λ c κs. search rules)
     (λ c κs. search rules)
     (λ c κs. search rules)
     returns
     returns-2
-    loop-less
-    loop-again)
+    loop_less
+    loop_again)

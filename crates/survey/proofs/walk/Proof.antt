@@ -2,7 +2,6 @@
 -- stands at a chunk behind the start and has read its links, and the patrol's place was met or is the limit. The measure is what is left of
 -- the heap bytes, and of the way to the last limit. Assumes nothing.
 use Rattle.std.proofs.Common.{◌≡◌, ◌+◌, ◌-◌, ◌≤◌, false, length, sym, refl, ap, ◌∙◌, subst, arith, rules}
-use borrow.Author.Tests.{not-true, not-false}
 use Rattle.region.specs.Words.{word, forward}
 use Rattle.survey.specs.declared.chunks.Visit.{Visit}
 use Rattle.survey.specs.Chunks.{WellPlaced, Followed, visited_in, goes_on_m, examine_m}
@@ -24,19 +23,19 @@ decreases-loop region summary marks₀ last limit₀ tally₀ visit₀ marks lim
 returns : tie.Need-returns-then-not-is_first invariant-loop decreases-loop
 unfolding word
 returns c =
-    walk_no_start _ _ c.requires.0 (sym c.is_first.ensures ∙ not-true _ c.if-not-is_first.true-raw)
+    walk_no_start _ _ c.requires.0 (sym c.is_first.ensures ∙ c.if-not-is_first.true)
 
 returns-2 : tie.Need-returns-then-last-summary invariant-loop decreases-loop
 returns-2 c = walk_far _ _ (omega (arith, c.if-last-summary.true))
 
-meet-requires : tie.Need-meet-visit-requires invariant-loop decreases-loop
-meet-requires c κs = let lent = c.requires.0 in omega (arith, lent.words, lent.enough)
+meet_requires : tie.Need-meet-visit-requires invariant-loop decreases-loop
+meet_requires c κs = let lent = c.requires.0 in omega (arith, lent.words, lent.enough)
 
-loop-holds : tie.Need-loop-seen-init invariant-loop decreases-loop
+loop_holds : tie.Need-loop-seen-init invariant-loop decreases-loop
 unfolding word
-loop-holds c =
+loop_holds c =
     let first =
-    walking_begins _ _ c.requires.0 (sym c.is_first.ensures ∙ not-false _ c.if-not-is_first.false-raw) c.if-last-summary.false refl
+    walking_begins _ _ c.requires.0 (sym c.is_first.ensures ∙ c.if-not-is_first.false) c.if-last-summary.false refl
     c.first_limit-limit.ensures c.begun-tally.ensures in
     rw c.meet-visit.ensures (first, refl, refl)
 
@@ -45,8 +44,8 @@ module _ (turn : tie.At-loop-seen invariant-loop decreases-loop) where
   abbrev visit : Visit
   visit = visited_in turn.args.region.now turn.loop-seen.visit.before.0 turn.loop-seen.visit.chunk.0
 
-goes-on-requires : tie.Need-goes_on-requires invariant-loop decreases-loop
-goes-on-requires c κs =
+goes_on_requires : tie.Need-goes_on-requires invariant-loop decreases-loop
+goes_on_requires c κs =
     subst WellPlaced (sym c.loop-seen.invariant.1) (walk_placed _ _ c.requires.0 c.loop-seen.invariant.0)
 
 -- whether the chain goes on, of the links as they stand
@@ -58,8 +57,8 @@ followed : (c : tie.Then-goes_on invariant-loop decreases-loop)
 followed c =
     walk_followed _ _ c.requires.0 c.loop-seen.invariant.0 (sym (goes c.before) ∙ c.if-goes_on.true)
 
-examine-requires : tie.Need-examine-seen-requires invariant-loop decreases-loop
-examine-requires c κs =
+examine_requires : tie.Need-examine-seen-requires invariant-loop decreases-loop
+examine_requires c κs =
     let a = c.args in
     subst (λ (v : Visit). Followed a.region.now a.summary v) (sym c.loop-seen.invariant.1) (followed c)
 
@@ -75,8 +74,8 @@ returns-3 : tie.Need-returns-in_default invariant-loop decreases-loop
 returns-3 c =
     walk_breaks _ _ c.requires.0 c.loop-seen.invariant.0 (sym (goes c.before.before.before) ∙ c.if-goes_on.true) (seen c.before) c.in_default.is
 
-mark-requires : tie.Need-mark-requires invariant-loop decreases-loop
-mark-requires c κs =
+mark_requires : tie.Need-mark-requires invariant-loop decreases-loop
+mark_requires c κs =
     omega (arith, c.loop-seen.invariant.0.room, c.loop-seen.invariant.2, c.requires.1, c.requires.0.not_too_many)
 
 -- the next chunk is further on, inside the heap bytes
@@ -89,8 +88,8 @@ up c =
     let next = ap (λ (v : Visit). v.next) c.loop-seen.invariant.1 in
     (omega (arith, b.room), omega (arith, b.below), next)
 
-sub-tallied : tie.Need-overflow_sub-visit invariant-loop decreases-loop
-sub-tallied c = omega (arith, (up c.before.before.before.before.before.before.before.before).0)
+sub_tallied : tie.Need-overflow_sub-visit invariant-loop decreases-loop
+sub_tallied c = omega (arith, (up c.before.before.before.before.before.before.before.before).0)
 
 -- the walk stands at the next chunk
 stands : (c : tie.After-tallied-tally invariant-loop decreases-loop)
@@ -101,25 +100,25 @@ stands c =
     walk_goes _ _ c.requires.0 c.loop-seen.invariant.0 (sym (goes c.before.before.before.before.before.before.before.before.before.before) ∙ c.if-goes_on.true)
     (seen c.before.before.before.before.before.before.before.before) c.in-Sound.is (up c.before.before.before.before.before.before.before.before.before).2 c.tallied-tally.ensures c.mark.ensures
 
-meet-requires-2 : tie.Need-meet-visit-requires-then-goes_on invariant-loop decreases-loop
-meet-requires-2 c κs =
+meet_requires_2 : tie.Need-meet-visit-requires-then-goes_on invariant-loop decreases-loop
+meet_requires_2 c κs =
     walk_inside _ _ c.requires.0 (stands c)
 
-loop-less : tie.Need-loop-seen-smaller-then-goes_on invariant-loop decreases-loop
-loop-less c =
+loop_less : tie.Need-loop-seen-smaller-then-goes_on invariant-loop decreases-loop
+loop_less c =
     let (far, inside, _) = up c.before.before.before.before.before.before.before.before.before.before in
     rw c.meet-visit-then-goes_on.ensures (omega arith)
 
 -- the bitmap keeps its length
-marks-long : (c : tie.After-mark invariant-loop decreases-loop)
+marks_long : (c : tie.After-mark invariant-loop decreases-loop)
     → length c.mark.new.marks ≡ length c.args.marks.now
-marks-long c = search rules
+marks_long c = search rules
 
-loop-again : tie.Need-loop-seen-preserved-then-goes_on invariant-loop decreases-loop
-loop-again c = rw c.meet-visit-then-goes_on.ensures (stands c.before, refl, marks-long c.before.before.before.before.before.before)
+loop_again : tie.Need-loop-seen-preserved-then-goes_on invariant-loop decreases-loop
+loop_again c = rw c.meet-visit-then-goes_on.ensures (stands c.before, refl, marks_long c.before.before.before.before.before.before)
 
-finish-requires : tie.Need-finish-requires invariant-loop decreases-loop
-finish-requires c κs =
+finish_requires : tie.Need-finish-requires invariant-loop decreases-loop
+finish_requires c κs =
     subst WellPlaced (sym c.loop-seen.invariant.1) (walk_placed _ _ c.requires.0 c.loop-seen.invariant.0)
 
 -- where the chain does not go on
@@ -135,12 +134,12 @@ returns-5 : tie.Need-returns-then-chunk-limit invariant-loop decreases-loop
 returns-5 c =
     walk_misses _ _ c.requires.0 c.loop-seen.invariant.0 refl (stops c.before.before.before) c.if-limit-last.false c.if-chunk-limit.true
 
-loop-less-2 : tie.Need-loop-seen-smaller invariant-loop decreases-loop
-loop-less-2 c =
+loop_less_2 : tie.Need-loop-seen-smaller invariant-loop decreases-loop
+loop_less_2 c =
     omega (arith, c.loop-seen.invariant.0.below, c.if-limit-last.false)
 
-loop-again-2 : tie.Need-loop-seen-preserved invariant-loop decreases-loop
-loop-again-2 c = (
+loop_again_2 : tie.Need-loop-seen-preserved invariant-loop decreases-loop
+loop_again_2 c = (
   walk_turns _ _ c.requires.0 c.loop-seen.invariant.0 refl (stops c.before.before.before) c.if-limit-last.false c.if-chunk-limit.false,
   c.loop-seen.invariant.1,
   c.loop-seen.invariant.2,
@@ -164,24 +163,24 @@ walk_spec =
     returns-2
     (λ c κs. search rules)
     (λ c κs. search rules)
-    meet-requires
-    loop-holds
-    goes-on-requires
-    examine-requires
+    meet_requires
+    loop_holds
+    goes_on_requires
+    examine_requires
     (λ c. search rules)
     (λ c. search rules)
     (λ c. search rules)
     returns-3
-    mark-requires
-    sub-tallied
+    mark_requires
+    sub_tallied
     (λ c κs. search rules)
-    meet-requires-2
-    loop-less
-    loop-again
-    finish-requires
+    meet_requires_2
+    loop_less
+    loop_again
+    finish_requires
     (λ c. search rules)
     returns-4
     (λ c. search rules)
     returns-5
-    loop-less-2
-    loop-again-2)
+    loop_less_2
+    loop_again_2)

@@ -10,8 +10,6 @@ module _ (read : tie.After-shared_slice_known-2-1) where
   is_word : get_or read.args.region.now (read.args.chunk.0 / 4 + size) 0 < 2 ^ 32
   is_word = omega (arith, read.shared_slice_known-2-1.given (read.args.chunk.0 / 4 + size))
 
--- behind the test of the bin word: the size is read
-
 returns : tie.Need-returns-then-region-i
 unfolding says_listed_m word
 returns c = (rw (ne_eqb _ _ c.if-region-i.true), is_word c.before.before)

@@ -15,8 +15,8 @@ decreases-loop heads tails from count bin₀ bin = count - bin
 returns : tie.Need-returns-then-heads-bin-ne0 invariant-loop decreases-loop
 returns c = c.loop-bin.invariant
 
-loop-again : tie.Need-loop-bin-preserved invariant-loop decreases-loop
-loop-again c = one_passed c.loop-bin.invariant c.if-heads-bin-ne0.false
+loop_again : tie.Need-loop-bin-preserved invariant-loop decreases-loop
+loop_again c = one_passed c.loop-bin.invariant c.if-heads-bin-ne0.false
 
 returns-2 : tie.Need-returns invariant-loop decreases-loop
 returns-2 c = c.loop-bin.invariant
@@ -35,5 +35,5 @@ next_listed_spec =
     returns
     (λ c. omega arith)
     (λ c. omega arith)
-    loop-again
+    loop_again
     returns-2)

@@ -11,30 +11,26 @@ invariant-loop region marks table heads tails bytes met₀ bin₀ met bin = Swee
 abbrev decreases-loop : tie.decreases-loop-bin
 decreases-loop region marks table heads tails bytes met₀ bin₀ met bin = length table - bin
 
--- in the loop: what the function was given
-
--- behind the sweep of a list: the bin is one of the table's
-
 ends : tie.Need-next_listed-bin-requires invariant-loop decreases-loop
 ends c κs =
     (c.requires.1.1.1.enough_heads, c.requires.1.1.1.enough_tails)
 
-loop-holds : tie.Need-loop-bin-init invariant-loop decreases-loop
-loop-holds c = sweeping_skips sweeping_begins c.next_listed-bin.ensures
+loop_holds : tie.Need-loop-bin-init invariant-loop decreases-loop
+loop_holds c = sweeping_skips sweeping_begins c.next_listed-bin.ensures
 
-head-inside : tie.Need-bounds-heads-bin invariant-loop decreases-loop
-head-inside c = let ends = c.requires.1.1.1 in omega arith
+head_inside : tie.Need-bounds-heads-bin invariant-loop decreases-loop
+head_inside c = let ends = c.requires.1.1.1 in omega arith
 
-list-lent : tie.Need-sweep_list-swept-requires invariant-loop decreases-loop
-list-lent c κs =
+list_lent : tie.Need-sweep_list-swept-requires invariant-loop decreases-loop
+list_lent c κs =
     (c.requires.0, (c.requires.1.0, (c.requires.1.1.0, c.loop-bin-test.true)))
 
 returns : tie.Need-returns-in_default invariant-loop decreases-loop
 returns c =
     dirty_list c.loop-bin.invariant c.loop-bin-test.true refl c.sweep_list-swept.ensures c.in_default.is
 
-tail-inside : tie.Need-bounds-tails-bin invariant-loop decreases-loop
-tail-inside c =
+tail_inside : tie.Need-bounds-tails-bin invariant-loop decreases-loop
+tail_inside c =
     let ends = c.requires.1.1.1 in
     omega arith
 
@@ -43,15 +39,15 @@ returns-2 c =
     dirty_tail c.loop-bin.invariant c.loop-bin-test.true refl c.sweep_list-swept.ensures
     c.in-Whole.is refl c.if-tails-bin.true
 
-ends-2 : tie.Need-next_listed-bin-requires-in-loop-bin invariant-loop decreases-loop
-ends-2 c κs =
+ends_2 : tie.Need-next_listed-bin-requires-in-loop-bin invariant-loop decreases-loop
+ends_2 c κs =
     (c.requires.1.1.1.enough_heads, c.requires.1.1.1.enough_tails)
 
-fewer-left : tie.Need-loop-bin-smaller invariant-loop decreases-loop
-fewer-left c = omega (arith, c.next_listed-bin-in-loop-bin.ensures.onward)
+fewer_left : tie.Need-loop-bin-smaller invariant-loop decreases-loop
+fewer_left c = omega (arith, c.next_listed-bin-in-loop-bin.ensures.onward)
 
-loop-again : tie.Need-loop-bin-preserved invariant-loop decreases-loop
-loop-again c =
+loop_again : tie.Need-loop-bin-preserved invariant-loop decreases-loop
+loop_again c =
     sweeping_skips
     (sweeping_goes c.loop-bin.invariant c.loop-bin-test.true refl c.sweep_list-swept.ensures
     c.in-Whole.is refl c.if-tails-bin.false c.wrapping_add_u32-met.ensures)
@@ -67,19 +63,19 @@ sweep_bins_spec =
     invariant-loop
     decreases-loop
     ends
-    loop-holds
+    loop_holds
     (λ c. search rules)
-    head-inside
-    list-lent
+    head_inside
+    list_lent
     (λ c. search rules)
     (λ c. search rules)
     returns
     (λ c. search rules)
-    tail-inside
+    tail_inside
     returns-2
     (λ c κs. search rules)
     (λ c. omega arith)
-    ends-2
-    fewer-left
-    loop-again
+    ends_2
+    fewer_left
+    loop_again
     returns-3)

@@ -16,41 +16,37 @@ invariant-loop region marks table bin first bytes sizes₀ at₀ before₀ left�
 abbrev decreases-loop : tie.decreases-loop-at
 decreases-loop region marks table bin first bytes sizes₀ at₀ before₀ left₀ sizes at before left = left
 
--- in the loop: what the function was given
-
 -- the test of a member's place
 module _ (tested : tie.After-is_placed invariant-loop decreases-loop) where
-  place-tested : tested.is_placed.result ≡ is_placed_m tested.args.bytes tested.loop-at.at
-  place-tested = by_number tested.requires.0 tested.loop-at.at tested.number_of-number.ensures tested.is_placed.ensures
+  place_tested : tested.is_placed.result ≡ is_placed_m tested.args.bytes tested.loop-at.at
+  place_tested = by_number tested.requires.0 tested.loop-at.at tested.number_of-number.ensures tested.is_placed.ensures
 
 -- behind it: the member's header is among the words, its mark in the bitmap
 module _ (placed : tie.Else-not-is_placed invariant-loop decreases-loop) where
   in_words : placed.loop-at.at / 4 + bin < length placed.args.region.now
-  in_words = header_inside placed.requires.0 placed.loop-at.at (place-tested placed.before) placed.if-not-is_placed.false-raw
+  in_words = header_inside placed.requires.0 placed.loop-at.at (place_tested placed.before) placed.if-not-is_placed.false-raw
 
-  in-marks : placed.loop-at.at / 256 < 256
-  in-marks = mark_inside placed.requires.0 placed.loop-at.at (place-tested placed.before) placed.if-not-is_placed.false-raw
+  in_marks : placed.loop-at.at / 256 < 256
+  in_marks = mark_inside placed.requires.0 placed.loop-at.at (place_tested placed.before) placed.if-not-is_placed.false-raw
 
 -- its mark
-mark-read : (c : tie.After-is_marked invariant-loop decreases-loop)
+mark_read : (c : tie.After-is_marked invariant-loop decreases-loop)
     → c.is_marked.result ≡ marked c.args.marks.now c.loop-at.at
-mark-read c =
-    own_mark c.requires.0 c.loop-at.at (place-tested c.before.before) c.if-not-is_placed.false-raw
+mark_read c =
+    own_mark c.requires.0 c.loop-at.at (place_tested c.before.before) c.if-not-is_placed.false-raw
     c.number_of-number.ensures _ c.is_marked.ensures
-
--- behind the test of its mark
 
 -- behind the test of its words: what the three tests come to
 module _ (told : tie.After-is_listed invariant-loop decreases-loop) where
-  member-tested :
+  member_tested :
       Tested told.args.region.now told.args.table.now told.args.bin told.args.bytes
       told.args.marks.now told.loop-at.before told.loop-at.sizes.least told.loop-at.at told.is_listed.result
-  member-tested =
-      by_words (place-tested told.before.before.before.before) told.if-not-is_placed.false-raw (mark-read told.before.before)
+  member_tested =
+      by_words (place_tested told.before.before.before.before) told.if-not-is_placed.false-raw (mark_read told.before.before)
       told.if-not-is_marked.false-raw told.loop-at.invariant.1 told.is_listed.ensures.0
 
-loop-holds : tie.Need-loop-at-init invariant-loop decreases-loop
-loop-holds c =
+loop_holds : tie.Need-loop-at-init invariant-loop decreases-loop
+loop_holds c =
     let (is, bounded) = c.sizes_of-sizes.ensures in
     (combing_begins (ap (λ (z : Sizes). z.least) is) (rw is at bounded), asks_begin is)
 
@@ -63,17 +59,17 @@ enough c κs = omega (arith, c.requires.0.enough)
 returns-2 : tie.Need-returns-then-not-is_placed invariant-loop decreases-loop
 returns-2 c =
     torn_here c.loop-at.invariant.0 c.loop-at-test.true (omega arith)
-    (not_placed (place-tested c.before) c.if-not-is_placed.true-raw) refl
+    (not_placed (place_tested c.before) c.if-not-is_placed.true-raw) refl
 
-in-bitmap : tie.Need-is_marked-requires invariant-loop decreases-loop
-in-bitmap c κs =
-    let low = number_inside c.requires.0 c.loop-at.at (place-tested c.before) c.if-not-is_placed.false-raw c.number_of-number.ensures in
+in_bitmap : tie.Need-is_marked-requires invariant-loop decreases-loop
+in_bitmap c κs =
+    let low = number_inside c.requires.0 c.loop-at.at (place_tested c.before) c.if-not-is_placed.false-raw c.number_of-number.ensures in
     omega (arith, c.requires.1.0)
 
 returns-3 : tie.Need-returns-then-not-is_marked invariant-loop decreases-loop
 returns-3 c =
     torn_here c.loop-at.invariant.0 c.loop-at-test.true (omega arith)
-    (not_marked (place-tested c.before.before.before) c.if-not-is_placed.false-raw (mark-read c.before) c.if-not-is_marked.true-raw) refl
+    (not_marked (place_tested c.before.before.before) c.if-not-is_placed.false-raw (mark_read c.before) c.if-not-is_marked.true-raw) refl
 
 header : tie.Need-is_listed-requires invariant-loop decreases-loop
 header c κs = in_words c.before.before
@@ -81,25 +77,25 @@ header c κs = in_words c.before.before
 returns-4 : tie.Need-returns-then-not-is_listed invariant-loop decreases-loop
 returns-4 c =
     torn_here c.loop-at.invariant.0 c.loop-at-test.true (omega arith)
-    (member-tested c.before) c.if-not-is_listed.true-raw
+    (member_tested c.before) c.if-not-is_listed.true-raw
 
 -- the place of a listed member is below that of the last mark, so that no index made of it wraps
 low : (c : tie.Else-not-is_listed invariant-loop decreases-loop) → c.loop-at.at / 256 < 256
-low c = in-marks c.before.before.before.before
+low c = in_marks c.before.before.before.before
 
-size-inside : tie.Need-bounds-region-i invariant-loop decreases-loop
-size-inside c = omega (arith, in_words c.before.before.before.before.before)
+size_inside : tie.Need-bounds-region-i invariant-loop decreases-loop
+size_inside c = omega (arith, in_words c.before.before.before.before.before)
 
-next-inside : tie.Need-bounds-region-i-in-loop-at invariant-loop decreases-loop
-next-inside c = omega (arith, in_words c.before.before.before.before.before.before)
+next_inside : tie.Need-bounds-region-i-in-loop-at invariant-loop decreases-loop
+next_inside c = omega (arith, in_words c.before.before.before.before.before.before)
 
-loop-again : tie.Need-loop-at-preserved invariant-loop decreases-loop
+loop_again : tie.Need-loop-at-preserved invariant-loop decreases-loop
 unfolding word
-loop-again c =
+loop_again c =
     let (combs, asks) = c.loop-at.invariant in
     let (says, small) = c.is_listed.ensures in
     let up = rises _ _ _ _ says c.if-not-is_listed.false-raw in (
-      combing_goes combs c.loop-at-test.true (omega arith) (member-tested c.before.before.before) c.if-not-is_listed.false-raw
+      combing_goes combs c.loop-at-test.true (omega arith) (member_tested c.before.before.before) c.if-not-is_listed.false-raw
           c.requires.1.1.0 c.requires.1.1.1 asks.from up small refl refl,
       asks_on asks _ up,
     )
@@ -124,12 +120,12 @@ sweep_list_spec =
     invariant-loop
     decreases-loop
     (λ c κs. search rules)
-    loop-holds
+    loop_holds
     returns
     (λ c κs. search rules)
     enough
     returns-2
-    in-bitmap
+    in_bitmap
     returns-3
     header
     returns-4
@@ -137,14 +133,14 @@ sweep_list_spec =
     (λ c. search rules)
     (λ c. omega (arith, low c))
     (λ c. omega (arith, low c))
-    size-inside
+    size_inside
     (λ c. search rules)
     (λ c. omega (arith, low c.before))
     (λ c. omega (arith, low c.before))
-    next-inside
+    next_inside
     (λ c. omega arith)
     (λ c. omega arith)
-    loop-again
+    loop_again
     returns-5
     within
     returns-6)

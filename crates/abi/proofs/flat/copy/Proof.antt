@@ -16,16 +16,16 @@ invariant-loop to₀ at from i₀ to i = (i ≤ length from) × (to ≡ paste to
 abbrev decreases-loop : tie.decreases-loop-i
 decreases-loop to₀ at from i₀ to i = length from - i
 
-loop-holds : tie.Need-loop-i-init invariant-loop decreases-loop
-loop-holds c = let a = c.args in (omega arith, paste-zero a.to.now a.at a.from.now, refl)
+loop_holds : tie.Need-loop-i-init invariant-loop decreases-loop
+loop_holds c = let a = c.args in (omega arith, paste-zero a.to.now a.at a.from.now, refl)
 
-loop-again : tie.Need-loop-i-preserved invariant-loop decreases-loop
-loop-again c =
+loop_again : tie.Need-loop-i-preserved invariant-loop decreases-loop
+loop_again c =
     let l = c.loop-i in
     (omega arith, copies_one c.args.to.now c.args.from.now l.to c.args.at l.i c.requires l.invariant.1 (search rules), length-set l.to _ _ ∙ l.invariant.2)
 
-slice-write-to : tie.Need-bounds-to-at invariant-loop decreases-loop
-slice-write-to c =
+slice_write_to : tie.Need-bounds-to-at invariant-loop decreases-loop
+slice_write_to c =
     let l = c.loop-i in
     omega (arith, l.invariant.2, c.requires, c.loop-i-test.true)
 
@@ -41,14 +41,14 @@ copy_spec =
     (tie.spec
     invariant-loop
     decreases-loop
-    loop-holds
+    loop_holds
     (λ c. search rules)
     (λ c. search rules)
-    (λ c. let w = slice-write-to c in search rules)
-    (λ c. let w = slice-write-to c in search rules)
-    slice-write-to
+    (λ c. let w = slice_write_to c in search rules)
+    (λ c. let w = slice_write_to c in search rules)
+    slice_write_to
     (λ c. search rules)
     (λ c. omega arith)
-    loop-again
+    loop_again
     (λ c. search rules)
     returns)

@@ -14,70 +14,70 @@ use Rattle.abi.proofs.flat.pack.Statement.{statement}
 use Rattle.abi.proofs.flat.pack.Tie as tie
 
 -- the six words before the bins
-abbrev scalarsOf : Heap → List ℕ
-scalarsOf h = h.bytes ∷ h.bins ∷ h.donor.0 ∷ h.top.0 ∷ bool_byte h.merge ∷ h.used ∷ []
+abbrev scalars_of : Heap → List ℕ
+scalars_of h = h.bytes ∷ h.bins ∷ h.donor.0 ∷ h.top.0 ∷ bool_byte h.merge ∷ h.used ∷ []
 
-sizes-32 : (c : tie.Start) → length c.args.heap.sizes ≡ 32
-sizes-32 c = length_unmapped ℕ c.args.heap.sizes 32 (search rules)
+sizes_32 : (c : tie.Start) → length c.args.heap.sizes ≡ 32
+sizes_32 c = length_unmapped ℕ c.args.heap.sizes 32 (search rules)
 
-heads-32 : (c : tie.Start) → length c.args.heap.heads ≡ 32
-heads-32 c = length_unmapped ℕ c.args.heap.heads 32 (search rules)
+heads_32 : (c : tie.Start) → length c.args.heap.heads ≡ 32
+heads_32 c = length_unmapped ℕ c.args.heap.heads 32 (search rules)
 
-tails-32 : (c : tie.Start) → length c.args.heap.tails ≡ 32
-tails-32 c = length_unmapped ℕ c.args.heap.tails 32 (search rules)
+tails_32 : (c : tie.Start) → length c.args.heap.tails ≡ 32
+tails_32 c = length_unmapped ℕ c.args.heap.tails 32 (search rules)
 
--- the parts are put in turn: behind each is the one before it, and behind the first the call
+-- the parts are put in turn
 
-with_first : (c : tie.After-copy) → BeginsWith sizes_from (scalarsOf c.args.heap) c.copy.new.to
+with_first : (c : tie.After-copy) → BeginsWith sizes_from (scalars_of c.args.heap) c.copy.new.to
 with_first c =
-    part_goes_on 0 sizes_from (replicate record_words 0) (scalarsOf c.args.heap) [] c.copy.new.to refl (omega arith) (refl, refl) c.copy.ensures
+    part_goes_on 0 sizes_from (replicate record_words 0) (scalars_of c.args.heap) [] c.copy.new.to refl (omega arith) (refl, refl) c.copy.ensures
 
-with-sizes : (c : tie.After-copy-2) → let h = c.args.heap in BeginsWith heads_from (scalarsOf h ++ h.sizes) c.copy-2.new.to
-with-sizes c =
-    part_goes_on sizes_from places c.copy.new.to c.args.heap.sizes _ c.copy-2.new.to (sizes-32 c.before.before.before.before.before.before.before.before.before.before.before) (omega arith) (with_first c.before.before.before.before)
+with_sizes : (c : tie.After-copy-2) → let h = c.args.heap in BeginsWith heads_from (scalars_of h ++ h.sizes) c.copy-2.new.to
+with_sizes c =
+    part_goes_on sizes_from places c.copy.new.to c.args.heap.sizes _ c.copy-2.new.to (sizes_32 c.before.before.before.before.before.before.before.before.before.before.before) (omega arith) (with_first c.before.before.before.before)
     c.copy-2.ensures
 
-with-heads : (c : tie.After-copy-3)
-    → let h = c.args.heap in BeginsWith tails_from ((scalarsOf h ++ h.sizes) ++ h.heads) c.copy-3.new.to
-with-heads c =
-    part_goes_on heads_from places c.copy-2.new.to c.args.heap.heads _ c.copy-3.new.to (heads-32 c.before.before.before.before.before.before.before.before.before.before.before.before.before.before.before) (omega arith) (with-sizes c.before.before.before.before)
+with_heads : (c : tie.After-copy-3)
+    → let h = c.args.heap in BeginsWith tails_from ((scalars_of h ++ h.sizes) ++ h.heads) c.copy-3.new.to
+with_heads c =
+    part_goes_on heads_from places c.copy-2.new.to c.args.heap.heads _ c.copy-3.new.to (heads_32 c.before.before.before.before.before.before.before.before.before.before.before.before.before.before.before) (omega arith) (with_sizes c.before.before.before.before)
     c.copy-3.ensures
 
-with-tails : (c : tie.After-copy-4)
+with_tails : (c : tie.After-copy-4)
     → let h = c.args.heap in
-    BeginsWith patrol_place (((scalarsOf h ++ h.sizes) ++ h.heads) ++ h.tails) c.copy-4.new.to
-with-tails c =
-    part_goes_on tails_from places c.copy-3.new.to c.args.heap.tails _ c.copy-4.new.to (tails-32 c.before.before.before.before.before.before.before.before.before.before.before.before.before.before.before.before.before.before.before) (omega arith) (with-heads c.before.before.before.before)
+    BeginsWith patrol_place (((scalars_of h ++ h.sizes) ++ h.heads) ++ h.tails) c.copy-4.new.to
+with_tails c =
+    part_goes_on tails_from places c.copy-3.new.to c.args.heap.tails _ c.copy-4.new.to (tails_32 c.before.before.before.before.before.before.before.before.before.before.before.before.before.before.before.before.before.before.before) (omega arith) (with_heads c.before.before.before.before)
     c.copy-4.ensures
 
-with-last : (c : tie.After-copy-5)
+with_last : (c : tie.After-copy-5)
     → let h = c.args.heap in
-    BeginsWith record_words ((((scalarsOf h ++ h.sizes) ++ h.heads) ++ h.tails) ++ (h.patrol.0 ∷ [])) c.copy-5.new.to
-with-last c =
-    part_goes_on patrol_place 1 c.copy-4.new.to (c.args.heap.patrol.0 ∷ []) _ c.copy-5.new.to refl (omega arith) (with-tails c.before.before.before.before)
+    BeginsWith record_words ((((scalars_of h ++ h.sizes) ++ h.heads) ++ h.tails) ++ (h.patrol.0 ∷ [])) c.copy-5.new.to
+with_last c =
+    part_goes_on patrol_place 1 c.copy-4.new.to (c.args.heap.patrol.0 ∷ []) _ c.copy-5.new.to refl (omega arith) (with_tails c.before.before.before.before)
     c.copy-5.ensures
 
 returns : tie.Need-returns
 unfolding record_out
 returns c =
     let h = c.args.heap in
-    five_parts _ (scalarsOf h) h.sizes h.heads h.tails (h.patrol.0 ∷ []) (with-last c.before) ∙ rw (merge_word h.merge) refl
+    five_parts _ (scalars_of h) h.sizes h.heads h.tails (h.patrol.0 ∷ []) (with_last c.before) ∙ rw (merge_word h.merge) refl
 
-sizes-fit : tie.Need-copy-requires-2
-sizes-fit c κs =
-    omega (arith, (with_first c.before.before.before).0, sizes-32 c.before.before.before.before.before.before.before.before.before.before)
+sizes_fit : tie.Need-copy-requires-2
+sizes_fit c κs =
+    omega (arith, (with_first c.before.before.before).0, sizes_32 c.before.before.before.before.before.before.before.before.before.before)
 
-heads-fit : tie.Need-copy-requires-3
-heads-fit c κs =
-    omega (arith, (with-sizes c.before.before.before).0, heads-32 c.before.before.before.before.before.before.before.before.before.before.before.before.before.before)
+heads_fit : tie.Need-copy-requires-3
+heads_fit c κs =
+    omega (arith, (with_sizes c.before.before.before).0, heads_32 c.before.before.before.before.before.before.before.before.before.before.before.before.before.before)
 
-tails-fit : tie.Need-copy-requires-4
-tails-fit c κs =
-    omega (arith, (with-heads c.before.before.before).0, tails-32 c.before.before.before.before.before.before.before.before.before.before.before.before.before.before.before.before.before.before)
+tails_fit : tie.Need-copy-requires-4
+tails_fit c κs =
+    omega (arith, (with_heads c.before.before.before).0, tails_32 c.before.before.before.before.before.before.before.before.before.before.before.before.before.before.before.before.before.before)
 
 last_fits : tie.Need-copy-requires-5
 last_fits c κs =
-    omega (arith, (with-tails c.before.before.before).0)
+    omega (arith, (with_tails c.before.before.before).0)
 
 pub pack_spec : {M : Type 1} → statement M
 pack_spec =
@@ -89,13 +89,13 @@ pack_spec =
     (λ c κs. search rules)
     (λ c. search rules)
     (λ c. search rules)
-    sizes-fit
+    sizes_fit
     (λ c. search rules)
     (λ c. search rules)
-    heads-fit
+    heads_fit
     (λ c. search rules)
     (λ c. search rules)
-    tails-fit
+    tails_fit
     (λ c. search rules)
     (λ c. search rules)
     last_fits

@@ -13,8 +13,8 @@ invariant-loop table sizes₀ i₀ sizes i =
 abbrev decreases-loop : tie.decreases-loop-i
 decreases-loop table sizes₀ i₀ sizes i = length table - i
 
-loop-holds : tie.Need-loop-i-init invariant-loop decreases-loop
-loop-holds c = (omega arith, omega arith, refl)
+loop_holds : tie.Need-loop-i-init invariant-loop decreases-loop
+loop_holds c = (omega arith, omega arith, refl)
 
 returns : tie.Need-returns-then-i-ge-PLACES invariant-loop decreases-loop
 unfolding padded_m
@@ -22,8 +22,8 @@ returns c =
     let l = c.loop-i in
     rw l.invariant.2 (copies_fill _ zeros l.i (omega arith) (omega arith))
 
-loop-again : tie.Need-loop-i-preserved invariant-loop decreases-loop
-loop-again c =
+loop_again : tie.Need-loop-i-preserved invariant-loop decreases-loop
+loop_again c =
     let l = c.loop-i in
     (omega arith, omega arith, rw l.invariant.2 (copies_one _ zeros l.i (omega arith) (omega arith)))
 
@@ -39,7 +39,7 @@ padded_spec =
     (tie.spec
     invariant-loop
     decreases-loop
-    loop-holds
+    loop_holds
     returns
     (λ c. omega arith)
     (λ c. omega arith)
@@ -47,5 +47,5 @@ padded_spec =
     (λ c. omega arith)
     (λ c. omega arith)
     (λ c. omega arith)
-    loop-again
+    loop_again
     returns-2)

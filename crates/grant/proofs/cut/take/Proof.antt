@@ -4,8 +4,6 @@ use Rattle.grant.proofs.CutSteps.{taking, took_all, took_part}
 use Rattle.grant.proofs.cut.take.Statement.{statement}
 use Rattle.grant.proofs.cut.take.Tie as tie
 
--- behind the write of the used chunk: the chunk has left its bin
-
 returns : tie.Need-returns-then-cut
 returns c =
     taking
@@ -20,8 +18,8 @@ returns-2 c =
     c.if-cut.false c.write_free.ensures
     c.write_above-2.ensures c.distance-size.ensures c.settle.ensures)
 
-settle-requires : tie.Need-settle-requires
-settle-requires c κs =
+settle_requires : tie.Need-settle-requires
+settle_requires c κs =
     c.requires
 
 pub take_spec : {M : Type 1} → statement M
@@ -39,7 +37,7 @@ take_spec =
     (λ c κs. search rules)
     (λ c κs. search rules)
     (λ c κs. search rules)
-    settle-requires
+    settle_requires
     (λ c. search rules)
     (λ c. search rules)
     (λ c. search rules)

@@ -1,14 +1,13 @@
 -- `links::is_broken` decides what the rule says of a link. Assumes nothing.
 use mathlib.Core.Path.{◌∙◌, sym}
 use borrow.Author.Rules.{rules}
-use borrow.Author.Tests.{not-true, not-false}
 use Rattle.patrol.proofs.LinksLaws.{broken_is}
 use Rattle.patrol.proofs.links.is_broken.Statement.{statement}
 use Rattle.patrol.proofs.links.is_broken.Tie as tie
 
 returns : tie.Need-returns-then-not-can_follow
 returns c =
-    rw (← broken_is, ← c.least_size.ensures, sym c.can_follow.ensures ∙ not-true _ c.if-not-can_follow.true-raw)
+    rw (← broken_is, ← c.least_size.ensures, sym c.can_follow.ensures ∙ c.if-not-can_follow.true)
 
 returns-2 : tie.Need-returns
 returns-2 c =
@@ -16,7 +15,7 @@ returns-2 c =
       c.is_skip.ensures,
       ← broken_is,
       ← c.least_size.ensures,
-      sym c.can_follow.ensures ∙ not-false _ c.if-not-can_follow.false-raw,
+      sym c.can_follow.ensures ∙ c.if-not-can_follow.false,
     )
 
 pub is_broken_spec : {M : Type 1} → statement M

@@ -5,8 +5,8 @@ use Rattle.patrol.specs.Mends.{mend_back_m}
 use Rattle.patrol.proofs.mend.mend_back.Statement.{statement}
 use Rattle.patrol.proofs.mend.mend_back.Tie as tie
 
-add-fits : tie.Need-overflow_add-below
-add-fits c = omega arith
+add_fits : tie.Need-overflow_add-below
+add_fits c = omega arith
 
 returns : tie.Need-returns
 unfolding mend_back_m
@@ -16,4 +16,4 @@ returns c =
 pub mend_back_spec : {M : Type 1} → statement M
 mend_back_spec =
     tie.close
-    (tie.spec (λ c κs. search rules) (λ c. search rules) add-fits (λ c κs. search rules) (λ c. search rules) returns)
+    (tie.spec (λ c κs. search rules) (λ c. search rules) add_fits (λ c κs. search rules) (λ c. search rules) returns)

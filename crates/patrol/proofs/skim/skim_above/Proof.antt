@@ -11,15 +11,15 @@ invariant-loop region end count at₀ left₀ links₀ at left links = Skimming 
 abbrev decreases-loop : tie.decreases-loop-left
 decreases-loop region end count at₀ left₀ links₀ at left links = left
 
-loop-holds : tie.Need-loop-left-init invariant-loop decreases-loop
-loop-holds c = record { links = links_are _ _ c.links_of-links.ensures; same = refl }
+loop_holds : tie.Need-loop-left-init invariant-loop decreases-loop
+loop_holds c = record { links = links_are _ _ c.links_of-links.ensures; same = refl }
 
 returns : tie.Need-returns-then-not-is_whole invariant-loop decreases-loop
 returns c =
     skim_stops c.loop-left.invariant c.loop-left-test.true c.links_of-above.ensures c.is_whole.ensures c.if-not-is_whole.true-raw
 
-loop-again : tie.Need-loop-left-preserved invariant-loop decreases-loop
-loop-again c =
+loop_again : tie.Need-loop-left-preserved invariant-loop decreases-loop
+loop_again c =
     skim_goes c.loop-left.invariant c.loop-left-test.true c.links_of-above.ensures c.is_whole.ensures c.if-not-is_whole.false-raw
 
 returns-2 : tie.Need-returns invariant-loop decreases-loop
@@ -32,11 +32,11 @@ skim_above_spec =
     invariant-loop
     decreases-loop
     (λ c κs. search rules)
-    loop-holds
+    loop_holds
     (λ c κs. search rules)
     (λ c κs. search rules)
     returns
     (λ c. search rules)
     (λ c. search rules)
-    loop-again
+    loop_again
     returns-2)

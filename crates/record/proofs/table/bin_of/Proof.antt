@@ -15,11 +15,11 @@ returns-2 c =
     let asked = c.before in
     by_division _ asked.before.before.before.requires _ asked.before.if-size-lt-LEAST.false asked.is_small.ensures c.if-is_small.true (omega arith)
 
-upper-bin-requires : tie.Need-upper_bin-requires
-upper-bin-requires c κs =
+upper_bin_requires : tie.Need-upper_bin-requires
+upper_bin_requires c κs =
     whole_table _ c.before.before.before.before.before.requires _ c.before.before.before.if-size-lt-LEAST.false
 
 pub bin_of_spec : {M : Type 1} → statement M
 bin_of_spec =
     tie.close
-    (tie.spec returns (λ c κs. search rules) (λ c. search rules) (λ c. search rules) returns-2 upper-bin-requires (λ c. search rules))
+    (tie.spec returns (λ c κs. search rules) (λ c. search rules) (λ c. search rules) returns-2 upper_bin_requires (λ c. search rules))

@@ -27,8 +27,8 @@ returns-3 : tie.Need-returns-then-table-ne-LEAST invariant-loop decreases-loop
 returns-3 c =
     sym (valid_first c.before.before.before.before.args.table.now (omega arith) (omega arith) c.if-table-ne-LEAST.true)
 
-loop-again : tie.Need-loop-i-preserved invariant-loop decreases-loop
-loop-again c =
+loop_again : tie.Need-loop-i-preserved invariant-loop decreases-loop
+loop_again c =
     let l = c.before.before in
     rw add-one (up_goes _ _ _ c.before.loop-i-test.true l.loop-i.right ∙ l.loop-i.invariant)
 
@@ -53,5 +53,5 @@ valid_spec =
     (λ c. omega arith)
     (λ c. omega arith)
     (λ c. omega arith)
-    loop-again
+    loop_again
     returns-4)

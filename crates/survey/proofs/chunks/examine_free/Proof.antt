@@ -5,8 +5,6 @@ use Rattle.region.specs.Words.{word, size}
 use Rattle.survey.proofs.chunks.examine_free.Statement.{statement}
 use Rattle.survey.proofs.chunks.examine_free.Tie as tie
 
--- behind the test of the size: the call began
-
 -- the size word is the size
 sized : (c : tie.Else-region-i) → let v = c.args.visit in word c.args.region.now v.chunk.0 size ≡ v.next - v.chunk.0
 unfolding word

@@ -16,8 +16,8 @@ invariant-loop start words d₀ i₀ d i = digest_from d (drop i words) ≡ dige
 abbrev decreases-loop : tie.decreases-loop-i
 decreases-loop start words d₀ i₀ d i = length words - i
 
-loop-again : tie.Need-loop-i-preserved invariant-loop decreases-loop
-loop-again c =
+loop_again : tie.Need-loop-i-preserved invariant-loop decreases-loop
+loop_again c =
     let l = c.loop-i in
     let ws = c.args.words.now in
     ap (λ d. digest_from d (drop (l.i + 1) ws)) c.mix-d.ensures ∙ digests_one l.d l.i ws (search rules) ∙ l.invariant
@@ -41,5 +41,5 @@ digest_spec =
     (λ c κs. search rules)
     (λ c. search rules)
     (λ c. omega arith)
-    loop-again
+    loop_again
     returns)
