@@ -1,13 +1,13 @@
 -- The five words of each case of an answer, as the code lays them out; and that C reads from them what a question told. Assumes nothing.
 use mathlib.Core.Path.{◌≡◌, refl}
 use mathlib.Core.List.{[], ◌∷◌}
-use mathlib.Core.Option.{Option, some, none}
+use Rattle.std.specs.Prelude.{Option, Some, None}
 use Prim.Native.Nat.{ℕ}
 use lib.IntN.{ℤ}
 use Rattle.region.specs.declared.Block.{Block}
 use Rattle.record.specs.Answers.{number_of}
 use Rattle.record.specs.declared.answers.Answer.{Answer}
-use Rattle.record.specs.declared.answers.Answer.TheVariants.{Done, Granted, Returned, Told, ToldNone, Counted, Refused}
+use Rattle.record.specs.declared.answers.Answer.TheVariants.{Done, Granted, Returned, Told, Counted, Refused}
 use Rattle.record.specs.declared.answers.Counts.{Counts}
 use Rattle.record.specs.declared.answers.Refusal.{Refusal}
 use Rattle.rules.specs.Ask.{told}
@@ -27,11 +27,11 @@ module _ {a : Answer} where
   unfolding answer_out
   returned_words e q = rw (e, q)
 
-  pub told_words : {value : ℕ} → a ≡ Told value → 0 ∷ 0 ∷ value ∷ 0 ∷ 0 ∷ [] ≡ answer_out a
+  pub told_words : {value : ℕ} → a ≡ Told (Some value) → 0 ∷ 0 ∷ value ∷ 0 ∷ 0 ∷ [] ≡ answer_out a
   unfolding answer_out complement
   told_words e = rw e
 
-  pub none_words : a ≡ ToldNone → 0 ∷ 0 ∷ 0 ∷ 0 ∷ 1 ∷ [] ≡ answer_out a
+  pub none_words : a ≡ Told None → 0 ∷ 0 ∷ 0 ∷ 0 ∷ 1 ∷ [] ≡ answer_out a
   unfolding answer_out complement
   none_words e = rw e
 
@@ -44,7 +44,7 @@ module _ {a : Answer} where
   refused_words e q = rw (e, q)
 
 -- a value, 0 among them, or none: each is read as it was told
-pub told_and_back : (v : Option ℕ) → told_in (answer_out (told v)) ≡ v
+pub told_and_back : (v : Option ℕ) → told_in (answer_out (Told v)) ≡ v
 unfolding told_in answer_out
-told_and_back (some v) = refl
-told_and_back none = refl
+told_and_back (Some v) = refl
+told_and_back None = refl

@@ -1,4 +1,5 @@
 -- What a call leaves to C, from what its steps ensure: the reply's words, and the rule's outcome. Assumes nothing.
+use Rattle.std.specs.Prelude.{Some, None}
 use mathlib.Core.Path.{◌≡◌, refl, sym, ap, ◌∙◌}
 use mathlib.Core.Logic.{◌≢◌}
 use mathlib.Core.Bool.{Bool, true, false, cond}
@@ -9,7 +10,7 @@ use lib.Dec.{eqb, leb, ltb}
 use lib.ListN.{length, get_or, set, take, drop}
 use borrow.Author.Tests.{eq-eqb, ne_eqb, le-leb, lt-leb}
 use Rattle.record.specs.declared.answers.Answer.{Answer}
-use Rattle.record.specs.declared.answers.Answer.TheVariants.{Done, Granted, Returned, Told, ToldNone, Counted, Refused}
+use Rattle.record.specs.declared.answers.Answer.TheVariants.{Done, Granted, Returned, Told, Counted, Refused}
 use Rattle.record.specs.declared.answers.Refusal.TheVariants.{HeapFails}
 use Rattle.record.specs.declared.answers.Reply.{Reply}
 use Rattle.record.specs.declared.heap.Heap.{Heap}
@@ -39,8 +40,8 @@ unfolding answer_out
 refusal_first Done = refl
 refusal_first (Granted block change) = refl
 refusal_first (Returned change) = refl
-refusal_first (Told value) = refl
-refusal_first ToldNone = refl
+refusal_first (Told (Some value)) = refl
+refusal_first (Told None) = refl
 refusal_first (Counted counts) = refl
 refusal_first (Refused refusal) = refl
 

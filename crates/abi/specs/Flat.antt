@@ -1,10 +1,9 @@
 -- The record and the answer as C has them, as flat words. A place of the record is the number of a word.
-use Rattle.std.specs.Prelude.{ℕ, suc, ◌+◌, ◌-◌, ◌%◌, ◌^◌, cond, List, [], ◌∷◌, ◌++◌, eqb, ℤ, pos, negsuc, get_or, take, drop}
-use Rattle.std.proofs.Math.Option.{Option, some, none}
+use Rattle.std.specs.Prelude.{ℕ, suc, ◌+◌, ◌-◌, ◌%◌, ◌^◌, cond, List, [], ◌∷◌, ◌++◌, eqb, ℤ, pos, negsuc, get_or, take, drop, Option, Some, None}
 use Rattle.record.specs.Answers.{Figures, figures_of}
 use Rattle.record.specs.Heap.{at, places}
 use Rattle.record.specs.declared.answers.Answer.{Answer}
-use Rattle.record.specs.declared.answers.Answer.TheVariants.{Done, Granted, Returned, Told, ToldNone, Counted, Refused}
+use Rattle.record.specs.declared.answers.Answer.TheVariants.{Done, Granted, Returned, Told, Counted, Refused}
 use Rattle.record.specs.declared.heap.Heap.{Heap}
 
 -- where the merge word stands, where the bins' sizes, heads and tails begin, and where the patrol's place stands
@@ -76,13 +75,12 @@ answer_out Done = call_words (figures_of Done)
 answer_out (Granted block change) = call_words (figures_of (Granted block change))
 answer_out (Returned change) = call_words (figures_of (Returned change))
 answer_out (Told value) = call_words (figures_of (Told value))
-answer_out ToldNone = call_words (figures_of ToldNone)
 answer_out (Counted counts) = check_words (figures_of (Counted counts))
 answer_out (Refused refusal) = call_words (figures_of (Refused refusal))
 
 -- what a question told, as C reads it from the answer's words
 unfoldable pub told_in : List ℕ → Option ℕ
-told_in words = cond (eqb (get_or words none_place 0) 1) none (some (get_or words value_place 0))
+told_in words = cond (eqb (get_or words none_place 0) 1) None (Some (get_or words value_place 0))
 
 -- what the call returns beside: the refusal's number, 0 for none
 abbrev pub refusal_out : Answer → ℕ

@@ -1,4 +1,5 @@
 -- The answers by what was found, and the walk that counts a list. Assumes nothing.
+use Rattle.std.specs.Prelude.{Some, None}
 use mathlib.Core.Path.{◌≡◌, ◌∙◌, ap}
 use mathlib.Core.List.{List}
 use Prim.Native.Nat.{ℕ, suc, ◌+◌, ◌-◌, ◌≤◌, ◌<◌}
@@ -33,7 +34,7 @@ module _ {found sought : Sought} (ef : found ≡ sought) where
   unfolding holder_of
   no_holder e = rw (← ef, e)
 
-  pub holder_told : {x : Place} → found ≡ Found x → Told x.chunk.0 ≡ holder_of sought
+  pub holder_told : {x : Place} → found ≡ Found x → Told (Some x.chunk.0) ≡ holder_of sought
   unfolding holder_of
   holder_told e = rw (← ef, e)
 
@@ -116,7 +117,7 @@ module _ {ws heads tails : List ℕ} {s : Summary} {q i : ℕ} where
   no_bin_lem h = record { is = rw (le-leb s.bins i h) }
 
   module _ (inside : i < s.bins) {f : ℕ} (ef : f ≡ get_or heads i 0) where
-    pub count_told : q ≡ 1 → {n : ℕ} → n ≡ length (members_from s.bytes ws f) → BinAnswer ws heads tails s q i (Told n)
+    pub count_told : q ≡ 1 → {n : ℕ} → n ≡ length (members_from s.bytes ws f) → BinAnswer ws heads tails s q i (Told (Some n))
     unfolding ask_bin_m
     count_told is en = record { is = rw (lt-leb s.bins i inside, eq-eqb q 1 is, ← ef, en) }
 

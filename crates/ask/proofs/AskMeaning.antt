@@ -3,7 +3,7 @@ use mathlib.Core.Path.{◌≡◌, refl, sym, ◌∙◌, ap}
 use mathlib.Core.Bool.{Bool, true, false, not, cond, ◌&&◌, ◌||◌}
 use mathlib.Core.List.Memᴰ
 use mathlib.Core.List.{List, [], ◌∷◌}
-use mathlib.Core.Option.{Option}
+use Rattle.std.specs.Prelude.{Option, None, Some}
 use Prim.Native.Nat.{ℕ, zero, suc, ◌+◌, ◌-◌, ◌≤◌, ◌<◌}
 use native.Mathlib.Decide.{ℕ_discrete, dec_lt}
 use native.Mathlib.Omega.{arith}
@@ -16,15 +16,14 @@ use Rattle.lists.proofs.ListsLaws.{both, at_most}
 use Rattle.lists.proofs.MembersLaws.{last_member}
 use Rattle.lists.proofs.SplitLaws.{before_from, after_from}
 use Rattle.record.specs.declared.answers.Answer.{Answer}
-use Rattle.record.specs.declared.answers.Answer.TheVariants.{Told, ToldNone, Refused}
+use Rattle.record.specs.declared.answers.Answer.TheVariants.{Told, Refused}
 use Rattle.record.specs.declared.answers.Refusal.TheVariants.{NotThere}
 use Rattle.record.specs.declared.heap.Heap.{Heap}
-use Rattle.record.specs.declared.table.Binned.TheVariants.{NoBin}
 use Rattle.record.specs.Heap.{table_of, summary_of}
 use Rattle.record.specs.Table.{bin_of}
 use Rattle.region.specs.Places.{block_at}
 use Rattle.region.specs.Words.{word, next_in_bin, previous_in_bin}
-use Rattle.rules.specs.Ask.{told, only_if, first_in, last_in, number_of_bin, list_of, places_of, chunk_answers, bin_answers, asked_spot, is_there, is_asked, answer_to, ask_chunk, ask_bin}
+use Rattle.rules.specs.Ask.{only_if, first_in, last_in, list_of, places_of, chunk_answers, bin_answers, asked_spot, is_there, is_asked, answer_to, ask_chunk, ask_bin}
 use Rattle.rules.specs.Check.{Linked, Passes, passes}
 use Rattle.rules.specs.Draft.{as_read, Spot, spot}
 use Rattle.rules.specs.Kinds.{ordinary, live, block_of, is_at, holds_block}
@@ -37,7 +36,7 @@ use Rattle.rules.proofs.TiledLaws.{Tiled, tiled_up}
 use Rattle.rules.proofs.SpotLaws.{TiledAt, spot_member, spot_splits, tiled_at}
 use Rattle.seek.specs.Seek.{placed, sought_m, live_m, has_block_m}
 use Rattle.seek.proofs.SeekLaws.{live_is, sought_none, sought_spot, sought_block}
-use Rattle.details.specs.Details.{number_told, bin_told_m, link_told_m, of_place_m, asks_of_bin_m, of_member_m, of_chunk_m}
+use Rattle.details.specs.Details.{link_told_m, of_place_m, asks_of_bin_m, of_member_m, of_chunk_m}
 use Rattle.ask.specs.Questions.{told_of, holder_of, ask_chunk_m, ask_bin_m}
 
 -- the place of the last chunk is the last of the places
@@ -68,29 +67,29 @@ module _ (ws : List ℕ) (c : ℕ) where
       go (no n) (Memᴰ.tail k) f = rw (ne_eqb c d n) (f k)
 
 -- 0, which a link has for none, is no member's place
-first_told : (cs : List ℕ) → ((c : ℕ) → Mem c cs → 0 < c) → link_told_m (head_or 0 cs) ≡ told (first_in cs)
+first_told : (cs : List ℕ) → ((c : ℕ) → Mem c cs → 0 < c) → link_told_m (head_or 0 cs) ≡ first_in cs
 unfolding link_told_m
 first_told [] f = refl
 first_told (x ∷ xs) f = let n = f x (Memᴰ.head refl) in rw (ne_eqb x 0 (omega arith))
 
-last_told : (cs : List ℕ) → ((c : ℕ) → Mem c cs → 0 < c) → link_told_m (last_or 0 cs) ≡ told (last_in cs)
+last_told : (cs : List ℕ) → ((c : ℕ) → Mem c cs → 0 < c) → link_told_m (last_or 0 cs) ≡ last_in cs
 unfolding link_told_m
 last_told [] f = refl
 last_told (x ∷ xs) f = let n = f (last_or x xs) (last_member x xs) in rw (ne_eqb (last_or x xs) 0 (omega arith))
 
 -- so the links of a member name its neighbours in the list, or none
 module _ (ws : List ℕ) (c : ℕ) (cs : List ℕ) (links : Linked ws 0 cs) (places : (d : ℕ) → Mem d cs → 0 < d) (m : Mem c cs) where
-  next_told : link_told_m (word ws c next_in_bin) ≡ told (first_in (past (eqb c) cs))
+  next_told : link_told_m (word ws c next_in_bin) ≡ first_in (past (eqb c) cs)
   next_told =
       ap link_told_m (linked_next ws c 0 cs links m) ∙ first_told (past (eqb c) cs) (λ d j. places d (after_from (eqb c) cs j))
 
-  previous_told : link_told_m (word ws c previous_in_bin) ≡ told (last_in (up_to (eqb c) cs))
+  previous_told : link_told_m (word ws c previous_in_bin) ≡ last_in (up_to (eqb c) cs)
   previous_told =
       ap link_told_m (linked_previous ws c 0 cs links m) ∙ last_told (up_to (eqb c) cs) (λ d j. places d (before_from (eqb c) cs j))
 
 -- a chunk ends where the next one is, and the last with the heap
 next_behind : (bytes : ℕ) (e : Entry) (high : List Entry) → Tiled (chunk_end e) high bytes
-    → cond (eqb (chunk_end e) bytes) ToldNone (Told (chunk_end e)) ≡ told (first_in (places_of high))
+    → cond (eqb (chunk_end e) bytes) None (Some (chunk_end e)) ≡ first_in (places_of high)
 next_behind bytes e [] t = rw (eq-eqb (chunk_end e) bytes t)
 next_behind bytes e (d ∷ ds) (here, some, further) =
     let up = tiled_up (chunk_end d) bytes ds further in
@@ -98,7 +97,7 @@ next_behind bytes e (d ∷ ds) (here, some, further) =
 
 -- the first chunk of the chain, and no other, is at 0
 previous_below : (from : ℕ) (e : Entry) (low : List Entry) → Tiled 0 low from → e.place ≡ from
-    → cond (eqb e.place 0) ToldNone (Told (last_or (entry 0 0 0) low).place) ≡ told (last_in (places_of low))
+    → cond (eqb e.place 0) None (Some (last_or (entry 0 0 0) low).place) ≡ last_in (places_of low)
 previous_below from e [] t z = rw (eq-eqb e.place 0 (z ∙ sym t))
 previous_below from e (d ∷ ds) (here, some, further) z =
     let up = tiled_up (chunk_end d) from ds further in
@@ -112,33 +111,26 @@ module _ (ws : List ℕ) (h : Heap) (k : Passes ws h) where
   members_above : (i : ℕ) → i < h.bins → (c : ℕ) → Mem c (bin_list ws h i) → 0 < c
   members_above i l c m = (list_nodes ws h k i l c m).some
 
-  -- what a chunk of the chain tells, by question: bin number, next and previous in its bin if it is ordinary, block if it is live
+  -- what a chunk of the chain tells, by question: next and previous in its bin if it is ordinary, block if it is live
   module _ (e : Entry) (m : Mem e (shape ws h.bytes)) where
-    number_is : (t : Bool) → ordinary h e ≡ t
-        → cond t (number_told (bin_of (table_of h) e.size)) ToldNone ≡ told (number_of_bin (cond t (bin_of (table_of h) e.size) NoBin))
-    number_is false o = refl
-    number_is true o =
-        let (i, takes, (below, listed)) = k.binned e m o in
-        rw takes refl
-
     -- what a word of the chunk tells of the list of its bin
-    neighbour_is : (number : ℕ) (beside : List ℕ → Answer) → beside [] ≡ ToldNone
+    neighbour_is : (number : ℕ) (beside : List ℕ → Option ℕ) → beside [] ≡ None
         → ((cs : List ℕ) → Linked ws 0 cs → ((c : ℕ) → Mem c cs → 0 < c) → Mem e.place cs → link_told_m (word ws e.place number) ≡ beside cs)
         → (t : Bool) → ordinary h e ≡ t
-        → cond t (link_told_m (word ws e.place number)) ToldNone ≡ beside (list_of (as_read ws h) (cond t (bin_of (table_of h) e.size) NoBin))
+        → cond t (link_told_m (word ws e.place number)) None ≡ beside (list_of (as_read ws h) (cond t (bin_of (table_of h) e.size) None))
     unfolding as_read
-    neighbour_is number beside none linked false o = sym none
-    neighbour_is number beside none linked true o =
+    neighbour_is number beside nothing linked false o = sym nothing
+    neighbour_is number beside nothing linked true o =
         let (i, takes, (below, listed)) = k.binned e m o in
         rw takes (linked (bin_list ws h i) (k.bins i below).links (members_above i below) listed)
 
-    block_is : cond (live_m h.bytes e.place e.flags) (Told (block_at e.place)) ToldNone ≡ told (only_if (live h e) (block_of e))
+    block_is : cond (live_m h.bytes e.place e.flags) (Some (block_at e.place)) None ≡ only_if (live h e) (block_of e)
     block_is =
         let l = (shape_chain ws h.bytes).inside some_bytes.0 e m in
         let a : block_at e.place ≡ e.place + 8 = omega (arith, some_bytes.1) in
         rw (a, live_is h.bytes h.donor.0 h.top.0 e) (go (live h e))
       where
-        go : (t : Bool) → cond t (Told (e.place + 8)) ToldNone ≡ told (only_if t (e.place + 8))
+        go : (t : Bool) → cond t (Some (e.place + 8)) None ≡ only_if t (e.place + 8)
         go true = refl
         go false = refl
 
@@ -157,28 +149,28 @@ module _ (ws : List ℕ) (h : Heap) (k : Passes ws h) where
     split = tiled_at ws h k here.low here.here here.high (spot_splits p (shape ws h.bytes) found).0
 
     -- what the code tells of it
-    abbrev tells : ℕ → Answer
+    abbrev tells : ℕ → Option ℕ
     tells q =
         of_chunk_m ws (table_of h) (summary_of h) q
         (placed (last_or (entry 0 0 0) here.low).place here.here)
 
-    tells_is : (q : ℕ) → 1 ≤ q → q ≤ 9 → (q ≡ 3 → ⊥) → tells q ≡ answer_to q (chunk_answers (as_read ws h) here)
-    unfolding as_read of_chunk_m asks_of_bin_m of_place_m of_member_m bin_told_m
+    tells_is : (q : ℕ) → 1 ≤ q → q ≤ 9 → (q ≡ 3 → ⊥) → Told (tells q) ≡ answer_to q (chunk_answers (as_read ws h) here)
+    unfolding as_read of_chunk_m asks_of_bin_m of_place_m of_member_m
     tells_is zero lo hi n = absurd (omega arith)
-    tells_is (suc zero) lo hi n = rw size_is (number_is here.here member (ordinary h here.here) refl)
-    tells_is (suc (suc zero)) lo hi n = block_is here.here member
+    tells_is (suc zero) lo hi n = rw size_is
+    tells_is (suc (suc zero)) lo hi n = ap Told (block_is here.here member)
     tells_is (suc (suc (suc zero))) lo hi n = absurd (n refl)
-    tells_is (suc (suc (suc (suc zero)))) lo hi n = next_behind h.bytes here.here here.high split.above
+    tells_is (suc (suc (suc (suc zero)))) lo hi n = ap Told (next_behind h.bytes here.here here.high split.above)
     tells_is (suc (suc (suc (suc (suc zero))))) lo hi n =
         rw size_is
-        (neighbour_is here.here member next_in_bin (λ cs. told (first_in (past (eqb here.here.place) cs))) refl
-        (λ cs l f j. next_told ws here.here.place cs l f j) (ordinary h here.here) refl)
-    tells_is (suc (suc (suc (suc (suc (suc zero)))))) lo hi n = previous_below split.from here.here here.low split.below split.place
+        (ap Told (neighbour_is here.here member next_in_bin (λ cs. first_in (past (eqb here.here.place) cs)) refl
+        (λ cs l f j. next_told ws here.here.place cs l f j) (ordinary h here.here) refl))
+    tells_is (suc (suc (suc (suc (suc (suc zero)))))) lo hi n = ap Told (previous_below split.from here.here here.low split.below split.place)
     tells_is (suc (suc (suc (suc (suc (suc (suc zero))))))) lo hi n =
         rw size_is
-        (neighbour_is here.here member previous_in_bin (λ cs. told (last_in (up_to (eqb here.here.place) cs))) refl
-        (λ cs l f j. previous_told ws here.here.place cs l f j) (ordinary h here.here) refl)
-    tells_is (suc (suc (suc (suc (suc (suc (suc (suc zero)))))))) lo hi n = ap Told size_is
+        (ap Told (neighbour_is here.here member previous_in_bin (λ cs. last_in (up_to (eqb here.here.place) cs)) refl
+        (λ cs l f j. previous_told ws here.here.place cs l f j) (ordinary h here.here) refl))
+    tells_is (suc (suc (suc (suc (suc (suc (suc (suc zero)))))))) lo hi n = ap (λ s. Told (Some s)) size_is
     tells_is (suc (suc (suc (suc (suc (suc (suc (suc (suc zero))))))))) lo hi n = refl
     tells_is (suc (suc (suc (suc (suc (suc (suc (suc (suc (suc q)))))))))) lo hi n = absurd (omega arith)
 
@@ -198,7 +190,7 @@ module _ (ws : List ℕ) (h : Heap) (k : Passes ws h) where
   -- question 3, of a block
   holder_is : (place : ℕ) (t : Bool) → any (holds_block h place) (shape ws h.bytes) ≡ t
       → holder_of (sought_m (has_block_m h.bytes place) 0 (shape ws h.bytes))
-      ≡ cond (not t) (Refused NotThere) (Told (spot (holds_block h place) (shape ws h.bytes)).here.place)
+      ≡ cond (not t) (Refused NotThere) (Told (Some (spot (holds_block h place) (shape ws h.bytes)).here.place))
   unfolding holder_of
   holder_is place true e =
       rw (sought_block h place 0 (shape ws h.bytes) ∙ sought_spot (holds_block h place) 0 (shape ws h.bytes) e)

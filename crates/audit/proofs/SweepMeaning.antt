@@ -14,7 +14,7 @@ use Rattle.lists.proofs.ListsLaws.{Decides, number_is, at_most, less, both, both
 use Rattle.lists.proofs.CountLaws.{distinct_fits, distinct_covers, gathered_length, gathered_from, gathered_has, gathered_once}
 use Rattle.lists.proofs.MembersLaws.{DistinctParts}
 use Rattle.marks.specs.Marks.{marked}
-use Rattle.record.specs.declared.table.Binned.TheVariants.{Bin}
+use Rattle.std.specs.Prelude.{Some}
 use Rattle.record.specs.Table.{ValidTable, size_at, bin_of}
 use Rattle.record.proofs.TableLaws.{bin_takes, takes_iff}
 use Rattle.region.specs.Words.{word, size, next_in_bin, previous_in_bin, bin}
@@ -86,7 +86,7 @@ module _ (ws table : List ℕ) (valid : ValidTable table) (all : List ℕ) where
   pub record MemberFacts (i c : ℕ) : Type 0 where
     pub known : Mem c all
     pub bins : word ws c bin ≡ i % 32 * 8
-    pub takes : bin_of table (word ws c size) ≡ Bin i
+    pub takes : bin_of table (word ws c size) ≡ Some i
 
   -- all of a list are, and each names the one before it and is no smaller. The first is behind one at p of size s
   abbrev CombedIs : ℕ → ℕ → ℕ → List ℕ → Type 0

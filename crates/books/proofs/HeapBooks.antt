@@ -11,7 +11,7 @@ use native.Mathlib.Omega.{arith}
 use lib.ListN.{length, get_or}
 use Rattle.lists.specs.Lists.{Mem, head_or}
 use Rattle.record.specs.declared.heap.Heap.{Heap}
-use Rattle.record.specs.declared.table.Binned.TheVariants.{Bin}
+use Rattle.std.specs.Prelude.{Some}
 use Rattle.record.specs.Heap.{table_of}
 use Rattle.record.specs.Table.{bin_of}
 use Rattle.region.specs.Words.{word, size, bin}
@@ -37,7 +37,7 @@ pub record Member (ws : List ℕ) (h : Heap) (es : List Entry) (i c : ℕ) (e : 
   pub place : e.place ≡ c
   pub kind : ordinary h e ≡ true
   pub is : IsOrdinary ws h e
-  pub takes : bin_of (table_of h) e.size ≡ Bin i
+  pub takes : bin_of (table_of h) e.size ≡ Some i
   pub sized : word ws c size ≡ e.size
   pub binned : word ws c bin ≡ 8 * i
 
@@ -113,7 +113,7 @@ module _ (ws : List ℕ) (h : Heap) (p : Passes ws h) where
       go (no n) = let e = ap length (list_none i (omega arith)) in omega arith
 
   pub ordinary_listed : (e : Entry) → Mem e es → ordinary h e ≡ true
-      → (i : ℕ) × (i < h.bins) × (bin_of (table_of h) e.size ≡ Bin i) × Mem e.place (bin_list ws h i)
+      → (i : ℕ) × (i < h.bins) × (bin_of (table_of h) e.size ≡ Some i) × Mem e.place (bin_list ws h i)
   ordinary_listed e m o = let (i, takes, (inside, member)) = p.binned e m o in (i, inside, takes, member)
 
   -- a member ends, with its 24 bytes, below every chunk above it

@@ -1,5 +1,6 @@
 -- A grant leaves a picture of the heap (`grant_kept`): it passes and is read as the draft says. The granted chunk is a new live chunk, and every
 -- live chunk stays; what is left of donor or top has its post (`granted_donor`, `granted_top`). Assumes nothing.
+use Rattle.std.specs.Prelude.{Option, Some, None}
 use mathlib.Core.Path.{◌≡◌, sym, ap, subst, ◌∙◌}
 use mathlib.Core.Logic.{◌≢◌, ◌⊎◌, inl, inr}
 use mathlib.Core.Bool.{true, cond, false≢true}
@@ -29,7 +30,7 @@ use Rattle.drafts.proofs.CutLaws.{FreeChunk, Cutting, rest_of, cut_parts, grante
 use Rattle.drafts.proofs.CutKept.{with_post, inner, cut_live, cut_done}
 
 module _ {ws : List ℕ} {h : Heap} {n : ℕ} (room : Grantable ws h n) where
-  abbrev pub source : Source
+  abbrev pub source : Option Source
   source = source_of n (as_read ws h)
 
   abbrev es : List Entry

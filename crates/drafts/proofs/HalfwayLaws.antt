@@ -13,7 +13,7 @@ use lib.Seq.{get_or-set_other}
 use Rattle.lists.specs.Lists.{Mem, head_or}
 use Rattle.lists.proofs.SplitLaws.{outer_in}
 use Rattle.record.specs.declared.heap.Heap.{Heap}
-use Rattle.record.specs.declared.table.Binned.TheVariants.{Bin}
+use Rattle.std.specs.Prelude.{Some}
 use Rattle.record.specs.Heap.{places, table_of, with_ends, with_donor, with_top, with_used, with_patrol}
 use Rattle.record.specs.Table.{bin_of}
 use Rattle.region.specs.Words.{Store, written, next_in_bin, previous_in_bin, bin}
@@ -69,11 +69,11 @@ pub record Belonging (h : Heap) (donor top : ℕ) (es : List Entry) (i c : ℕ) 
   pub member : Mem chunk es
   pub place : chunk.place ≡ c
   pub kind : ordinary_kind (kind_at h.bytes donor top chunk) ≡ true
-  pub takes : bin_of (table_of h) chunk.size ≡ Bin i
+  pub takes : bin_of (table_of h) chunk.size ≡ Some i
 
 pub record ListedIn (h : Heap) (lists : ℕ → List ℕ) (e : Entry) : Type 0 where
   pub bin : ℕ
-  pub takes : bin_of (table_of h) e.size ≡ Bin bin
+  pub takes : bin_of (table_of h) e.size ≡ Some bin
   pub inside : bin < h.bins
   pub member : Mem e.place (lists bin)
 

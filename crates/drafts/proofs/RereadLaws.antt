@@ -5,8 +5,7 @@ use mathlib.Core.List.{List, [], ◌∷◌, ◌++◌, append_assoc, append-nil}
 use Prim.Native.Nat.{ℕ}
 use Rattle.record.specs.declared.kinds.Kind.{Kind}
 use Rattle.record.specs.declared.kinds.Kind.TheVariants.{Start, InUse, Ordinary, Donor, Top, End}
-use Rattle.record.specs.declared.table.Binned.{Binned}
-use Rattle.record.specs.declared.table.Binned.TheVariants.{Bin, NoBin}
+use Rattle.std.specs.Prelude.{Option, Some, None}
 use Rattle.record.specs.Heap.{table_of}
 use Rattle.record.specs.Table.{bin_of}
 use Rattle.region.specs.Words.{Store}
@@ -35,9 +34,9 @@ module _ (ss : List Store) where
 
   -- for a step on the bin of a size it is enough to know it for every bin
   on_bin_behind : (step : ℕ → Draft → Draft) (d : Draft) → ((i : ℕ) → step i (behind ss d) ≡ behind ss (step i d))
-      → (b : Binned) → on_bin step b (behind ss d) ≡ behind ss (on_bin step b d)
-  on_bin_behind step d f (Bin i) = f i
-  on_bin_behind step d f NoBin = refl
+      → (b : Option ℕ) → on_bin step b (behind ss d) ≡ behind ss (on_bin step b d)
+  on_bin_behind step d f (Some i) = f i
+  on_bin_behind step d f None = refl
 
   leave_bin_behind : (e : Entry) (d : Draft) → leave_bin e (behind ss d) ≡ behind ss (leave_bin e d)
   unfolding leave_bin leave

@@ -16,7 +16,7 @@ use Rattle.lists.proofs.AscendingLaws.{before_members, before_right, parts_at_fi
 use Rattle.lists.proofs.MembersLaws.{member_with}
 use Rattle.record.specs.declared.heap.Heap.{Heap}
 use Rattle.record.specs.declared.kinds.Kind.TheVariants.{Ordinary, Donor, Top}
-use Rattle.record.specs.declared.table.Binned.TheVariants.{Bin}
+use Rattle.std.specs.Prelude.{Some}
 use Rattle.record.specs.Heap.{table_of, with_donor, with_top}
 use Rattle.record.specs.Table.{bin_of, small_bins}
 use Rattle.record.proofs.TableLaws.{bin_takes, bin_from, one_size}
@@ -107,7 +107,7 @@ module _ {ws : List ℕ} {h : Heap} {stay : List Entry} {d : Draft} {all : List 
     high : (x : Entry) → Mem x stay → ordinary (record_midway h d) x ≡ true → Mem x.place ys → standing late c ≤ standing late x
 
   -- c is put into bin i, between xs and ys
-  module _ (kind : ordinary (record_midway h d) c ≡ true) (long : h.bytes ≤ 4 * length ws) (i : ℕ) (l : i < h.bins) (t : bin_of (table_of h) c.size ≡ Bin i)
+  module _ (kind : ordinary (record_midway h d) c ≡ true) (long : h.bytes ≤ 4 * length ws) (i : ℕ) (l : i < h.bins) (t : bin_of (table_of h) c.size ≡ Some i)
       (xs ys : List ℕ) (s : d.lists i ≡ xs ++ ys) (fits : (late : Entry → ℕ) → Lateness ws h late → Fitting (late_in h i late) xs ys) where
     abbrev stores : List Store
     stores = put_stores i xs c.place ys
@@ -155,7 +155,7 @@ module _ {ws : List ℕ} {h : Heap} {stay : List Entry} {d : Draft} {all : List 
       where
         go : Mem x (d.lists j) ⊎ ((j ≡ i) × (x ≡ c.place)) → Belonging h d.heap.donor.0 d.heap.top.0 (c ∷ stay) j x
         go (inl k) = let r = f.members j x b k in belongs_at r (Memᴰ.tail r.member)
-        go (inr q) = record { chunk = c; member = Memᴰ.head refl; place = sym q.1; kind = kind; takes = t ∙ ap Bin (sym q.0) }
+        go (inr q) = record { chunk = c; member = Memᴰ.head refl; place = sym q.1; kind = kind; takes = t ∙ ap Some (sym q.0) }
 
     put_listed : (x : Entry) → Mem x (c ∷ stay) → ordinary (record_midway h d) x ≡ true → ListedIn h lists x
     put_listed x (Memᴰ.head q) o =
@@ -252,7 +252,7 @@ module _ {ws : List ℕ} {h : Heap} {stay : List Entry} {d : Draft} {all : List 
         go x m o (inr (z, t, b)) = behind_larger z x m o t b
 
     -- at the head of a bin of the small array: the others have its size, and it is late
-    at_head : i < small_bins (table_of h) → bin_of (table_of h) c.size ≡ Bin i → (late : Entry → ℕ) → Lateness ws h late
+    at_head : i < small_bins (table_of h) → bin_of (table_of h) c.size ≡ Some i → (late : Entry → ℕ) → Lateness ws h late
         → Fitting (λ e. 1 - late e) [] (d.lists i)
     at_head small takes late lateness =
         record {
@@ -267,10 +267,10 @@ module _ {ws : List ℕ} {h : Heap} {stay : List Entry} {d : Draft} {all : List 
               omega arith;
         }
       where
-        only : (e : Entry) → Mem e all → bin_of (table_of h) e.size ≡ Bin i → e.size ≡ 24 + 8 * i
+        only : (e : Entry) → Mem e all → bin_of (table_of h) e.size ≡ Some i → e.size ≡ 24 + 8 * i
         only e m t = one_size (table_of h) p.table.valid (bin_takes (table_of h) t) small (laid_eights y (bounds ws h p).eights m)
 
-    parts_fit : bin_of (table_of h) c.size ≡ Bin i → (late : Entry → ℕ) → Lateness ws h late → Fitting (late_in h i late) (part_before i c d) (part_after i c d)
+    parts_fit : bin_of (table_of h) c.size ≡ Some i → (late : Entry → ℕ) → Lateness ws h late → Fitting (late_in h i late) (part_before i c d) (part_after i c d)
     parts_fit takes late lateness = rw (ap table_of f.heap) (go (ltb i (small_bins (table_of h))) refl)
       where
         go : (t : Bool) → ltb i (small_bins (table_of h)) ≡ t

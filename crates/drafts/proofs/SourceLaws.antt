@@ -16,9 +16,8 @@ use Rattle.lists.proofs.MembersLaws.{kept_from}
 use Rattle.lists.proofs.CountLaws.{gathered_from}
 use Rattle.record.specs.declared.heap.Heap.{Heap}
 use Rattle.record.specs.declared.sources.Source.{Source}
-use Rattle.record.specs.declared.sources.Source.TheVariants.{FromBin, FromDonor, FromTop, Nowhere}
-use Rattle.record.specs.declared.table.Binned.{Binned}
-use Rattle.record.specs.declared.table.Binned.TheVariants.{Bin, NoBin}
+use Rattle.record.specs.declared.sources.Source.TheVariants.{FromBin, FromDonor, FromTop}
+use Rattle.std.specs.Prelude.{Option, Some, None, is_none}
 use Rattle.record.specs.Heap.{at, table_of}
 use Rattle.record.specs.Table.{Takes, TakenBy, small, bin_of}
 use Rattle.record.proofs.TableLaws.{bin_taken, sizes_grow}
@@ -27,7 +26,7 @@ use Rattle.rules.specs.Kinds.{free_kind, ordinary_kind, kind_of, is_at, overhead
 use Rattle.rules.specs.Check.{Passes}
 use Rattle.rules.specs.Draft.{as_read, spot}
 use Rattle.rules.specs.Cut.{grant_at, grant_from}
-use Rattle.rules.specs.Serve.{from_bin, own_bin, try_donor, larger_bin, try_top, in_order, first_of, chosen, nowhere, need}
+use Rattle.rules.specs.Serve.{from_bin, own_bin, try_donor, larger_bin, try_top, in_order, first_of, chosen, need}
 use Rattle.rules.specs.Allocate.{source_of}
 use Rattle.rules.proofs.SpotLaws.{spot_at, size_on_lem}
 use Rattle.rules.proofs.NamedLaws.{Free, top_here, donor_here}
@@ -37,14 +36,14 @@ use Rattle.drafts.specs.Sources.{place_in, kind_in}
 use Rattle.drafts.proofs.NeedLaws.{need_large, need_eight}
 
 -- a source has one of the three free kinds
-pub free_source : (s : Source) → nowhere s ≡ false → free_kind (kind_in s) ≡ true
-free_source (FromBin c) q = refl
-free_source FromDonor q = refl
-free_source FromTop q = refl
-free_source Nowhere q = absurd (true≢false q)
+pub free_source : (s : Option Source) → is_none s ≡ false → free_kind (kind_in s) ≡ true
+free_source (Some (FromBin c)) q = refl
+free_source (Some FromDonor) q = refl
+free_source (Some FromTop) q = refl
+free_source None q = absurd (true≢false q)
 
 -- n bytes can be granted from the source, the chunk e
-pub record CanGrant (ws : List ℕ) (h : Heap) (n : ℕ) (source : Source) (e : Entry) : Type 0 where
+pub record CanGrant (ws : List ℕ) (h : Heap) (n : ℕ) (source : Option Source) (e : Entry) : Type 0 where
   pub member : Mem e (shape ws h.bytes)
   pub place : e.place ≡ place_in h.donor.0 h.top.0 source
   pub kind : kind_of h e ≡ kind_in source
@@ -56,24 +55,22 @@ pub record CanGrant (ws : List ℕ) (h : Heap) (n : ℕ) (source : Source) (e : 
   pub is : grant_from source n (as_read ws h) ≡ grant_at (kind_in source) (spot (is_at e.place) (shape ws h.bytes)) n (as_read ws h)
 
 -- the try finds no source; if it finds one, P holds of it
-abbrev pub Fails : Source → Type 0
-Fails s = nowhere s ≡ true
+abbrev pub Fails : Option Source → Type 0
+Fails s = is_none s ≡ true
 
-abbrev pub Good : (Source → Type 0) → Source → Type 0
-Good P s = nowhere s ≡ false → P s
+abbrev pub Good : (Option Source → Type 0) → Option Source → Type 0
+Good P s = is_none s ≡ false → P s
 
 -- P holds of what the first try finds, and, if it fails, of what the others find
-first_good : (P : Source → Type 0) (s : Source) (ss : List Source) → Good P s → (Fails s → Good P (first_of ss)) → Good P (first_of (s ∷ ss))
-first_good P (FromBin c) ss g others some = g some
-first_good P FromDonor ss g others some = g some
-first_good P FromTop ss g others some = g some
-first_good P Nowhere ss g others some = others refl some
+first_good : (P : Option Source → Type 0) (s : Option Source) (ss : List (Option Source)) → Good P s → (Fails s → Good P (first_of ss)) → Good P (first_of (s ∷ ss))
+first_good P (Some s) ss g others some = g some
+first_good P None ss g others some = others refl some
 
-none_good : (P : Source → Type 0) → Good P (first_of [])
+none_good : (P : Option Source → Type 0) → Good P (first_of [])
 none_good P some = absurd (true≢false some)
 
 -- P holds of the chosen source, if it holds of what each try finds where those before it fail
-pub in_order_good : (P : Source → Type 0) (little : Bool) (own larger donor top : Source)
+pub in_order_good : (P : Option Source → Type 0) (little : Bool) (own larger donor top : Option Source)
     → Good P own
     → (Fails own → (little ≡ true → Fails donor) → Good P larger)
     → (Fails own → (little ≡ false → Fails larger × Fails top) → Good P donor)
@@ -91,13 +88,11 @@ in_order_good P false own larger donor top o l d t =
     (λ ft. first_good P donor [] (d fo (λ q. (fl, ft))) (λ fd. none_good P))))
 
 -- where no source is chosen all four fail
-first_fails : (s : Source) (ss : List Source) → Fails (first_of (s ∷ ss)) → Fails s × Fails (first_of ss)
-first_fails (FromBin c) ss f = absurd (false≢true f)
-first_fails FromDonor ss f = absurd (false≢true f)
-first_fails FromTop ss f = absurd (false≢true f)
-first_fails Nowhere ss f = (refl, f)
+first_fails : (s : Option Source) (ss : List (Option Source)) → Fails (first_of (s ∷ ss)) → Fails s × Fails (first_of ss)
+first_fails (Some s) ss f = absurd (false≢true f)
+first_fails None ss f = (refl, f)
 
-pub in_order_fails : (little : Bool) (own larger donor top : Source) → Fails (first_of (in_order little own larger donor top))
+pub in_order_fails : (little : Bool) (own larger donor top : Option Source) → Fails (first_of (in_order little own larger donor top))
     → Fails own × Fails larger × Fails donor × Fails top
 in_order_fails true own larger donor top f =
     let (o, rest) = first_fails own (donor ∷ larger ∷ top ∷ []) f in
@@ -116,7 +111,7 @@ first_member [] n = absurd (n refl)
 first_member (c ∷ cs) n = Memᴰ.head refl
 
 -- a try that takes the first of a list
-pub from_first_good : (P : Source → Type 0) (cs : List ℕ) → (Mem (head_or 0 cs) cs → P (FromBin (at (head_or 0 cs)))) → Good P (from_bin (head_or 0 cs))
+pub from_first_good : (P : Option Source → Type 0) (cs : List ℕ) → (Mem (head_or 0 cs) cs → P (Some (FromBin (at (head_or 0 cs))))) → Good P (from_bin (head_or 0 cs))
 from_first_good P cs f = go (ℕ_discrete (head_or 0 cs) 0)
   where
     go : Dec (head_or 0 cs ≡ 0) → Good P (from_bin (head_or 0 cs))
@@ -124,11 +119,11 @@ from_first_good P cs f = go (ℕ_discrete (head_or 0 cs) 0)
     go (no n) = rw (ne_eqb (head_or 0 cs) 0 n) (λ some. f (first_member cs n))
 
 -- P holds of the first if it holds of every member
-pub from_bin_good : (P : Source → Type 0) (cs : List ℕ) → ((c : ℕ) → Mem c cs → P (FromBin (at c))) → Good P (from_bin (head_or 0 cs))
+pub from_bin_good : (P : Option Source → Type 0) (cs : List ℕ) → ((c : ℕ) → Mem c cs → P (Some (FromBin (at c)))) → Good P (from_bin (head_or 0 cs))
 from_bin_good P cs f = from_first_good P cs (f (head_or 0 cs))
 
 -- a try that takes s under a test
-pub if_good : (P : Source → Type 0) (s : Source) (t : Bool) → (t ≡ true → P s) → Good P (cond t s Nowhere)
+pub if_good : (P : Option Source → Type 0) (s : Option Source) (t : Bool) → (t ≡ true → P s) → Good P (cond t s None)
 if_good P s true f = λ some. f refl
 if_good P s false f = λ some. absurd (true≢false some)
 
@@ -136,11 +131,11 @@ module _ (ws : List ℕ) (h : Heap) (p : Passes ws h) (n : ℕ) where
   abbrev es : List Entry
   es = shape ws h.bytes
 
-  abbrev Can : Source → Type 0
+  abbrev Can : Option Source → Type 0
   Can s = (e : Entry) × CanGrant ws h n s e
 
   -- the chain is split at the chunk's own place
-  can_at : (s : Source) (e : Entry) → Mem e es → e.place ≡ place_in h.donor.0 h.top.0 s → kind_of h e ≡ kind_in s → Free ws h e → n ≤ e.size
+  can_at : (s : Option Source) (e : Entry) → Mem e es → e.place ≡ place_in h.donor.0 h.top.0 s → kind_of h e ≡ kind_in s → Free ws h e → n ≤ e.size
       → (ordinary_kind (kind_in s) ≡ false → n + 24 ≤ e.size)
       → grant_from s n (as_read ws h) ≡ grant_at (kind_in s) (spot (is_at e.place) es) n (as_read ws h) → Can s
   can_at s e m q k f enough spare is =
@@ -148,17 +143,17 @@ module _ (ws : List ℕ) (h : Heap) (p : Passes ws h) (n : ℕ) where
       (e, record { member = m; place = q; kind = k; free = f; enough = enough; spare = spare; here = t.here; split = t.split; is = is })
 
   -- a member of a bin with at least n bytes
-  from_bin_can : (i c : ℕ) → i < h.bins → Mem c (bin_list ws h i) → ((e : Entry) → Mem e es → e.place ≡ c → bin_of (table_of h) e.size ≡ Bin i → n ≤ e.size)
-      → Can (FromBin (at c))
+  from_bin_can : (i c : ℕ) → i < h.bins → Mem c (bin_list ws h i) → ((e : Entry) → Mem e es → e.place ≡ c → bin_of (table_of h) e.size ≡ Some i → n ≤ e.size)
+      → Can (Some (FromBin (at c)))
   unfolding grant_from as_read
   from_bin_can i c l m large =
       let (e, r) = member_entry ws h p i c l m in
-      can_at (FromBin (at c)) e r.member r.place (ordinary_kind_lem (kind_of h e) r.kind) r.is.free
+      can_at (Some (FromBin (at c))) e r.member r.place (ordinary_kind_lem (kind_of h e) r.kind) r.is.free
       (large e r.member r.place r.takes) (λ q. absurd (true≢false q)) (rw r.place)
 
   -- each of the four tries finds only chunks that can
-  own_good : (b : Binned) → TakenBy (table_of h) n b → Good Can (own_bin es (bin_list ws h) n b)
-  own_good (Bin i) k =
+  own_good : (b : Option ℕ) → TakenBy (table_of h) n b → Good Can (own_bin es (bin_list ws h) n b)
+  own_good (Some i) k =
       from_bin_good Can (keep (λ c. leb n (size_on es c)) (bin_list ws h i))
       (λ c m.
       let (member, fits) = kept_from (λ c. leb n (size_on es c)) (bin_list ws h i) m in
@@ -166,42 +161,42 @@ module _ (ws : List ℕ) (h : Heap) (p : Passes ws h) (n : ℕ) where
     where
       inside : (i : ℕ) → Takes (table_of h) n i → i < h.bins
       inside i k = omega (arith, k.inside, length-take h.bins h.sizes)
-  own_good NoBin k = λ some. absurd (true≢false some)
+  own_good None k = λ some. absurd (true≢false some)
 
   -- the bins above that of n have larger chunks
-  larger_good : (b : Binned) → TakenBy (table_of h) n b → Good Can (larger_bin h (bin_list ws h) b)
-  larger_good (Bin i) k =
+  larger_good : (b : Option ℕ) → TakenBy (table_of h) n b → Good Can (larger_bin h (bin_list ws h) b)
+  larger_good (Some i) k =
       from_bin_good Can (gathered (bin_list ws h) (numbers_from (suc i) (h.bins - suc i)))
       (λ c m.
       let (j, (above, inside), member) = gathered_from (bin_list ws h) (h.bins - suc i) (suc i) m in
       from_bin_can j c (omega arith) member
-      (λ e me q t. let u = sizes_grow (table_of h) k (subst (λ (r : Binned). TakenBy (table_of h) e.size r) t (bin_taken (table_of h) e.size)) (omega arith) in omega arith))
-  larger_good NoBin k = λ some. absurd (true≢false some)
+      (λ e me q t. let u = sizes_grow (table_of h) k (subst (λ (r : Option ℕ). TakenBy (table_of h) e.size r) t (bin_taken (table_of h) e.size)) (omega arith) in omega arith))
+  larger_good None k = λ some. absurd (true≢false some)
 
   donor_good : Good Can (try_donor h es n)
   unfolding grant_from as_read
   donor_good =
-      if_good Can FromDonor (not (eqb h.donor.0 0) && leb (n + 24) (size_on es h.donor.0))
+      if_good Can (Some FromDonor) (not (eqb h.donor.0 0) && leb (n + 24) (size_on es h.donor.0))
       (λ t.
       let (some, enough) = (both (denied (number_is h.donor.0 0)) (at_most (n + 24) (size_on es h.donor.0))).0 t in
       let d = donor_here ws h p (omega arith) in
-      can_at FromDonor (spot (is_at h.donor.0) es).here d.member d.place d.kind d.free (omega arith) (λ q. enough) (rw d.place))
+      can_at (Some FromDonor) (spot (is_at h.donor.0) es).here d.member d.place d.kind d.free (omega arith) (λ q. enough) (rw d.place))
 
   top_good : Good Can (try_top h es n)
   unfolding grant_from as_read
   top_good =
-      if_good Can FromTop (leb (n + 24) (size_on es h.top.0))
+      if_good Can (Some FromTop) (leb (n + 24) (size_on es h.top.0))
       (λ t.
       let f = leb-true (n + 24) (size_on es h.top.0) t in
       let d = top_here ws h p in
-      can_at FromTop (spot (is_at h.top.0) es).here d.member d.place d.kind d.free (omega arith) (λ q. f) (rw d.place))
+      can_at (Some FromTop) (spot (is_at h.top.0) es).here d.member d.place d.kind d.free (omega arith) (λ q. f) (rw d.place))
 
   -- the chosen source can grant
-  pub source_can : nowhere (source_of n (as_read ws h)) ≡ false → (e : Entry) × CanGrant ws h n (source_of n (as_read ws h)) e
+  pub source_can : is_none (source_of n (as_read ws h)) ≡ false → (e : Entry) × CanGrant ws h n (source_of n (as_read ws h)) e
   unfolding as_read chosen
   source_can =
       let t = bin_taken (table_of h) n in
-      let own : Binned = bin_of (table_of h) n in
+      let own : Option ℕ = bin_of (table_of h) n in
       in_order_good Can (small (table_of h) n) (own_bin es (bin_list ws h) n own) (larger_bin h (bin_list ws h) own) (try_donor h es n) (try_top h es n)
       (own_good own t) (λ o d. larger_good own t) (λ o l. donor_good) (λ o l d. top_good)
 
@@ -210,9 +205,9 @@ pub record Grantable (ws : List ℕ) (h : Heap) (n : ℕ) : Type 0 where
   pub well : Passes ws h
   pub large : 24 ≤ n
   pub eight : n % 8 ≡ 0
-  pub some : nowhere (source_of n (as_read ws h)) ≡ false
+  pub some : is_none (source_of n (as_read ws h)) ≡ false
 
 -- the need of z bytes is so
-pub need_grantable : {ws : List ℕ} {h : Heap} (z : ℕ) → Passes ws h → nowhere (source_of (need overhead z) (as_read ws h)) ≡ false
+pub need_grantable : {ws : List ℕ} {h : Heap} (z : ℕ) → Passes ws h → is_none (source_of (need overhead z) (as_read ws h)) ≡ false
     → Grantable ws h (need overhead z)
 need_grantable z p some = record { well = p; large = need_large z; eight = need_eight z; some = some }

@@ -17,8 +17,7 @@ use Rattle.lists.proofs.SplitLaws.{before_from, after_from}
 use Rattle.record.specs.declared.heap.Heap.{Heap}
 use Rattle.record.specs.declared.kinds.Kind.{Kind}
 use Rattle.record.specs.declared.kinds.Kind.TheVariants.{Start, InUse, Ordinary, Donor, Top, End}
-use Rattle.record.specs.declared.table.Binned.{Binned}
-use Rattle.record.specs.declared.table.Binned.TheVariants.{Bin, NoBin}
+use Rattle.std.specs.Prelude.{Option, Some, None}
 use Rattle.record.specs.Heap.{table_of}
 use Rattle.record.specs.Table.{bin_of}
 use Rattle.region.specs.Words.{Store, forward, backward, size, next_in_bin, previous_in_bin, bin}
@@ -123,9 +122,9 @@ module _ (P : ℕ → Type 0) where
       go j c (inr k) = s.members j c k.1
 
   -- for a step on the bin of a size it is enough to know it for every bin
-  on_bin_spared : (step : ℕ → Draft → Draft) (d : Draft) → Spared d → ((i : ℕ) → Spared (step i d)) → (b : Binned) → Spared (on_bin step b d)
-  on_bin_spared step d s f (Bin i) = f i
-  on_bin_spared step d s f NoBin = s
+  on_bin_spared : (step : ℕ → Draft → Draft) (d : Draft) → Spared d → ((i : ℕ) → Spared (step i d)) → (b : Option ℕ) → Spared (on_bin step b d)
+  on_bin_spared step d s f (Some i) = f i
+  on_bin_spared step d s f None = s
 
   -- a chunk leaves its bin
   pub leave_spared : (e : Entry) (d : Draft) → Spared d → Spared (leave_bin e d)
@@ -145,14 +144,14 @@ module _ (P : ℕ → Type 0) where
   unfolding leave_bin leave
   left_spared e d f members = record { stores = go (bin_of (table_of d.heap) e.size) members; members = members }
     where
-      go : (b : Binned) → ((i : ℕ) → MemberLinks ((on_bin (λ i. leave i e.place) b d).lists i)) → Fall P (on_bin (λ i. leave i e.place) b d).stores
-      go (Bin i) g =
+      go : (b : Option ℕ) → ((i : ℕ) → MemberLinks ((on_bin (λ i. leave i e.place) b d).lists i)) → Fall P (on_bin (λ i. leave i e.place) b d).stores
+      go (Some i) g =
           let xs : List ℕ = up_to (eqb e.place) (d.lists i) in
           let ys : List ℕ = past (eqb e.place) (d.lists i) in
           let all : MemberLinks (xs ++ ys) = rw (eq-eqb i i refl) at (g i) in
           fall_both P d.stores (meet xs ys) f
           (meet_falls xs ys (λ c m. all c (Memᴰ.append_left ys m)) (λ c m. all c (Memᴰ.append_right xs m)))
-      go NoBin g = f
+      go None g = f
 
   -- chunks are linked in: P holds of their header words and of the backward link of the chunk above them
   headers_fall : (p : ℕ) (es : List Entry) → ((e : Entry) → Mem e es → HeaderWords e) → Fall P (headers p es)

@@ -13,9 +13,8 @@ use Rattle.record.specs.declared.heap.Summary.{Summary}
 use Rattle.record.specs.declared.kinds.Kind.{Kind}
 use Rattle.record.specs.declared.kinds.Kind.TheVariants.{Start, InUse, Ordinary, Donor, Top, End}
 use Rattle.record.specs.declared.sources.Source.{Source}
-use Rattle.record.specs.declared.sources.Source.TheVariants.{FromBin, FromDonor, FromTop, Nowhere}
-use Rattle.record.specs.declared.table.Binned.{Binned}
-use Rattle.record.specs.declared.table.Binned.TheVariants.{Bin, NoBin}
+use Rattle.record.specs.declared.sources.Source.TheVariants.{FromBin, FromDonor, FromTop}
+use Rattle.std.specs.Prelude.{Option, Some, None}
 use Rattle.record.specs.Heap.{table_of, summary_of, donor_now, top_now}
 use Rattle.record.specs.Table.{bin_of}
 use Rattle.rules.specs.Shape.{Entry}
@@ -38,9 +37,9 @@ unmoved_on : {d e f : Draft} → Unmoved d e → Unmoved e f → Unmoved d f
 unmoved_on a b = record { chain = b.chain ∙ a.chain; summary = b.summary ∙ a.summary; sizes = b.sizes ∙ a.sizes }
 
 -- for a step on the bin of a size it is enough to know it for every bin
-on_bin_unmoved : (step : ℕ → Draft → Draft) (d : Draft) → ((i : ℕ) → Unmoved d (step i d)) → (b : Binned) → Unmoved d (on_bin step b d)
-on_bin_unmoved step d f (Bin i) = f i
-on_bin_unmoved step d f NoBin = unmoved d
+on_bin_unmoved : (step : ℕ → Draft → Draft) (d : Draft) → ((i : ℕ) → Unmoved d (step i d)) → (b : Option ℕ) → Unmoved d (on_bin step b d)
+on_bin_unmoved step d f (Some i) = f i
+on_bin_unmoved step d f None = unmoved d
 
 leave_bin_unmoved : (e : Entry) (d : Draft) → Unmoved d (leave_bin e d)
 unfolding leave_bin leave
@@ -201,13 +200,13 @@ module _ (k : Kind) (s : Spot) (n : ℕ) (d : Draft) where
       let parts = cut s.here 0 n in
       ap (rest_uses 0 parts.granted.size) (cut_settled (eqb parts.above.size 0) parts.above)
 
-pub granted_rest : (s : Source) (n : ℕ) (d : Draft)
+pub granted_rest : (s : Option Source) (n : ℕ) (d : Draft)
     → rest_of (grant_from s n d).draft.heap ≡ rest_uses 0 (grant_from s n d).granted.size (rest_of d.heap)
 unfolding grant_from
-granted_rest (FromBin c) n d = granted_at_rest Ordinary _ n d
-granted_rest FromDonor n d = granted_at_rest Donor _ n d
-granted_rest FromTop n d = granted_at_rest Top _ n d
-granted_rest Nowhere n d = rw (add-zero d.heap.used, sub-zero d.heap.used)
+granted_rest (Some (FromBin c)) n d = granted_at_rest Ordinary _ n d
+granted_rest (Some FromDonor) n d = granted_at_rest Donor _ n d
+granted_rest (Some FromTop) n d = granted_at_rest Top _ n d
+granted_rest None n d = rw (add-zero d.heap.used, sub-zero d.heap.used)
 
-pub granted_used : (s : Source) (n : ℕ) (d : Draft) → (grant_from s n d).draft.heap.used ≡ d.heap.used + (grant_from s n d).granted.size
+pub granted_used : (s : Option Source) (n : ℕ) (d : Draft) → (grant_from s n d).draft.heap.used ≡ d.heap.used + (grant_from s n d).granted.size
 granted_used s n d = ap (λ (r : Rest). r.used) (granted_rest s n d) ∙ sub-zero (d.heap.used + (grant_from s n d).granted.size)

@@ -7,9 +7,8 @@ use Rattle.bins.proofs.SearchLaws.{first_fit_is, next_occupied_is}
 use Rattle.lists.specs.Lists.{Mem, head_or}
 use Rattle.lists.proofs.MembersLaws.{kept_same}
 use Rattle.record.specs.declared.heap.Heap.{Heap}
-use Rattle.record.specs.declared.sources.Source.TheVariants.{FromDonor, FromTop, Nowhere}
-use Rattle.record.specs.declared.table.Binned.{Binned}
-use Rattle.record.specs.declared.table.Binned.TheVariants.{Bin, NoBin}
+use Rattle.record.specs.declared.sources.Source.TheVariants.{FromDonor, FromTop}
+use Rattle.std.specs.Prelude.{Option, Some, None}
 use Rattle.record.specs.Heap.{table_of, summary_of}
 use Rattle.record.specs.Table.{TakenBy, bin_of}
 use Rattle.record.proofs.TableLaws.{bin_taken}
@@ -42,33 +41,33 @@ module _ (ws : List ℕ) (h : Heap) (p : Passes ws h) (n : ℕ) where
   donor_size l = let t = donor_here ws h p l in rw t.place at t.free.sized
 
   -- each of the four tries is the rule's
-  own_is : (b : Binned) → TakenBy (table_of h) n b → from_bin (own_m ws h.heads n b) ≡ own_bin es (bin_list ws h) n b
+  own_is : (b : Option ℕ) → TakenBy (table_of h) n b → from_bin (own_m ws h.heads n b) ≡ own_bin es (bin_list ws h) n b
   unfolding own_m
-  own_is (Bin i) k =
+  own_is (Some i) k =
       let l : i < h.bins = rw (table_bins h p.table) at k.inside in
       ap from_bin
       (ap (first_fit_m steps ws n) (list_head ws h p i)
       ∙ first_fit_is ws n (bin_list ws h i) (leads_is ws h p i l) (list_short ws h p i)
       ∙ ap (head_or 0) (kept_same _ _ (bin_list ws h i) (λ c m. ap (leb n) (member_size i c l m))))
-  own_is NoBin k = refl
+  own_is None k = refl
 
-  larger_is : (b : Binned) → TakenBy (table_of h) n b → from_bin (larger_m h.heads (length (table_of h)) b) ≡ larger_bin h (bin_list ws h) b
+  larger_is : (b : Option ℕ) → TakenBy (table_of h) n b → from_bin (larger_m h.heads (length (table_of h)) b) ≡ larger_bin h (bin_list ws h) b
   unfolding larger_m
-  larger_is (Bin i) k =
+  larger_is (Some i) k =
       ap from_bin
       (ap (next_occupied_m h.heads i) (table_bins h p.table)
       ∙ next_occupied_is h.heads (bin_list ws h) h.bins (λ j l. list_head ws h p j) (λ j l c m. (list_nodes ws h p j l c m).some) i)
-  larger_is NoBin k = refl
+  larger_is None k = refl
 
-  donor_is_lem : cond (donor_m ws h.donor.0 n) FromDonor Nowhere ≡ try_donor h es n
+  donor_is_lem : cond (donor_m ws h.donor.0 n) (Some FromDonor) None ≡ try_donor h es n
   unfolding donor_m
   donor_is_lem = go (ℕ_discrete h.donor.0 0)
     where
-      go : Dec (h.donor.0 ≡ 0) → cond (donor_m ws h.donor.0 n) FromDonor Nowhere ≡ try_donor h es n
+      go : Dec (h.donor.0 ≡ 0) → cond (donor_m ws h.donor.0 n) (Some FromDonor) None ≡ try_donor h es n
       go (yes e) = rw (eq-eqb h.donor.0 0 e)
       go (no k) = rw (donor_size (omega arith))
 
-  top_is_lem : cond (top_m ws h.top.0 n) FromTop Nowhere ≡ try_top h es n
+  top_is_lem : cond (top_m ws h.top.0 n) (Some FromTop) None ≡ try_top h es n
   unfolding top_m
   top_is_lem = rw top_size
 

@@ -1,6 +1,6 @@
 -- What a request for room leaves behind, as the code makes it: these definitions mirror the code; the callers set the record.
 -- That on a heap that passes it is what the rules say is proved (`ServeMeaning`).
-use Rattle.std.specs.Prelude.{ℕ, ◌+◌, ◌-◌, ◌%◌, ◌^◌, List}
+use Rattle.std.specs.Prelude.{ℕ, ◌+◌, ◌-◌, ◌%◌, ◌^◌, List, Option, Some, None}
 use Rattle.books.specs.Books.{Books, books}
 use Rattle.drafts.specs.Sources.{kind_in, place_in}
 use Rattle.grant.specs.declared.cut.Cut.{Cut}
@@ -23,7 +23,7 @@ pub record Served : Type 0 where
 abbrev pub served : Books → Portion → Served
 served b g = record { books = b; grant = g }
 
-abbrev pub order : Source → ℕ → Order
+abbrev pub order : Option Source → ℕ → Order
 order source n = record { source = source; need = n }
 
 -- the summary once m bytes of a chunk of this kind are granted, and the rest of it starts at c
@@ -57,5 +57,5 @@ after_grant h s =
       size = g.size;
     }
 
-unfoldable pub served_m : List ℕ → List ℕ → Heap → Source → ℕ → AfterGrant
+unfoldable pub served_m : List ℕ → List ℕ → Heap → Option Source → ℕ → AfterGrant
 served_m ws table h source n = after_grant h (serve_m (books ws h.heads h.tails) table (summary_of h) (order source n))

@@ -3,7 +3,8 @@
 use mathlib.Core.Path.{◌≡◌, refl, sym, ap, ◌∙◌}
 use mathlib.Core.Bool.{Bool, true, false, cond, false≢true}
 use mathlib.Core.List.{List}
-use mathlib.Core.Option.{Option, some, none, some-injective, none-ne-some}
+use Rattle.std.specs.Prelude.{Option, Some, None}
+use Rattle.std.proofs.lemmas.Option.{same_Some, none-some}
 use Prim.Native.Nat.{ℕ, zero, suc, ◌-◌, ◌%◌, ◌≤◌}
 use native.Mathlib.Omega.{arith}
 use Rattle.record.specs.Heap.{at}
@@ -30,33 +31,33 @@ ends_in true c = Ended
 ends_in false c = Paused (at c)
 
 abbrev pub verdict_of : Option Patrolled → Verdict
-verdict_of none = Lost
-verdict_of (some r) = ends_in r.ended r.place
+verdict_of None = Lost
+verdict_of (Some r) = ends_in r.ended r.place
 
 abbrev pub walked_by : List ℕ → Option Patrolled → Walked
-walked_by ws none = walked Lost ws
-walked_by ws (some r) = walked (ends_in r.ended r.place) (written ws r.stores)
+walked_by ws None = walked Lost ws
+walked_by ws (Some r) = walked (ends_in r.ended r.place) (written ws r.stores)
 
 -- stores that come first do not change the verdict
 after_verdict : (ws : List ℕ) (c v : ℕ) (o : Option Patrolled) → verdict_of (goes_on (mends ws c v) o) ≡ verdict_of o
-after_verdict ws c v none = refl
-after_verdict ws c v (some r) = refl
+after_verdict ws c v None = refl
+after_verdict ws c v (Some r) = refl
 
 -- a run that handled the end chunk goes on at the start
-pub ended_start : (k : ℕ) (ws : List ℕ) (end c : ℕ) (r : Patrolled) → patrol_from k ws end c ≡ some r → r.ended ≡ true → r.place ≡ 0
-ended_start zero ws end c r h e = absurd (false≢true (ap (λ (x : Patrolled). x.ended) (some-injective _ _ h) ∙ e))
+pub ended_start : (k : ℕ) (ws : List ℕ) (end c : ℕ) (r : Patrolled) → patrol_from k ws end c ≡ Some r → r.ended ≡ true → r.place ≡ 0
+ended_start zero ws end c r h e = absurd (false≢true (ap (λ (x : Patrolled). x.ended) (same_Some _ _ h) ∙ e))
 ended_start (suc k) ws end c r h e = go (handling ws end c) (λ v. ended_start k (handled ws c v) end v)
   where
     go : Handling ws end c
-        → ((v : ℕ) (t : Patrolled) → patrol_from k (handled ws c v) end v ≡ some t → t.ended ≡ true → t.place ≡ 0) → r.place ≡ 0
-    go (ends q) f = ap (λ (x : Patrolled). x.place) (sym (some-injective _ _ (sym (run_ends ws end c k q) ∙ h)))
-    go (lost n q) f = absurd (none-ne-some r (sym (run_lost ws end c k n q) ∙ h))
+        → ((v : ℕ) (t : Patrolled) → patrol_from k (handled ws c v) end v ≡ Some t → t.ended ≡ true → t.place ≡ 0) → r.place ≡ 0
+    go (ends q) f = ap (λ (x : Patrolled). x.place) (sym (same_Some _ _ (sym (run_ends ws end c k q) ∙ h)))
+    go (lost n q) f = absurd (none-some r (sym (run_lost ws end c k n q) ∙ h))
     go (on n v q) f = rest (patrol_from k (handled ws c v) end v) refl (sym (run_on ws end c k n v q) ∙ h)
       where
-        rest : (o : Option Patrolled) → patrol_from k (handled ws c v) end v ≡ o → goes_on (mends ws c v) o ≡ some r → r.place ≡ 0
-        rest none p z = absurd (none-ne-some r z)
-        rest (some t) p z =
-            let same = some-injective _ _ z in
+        rest : (o : Option Patrolled) → patrol_from k (handled ws c v) end v ≡ o → goes_on (mends ws c v) o ≡ Some r → r.place ≡ 0
+        rest None p z = absurd (none-some r z)
+        rest (Some t) p z =
+            let same = same_Some _ _ z in
             sym (ap (λ (x : Patrolled). x.place) same) ∙ f v t p (ap (λ (x : Patrolled). x.ended) same ∙ e)
 
 -- the walk that only reads leaves the words, and decides by the plan
@@ -75,19 +76,19 @@ walk_decides (suc k) ws end c = go (handling ws end c) (λ v. walk_decides k ws 
         ∙ ap (λ (x : Verdict). walked x ws) (sym (ap verdict_of (plan_on ws end c k n v q) ∙ after_verdict ws c v (plan k ws end v)))
 
 -- the walk that writes does what the rule does, where nothing is beyond mending
-pub walk_writes : (k : ℕ) (ws : List ℕ) (end c : ℕ) → end % 8 ≡ 0 → c % 8 ≡ 0 → c ≤ end → (r : Patrolled) → patrol_from k ws end c ≡ some r
-    → walk_m true k ws end c ≡ walked_by ws (some r)
+pub walk_writes : (k : ℕ) (ws : List ℕ) (end c : ℕ) → end % 8 ≡ 0 → c % 8 ≡ 0 → c ≤ end → (r : Patrolled) → patrol_from k ws end c ≡ Some r
+    → walk_m true k ws end c ≡ walked_by ws (Some r)
 unfolding walk_m onward_m
 walk_writes zero ws end c last e l r h = ap (walked_by ws) h
 walk_writes (suc k) ws end c last e l r h =
     go (handling ws end c) (λ v n. walk_writes k (handled ws c v) end v last n.eights n.inside)
   where
     go : Handling ws end c
-        → ((v : ℕ) → NextPlace end c v → (t : Patrolled) → patrol_from k (handled ws c v) end v ≡ some t
-        → walk_m true k (handled ws c v) end v ≡ walked_by (handled ws c v) (some t))
-        → walk_m true (suc k) ws end c ≡ walked_by ws (some r)
+        → ((v : ℕ) → NextPlace end c v → (t : Patrolled) → patrol_from k (handled ws c v) end v ≡ Some t
+        → walk_m true k (handled ws c v) end v ≡ walked_by (handled ws c v) (Some t))
+        → walk_m true (suc k) ws end c ≡ walked_by ws (Some r)
     go (ends q) f = walk_ends true ws end c k q ∙ ap (walked_by ws) (sym (run_ends ws end c k q) ∙ h)
-    go (lost n q) f = absurd (none-ne-some r (sym (run_lost ws end c k n q) ∙ h))
+    go (lost n q) f = absurd (none-some r (sym (run_lost ws end c k n q) ∙ h))
     go (on n v q) f =
         walk_on true ws end c k n
         ∙ ap (onward_m true k ws end c) q
@@ -97,10 +98,10 @@ walk_writes (suc k) ws end c last e l r h =
         place : NextPlace end c v
         place = next_place ws end c last v q
 
-        rest : (o : Option Patrolled) → patrol_from k (handled ws c v) end v ≡ o → goes_on (mends ws c v) o ≡ some r
-            → walk_m true k (handled ws c v) end v ≡ walked_by ws (some r)
-        rest none p z = absurd (none-ne-some r z)
-        rest (some t) p z =
+        rest : (o : Option Patrolled) → patrol_from k (handled ws c v) end v ≡ o → goes_on (mends ws c v) o ≡ Some r
+            → walk_m true k (handled ws c v) end v ≡ walked_by ws (Some r)
+        rest None p z = absurd (none-some r z)
+        rest (Some t) p z =
             f v place t p
             ∙ ap (walked (ends_in t.ended t.place)) (sym (written_append (mends ws c v) t.stores ws))
             ∙ ap (walked_by ws) z
@@ -152,9 +153,9 @@ module _ (chunks : ℕ) (ws : List ℕ) (end c : ℕ) (last : end % 8 ≡ 0) (ei
       go : (s : Skimmed) → s.chunk.0 % 8 ≡ 0 → s.chunk.0 ≤ end → (o : Option Patrolled) → patrol_from s.left ws end s.chunk.0 ≡ o
           → cond (is_lost_m (walk_m false s.left ws end s.chunk.0).verdict) (walked Lost ws) (walk_m true s.left ws end s.chunk.0)
           ≡ walked_by ws (patrol_from s.left ws end s.chunk.0)
-      go s e l none h = rw (decided s e l none h, h)
-      go s e l (some r) h =
-          rw (decided s e l (some r) h, not_lost r.ended r.place) (walk_writes s.left ws end s.chunk.0 last e l r h ∙ ap (walked_by ws) (sym h))
+      go s e l None h = rw (decided s e l None h, h)
+      go s e l (Some r) h =
+          rw (decided s e l (Some r) h, not_lost r.ended r.place) (walk_writes s.left ws end s.chunk.0 last e l r h ∙ ap (walked_by ws) (sym h))
         where
           not_lost : (b : Bool) (p : ℕ) → is_lost_m (ends_in b p) ≡ false
           not_lost true p = refl

@@ -3,7 +3,7 @@
 use mathlib.Core.Path.{◌≡◌, refl, sym, ap, subst, ◌∙◌}
 use mathlib.Core.Bool.{Bool, true, false, not, ◌&&◌}
 use mathlib.Core.List.{List, [], ◌∷◌}
-use mathlib.Core.Option.{Option, some, none}
+use Rattle.std.specs.Prelude.{Option, Some, None}
 use Prim.Native.Nat.{ℕ, ◌+◌, ◌*◌, ◌-◌, ◌/◌, ◌%◌, ◌≤◌}
 use native.Mathlib.Omega.{arith}
 use lib.Dec.{eqb, leb}
@@ -35,8 +35,8 @@ fits_same ws h = same_test (fits_iff ws h) (length_iff ws h) (λ f. f) (λ f. f)
 
 -- of an accepted run: the answer and the place, by the verdict
 abbrev pub toured_in : Verdict → ℕ → Toured
-toured_in (Paused next) place = record { answer = Told 0; place = next }
-toured_in Ended place = record { answer = Told 1; place = at 0 }
+toured_in (Paused next) place = record { answer = Told (Some 0); place = next }
+toured_in Ended place = record { answer = Told (Some 1); place = at 0 }
 toured_in Lost place = refused_tour BeyondMending place
 
 -- the code of `tour`
@@ -83,17 +83,17 @@ module _ (ws : List ℕ) (bytes place chunks : ℕ) where
           (go (patrol_from chunks ws (bytes - 8) place) refl (ev ∙ run_is chunks ws (bytes - 8) place (omega arith) eights (omega arith)))
         where
           paused : (b : Bool) (c : ℕ) (ss : List Store) → (b ≡ true → c ≡ 0) → v ≡ ends_in b c → after ≡ written ws ss
-              → leaving h (toured_in v place) after ≡ left_by ws (ran h (some (patrolled c b ss)))
+              → leaving h (toured_in v place) after ≡ left_by ws (ran h (Some (patrolled c b ss)))
           paused true c ss z q r = rw (q, r, z refl)
           paused false c ss z q r = rw (q, r)
 
           go : (o : Option Patrolled) → patrol_from chunks ws (bytes - 8) place ≡ o → walked v after ≡ walked_by ws o
               → leaving h (toured_in v place) after ≡ left_by ws (judged h ((is_lost o, BeyondMending) ∷ []) (ran h o))
-          go none e q =
+          go None e q =
               let verdict : v ≡ Lost = ap (λ (x : Walked). x.verdict) q in
               let words : after ≡ ws = ap (λ (x : Walked). x.words) q in
               rw (verdict, words, ← ep)
-          go (some r) e q =
+          go (Some r) e q =
               paused r.ended r.place r.stores (ended_start chunks ws (bytes - 8) place r e) (ap (λ (x : Walked). x.verdict) q)
               (ap (λ (x : Walked). x.words) q)
 

@@ -2,7 +2,7 @@
 use mathlib.Core.Path.{◌≡◌, refl, sym, ◌∙◌, ap}
 use mathlib.Core.Bool.{Bool, true, false, cond}
 use mathlib.Core.List.{List}
-use mathlib.Core.Option.{Option, some, none}
+use Rattle.std.specs.Prelude.{Option, Some, None}
 use Prim.Native.Nat.{ℕ, suc, ◌+◌, ◌-◌, ◌<◌, ◌≤◌}
 use native.Mathlib.Omega.{arith}
 use lib.Dec.{eqb, ltb}
@@ -39,9 +39,9 @@ walk_step : (w : Bool) (ws : List ℕ) (end c k : ℕ)
 unfolding walk_m onward_m
 walk_step w ws end c k = ap (cond (eqb c end) (walked Ended ws)) (go (next_of ws end c))
   where
-    go : (o : Option ℕ) → elim o [ none ↦ walked Lost ws | some v ↦ walk_m w k (handle_m w ws c v) end v ] ≡ onward_m w k ws end c o
-    go none = refl
-    go (some v) = refl
+    go : (o : Option ℕ) → elim o [ None ↦ walked Lost ws | Some v ↦ walk_m w k (handle_m w ws c v) end v ] ≡ onward_m w k ws end c o
+    go None = refl
+    go (Some v) = refl
 
 pub walk_on : (w : Bool) (ws : List ℕ) (end c k : ℕ) → (c ≡ end → ⊥) → walk_m w (suc k) ws end c ≡ onward_m w k ws end c (next_of ws end c)
 walk_on w ws end c k on = walk_step w ws end c k ∙ rw (ne_eqb c end on)
@@ -82,7 +82,7 @@ module _ {w : Bool} {ws₀ : List ℕ} {end from count : ℕ} {ws : List ℕ} {c
             long = el ∙ o.long;
             same =
                 ap (λ (us : List ℕ). walk_m w (left - 1) us end v) ew
-                ∙ ap (λ (x : ℕ). onward_m w (left - 1) ws end c (some x)) ev
+                ∙ ap (λ (x : ℕ). onward_m w (left - 1) ws end c (Some x)) ev
                 ∙ ap (onward_m w (left - 1) ws end c) (sym (next_believed ws end c (is_so h))) ∙ of_walk;
           }
 

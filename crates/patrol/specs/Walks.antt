@@ -1,7 +1,6 @@
 -- The two walks of a run as the code makes them, and the run. That the run is the rule's, on a region of the right length, is proved
 -- (`run_is`).
-use Rattle.std.specs.Prelude.{Bool, true, false, cond, List, ℕ, zero, suc, eqb}
-use Rattle.std.proofs.Math.Option.{Option, some, none}
+use Rattle.std.specs.Prelude.{Bool, true, false, cond, List, ℕ, zero, suc, eqb, Option, Some, None}
 use Rattle.record.specs.Heap.{at}
 use Rattle.rules.specs.Patrol.{next_of}
 use Rattle.patrol.specs.declared.skim.Skimmed.{Skimmed}
@@ -23,12 +22,12 @@ unfoldable pub walk_m : Bool → ℕ → List ℕ → ℕ → ℕ → Walked
 walk_m writes zero ws end c = walked (Paused (at c)) ws
 walk_m writes (suc k) ws end c =
     cond (eqb c end) (walked Ended ws)
-    (elim (next_of ws end c) [ none ↦ walked Lost ws | some v ↦ walk_m writes k (handle_m writes ws c v) end v ])
+    (elim (next_of ws end c) [ None ↦ walked Lost ws | Some v ↦ walk_m writes k (handle_m writes ws c v) end v ])
 
 -- the chunk at c is handled, if the one above it was found, and k remain
 unfoldable pub onward_m : Bool → ℕ → List ℕ → ℕ → ℕ → Option ℕ → Walked
-onward_m writes k ws end c none = walked Lost ws
-onward_m writes k ws end c (some v) = walk_m writes k (handle_m writes ws c v) end v
+onward_m writes k ws end c None = walked Lost ws
+onward_m writes k ws end c (Some v) = walk_m writes k (handle_m writes ws c v) end v
 
 abbrev pub is_lost_m : Verdict → Bool
 is_lost_m (Paused c) = false

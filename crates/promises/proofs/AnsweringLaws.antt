@@ -2,7 +2,7 @@
 use mathlib.Core.Path.{◌≡◌, refl, ap}
 use mathlib.Core.Bool.{Bool, true, false, cond}
 use mathlib.Core.List.{List, [], ◌∷◌}
-use mathlib.Core.Option.{Option, some, none}
+use Rattle.std.specs.Prelude.{Option, Some, None}
 use Prim.Native.Nat.{ℕ, ◌*◌, ◌-◌, ◌≤◌}
 use native.Mathlib.Omega.{arith}
 use lib.Dec.{eqb, ltb}
@@ -22,7 +22,7 @@ use Rattle.rules.specs.Allocate.{as_found, cleared, allocate_with, allocate, all
 use Rattle.rules.specs.Free.{free, free_refusals, freed}
 use Rattle.rules.specs.Reallocate.{resize, reallocate, resize_refusals, resized_to}
 use Rattle.rules.specs.Merge.{set_merge, checked, check}
-use Rattle.rules.specs.Ask.{told, ask_chunk, ask_bin, chunk_answers, asked_spot, is_there, bin_answers, ask_refusals, asked}
+use Rattle.rules.specs.Ask.{ask_chunk, ask_bin, chunk_answers, asked_spot, is_there, bin_answers, ask_refusals, asked}
 use Rattle.rules.specs.Patrol.{Patrolled, patrol_run, patrol_refusals, ran, patrol}
 use Rattle.rules.specs.Calls.{Call, Setup, Allocate, AllocateCleared, Free, Reallocate, SetMerge, Check, AskChunk, AskBin, Patrol, step}
 use Rattle.rules.proofs.OutcomeLaws.{judged_so}
@@ -42,20 +42,15 @@ judged_answers P h o ts q = judged_so (λ x. IfAccepted P x.answer) h o ts (λ r
 abbrev HasForm : Form → Answer → Type 0
 HasForm f a = form_of a ≡ f
 
--- a value or none
-told_form : (v : Option ℕ) → HasForm AValue (told v)
-told_form none = refl
-told_form (some v) = refl
-
 -- the patrol's value
 abbrev ZeroOrOne : Answer → Type 0
-ZeroOrOne a = (v : ℕ) × (a ≡ Told v) × (v ≤ 1)
+ZeroOrOne a = (v : ℕ) × (a ≡ Told (Some v)) × (v ≤ 1)
 
 ran_handled : (h : Heap) (o : Option Patrolled) → ZeroOrOne (ran h o).answer
-ran_handled h none = (0, refl, omega arith)
-ran_handled h (some r) = go r.ended
+ran_handled h None = (0, refl, omega arith)
+ran_handled h (Some r) = go r.ended
   where
-    go : (t : Bool) → ZeroOrOne (Told (cond t 1 0))
+    go : (t : Bool) → ZeroOrOne (Told (Some (cond t 1 0)))
     go true = (1, refl, omega arith)
     go false = (0, refl, omega arith)
 
@@ -96,7 +91,7 @@ check_form ws h = go (passes ws h)
 question_form : (ws : List ℕ) (h : Heap) (q : ℕ) (answers : List (Option ℕ)) (there : Bool)
     → IfAccepted (HasForm AValue) (judged h (ask_refusals (heap_fails ws h) q answers there) (asked h q answers)).answer
 question_form ws h q answers there =
-    judged_answers (HasForm AValue) h (asked h q answers) (ask_refusals (heap_fails ws h) q answers there) (told_form (get_or answers (q - 1) none))
+    judged_answers (HasForm AValue) h (asked h q answers) (ask_refusals (heap_fails ws h) q answers there) refl
 
 forms : (call : Call) (ws : List ℕ) (h : Heap) → IfAccepted (HasForm (form_for call)) (step call ws h).answer
 unfolding step setup allocate_cleared free set_merge check ask_chunk ask_bin

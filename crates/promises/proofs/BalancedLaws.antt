@@ -3,13 +3,13 @@
 use mathlib.Core.Path.{◌≡◌, refl, sym, ap, ◌∙◌}
 use mathlib.Core.Bool.{Bool, true, false, cond, true≢false}
 use mathlib.Core.List.{List, [], ◌∷◌, ◌++◌}
-use mathlib.Core.Option.{Option, some, none}
+use Rattle.std.specs.Prelude.{Option, Some, None}
 use Prim.Native.Nat.{ℕ, ◌+◌, ◌-◌, ◌≤◌}
 use native.Mathlib.Omega.{arith}
 use lib.Dec.{ltb}
 use lib.IntN.{ℤ, pos, neg_ℤ, ◌+ℤ◌, ◌-ℤ◌, +ℤ_assoc, +ℤ_comm, +ℤ-neg_ℤ_cancel, pos-+ℤ-pos}
 use lib.ListN.{get_or}
-use Rattle.record.specs.declared.answers.Answer.TheVariants.{Done, Counted, Refused}
+use Rattle.record.specs.declared.answers.Answer.TheVariants.{Done, Told, Counted, Refused}
 use Rattle.record.specs.declared.answers.Refusal.TheVariants.{HeapFails}
 use Rattle.record.specs.declared.heap.Heap.{Heap}
 use Rattle.record.specs.Answers.{figures_of}
@@ -25,7 +25,7 @@ use Rattle.rules.specs.Allocate.{source_of, grant}
 use Rattle.rules.specs.Free.{is_live, block_spot, free_block}
 use Rattle.rules.specs.Reallocate.{shrunk}
 use Rattle.rules.specs.Merge.{set_merge, checked, check}
-use Rattle.rules.specs.Ask.{told, ask_chunk, ask_bin, chunk_answers, asked_spot, is_there, bin_answers, ask_refusals, asked}
+use Rattle.rules.specs.Ask.{ask_chunk, ask_bin, chunk_answers, asked_spot, is_there, bin_answers, ask_refusals, asked}
 use Rattle.rules.specs.Patrol.{Patrolled, patrol_run, patrol_refusals, ran, patrol}
 use Rattle.rules.specs.Calls.{Call, Setup, Allocate, AllocateCleared, Free, Reallocate, SetMerge, Check, AskChunk, AskBin, Patrol, step}
 use Rattle.rules.proofs.OutcomeLaws.{Failed, judged_so}
@@ -121,9 +121,9 @@ module _ {ws : List ℕ} {h : Heap} {n : ℕ} {e : Entry} (moves : Moving ws h n
       omega arith
 
 -- an answer that tells a value, or none
-told_no_change : (v : Option ℕ) → (figures_of (told v)).change ≡ pos 0
-told_no_change none = refl
-told_no_change (some v) = refl
+told_no_change : (v : Option ℕ) → (figures_of (Told v)).change ≡ pos 0
+told_no_change None = refl
+told_no_change (Some v) = refl
 
 module _ (ws : List ℕ) (h : Heap) where
   -- a block is granted, freed or resized
@@ -163,15 +163,15 @@ module _ (ws : List ℕ) (h : Heap) where
       → Balances h (judged h (ask_refusals (heap_fails ws h) q answers there) (asked h q answers))
   question_balances q answers there =
       judged_balances h (asked h q answers) (ask_refusals (heap_fails ws h) q answers there)
-      (λ _. told_no_change (get_or answers (q - 1) none) ∙ no_change h.used)
+      (λ _. told_no_change (get_or answers (q - 1) None) ∙ no_change h.used)
 
   patrol_balances : (f : ℕ) → Balances h (patrol ws h f)
   unfolding patrol
   patrol_balances f = judged_balances h (ran h (patrol_run ws h f)) (patrol_refusals ws h f) (λ _. go (patrol_run ws h f))
     where
       go : (o : Option Patrolled) → Balances h (ran h o)
-      go none = no_change h.used
-      go (some r) = no_change h.used
+      go None = no_change h.used
+      go (Some r) = no_change h.used
 
   step_balances : (call : Call) → is_setup call ≡ false → Balances h (step call ws h)
   unfolding step ask_chunk ask_bin

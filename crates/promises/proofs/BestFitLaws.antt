@@ -23,8 +23,7 @@ use Rattle.record.specs.declared.kinds.Kind.{Kind}
 use Rattle.record.specs.declared.kinds.Kind.TheVariants.{Start, InUse, Ordinary, Donor, Top, End}
 use Rattle.record.specs.declared.sources.Source.{Source}
 use Rattle.record.specs.declared.sources.Source.TheVariants.{FromBin, FromDonor, FromTop}
-use Rattle.record.specs.declared.table.Binned.{Binned}
-use Rattle.record.specs.declared.table.Binned.TheVariants.{Bin}
+use Rattle.std.specs.Prelude.{Option, Some, None}
 use Rattle.record.specs.Heap.{at, table_of}
 use Rattle.record.specs.Table.{Takes, small, bin_of}
 use Rattle.record.proofs.TableLaws.{bin_takes, bin_from, bin_grows}
@@ -49,7 +48,7 @@ module _ (ws : List ℕ) (h : Heap) (p : Passes ws h) (n : ℕ) (large : 24 ≤ 
   abbrev es : List Entry
   es = shape ws h.bytes
 
-  abbrev own : Source
+  abbrev own : Option Source
   own = serve.own ws h p n
 
   -- no ordinary chunk that can serve is smaller than the one at c
@@ -57,7 +56,7 @@ module _ (ws : List ℕ) (h : Heap) (p : Passes ws h) (n : ℕ) (large : 24 ≤ 
   LeastAt c = (e : Entry) → OrdinaryServes ws h n e → size_on es c ≤ size_on es e.place
 
   -- bin i is the bin of n
-  module _ (i : ℕ) (is : bin_of (table_of h) n ≡ Bin i) (takes : Takes (table_of h) n i) where
+  module _ (i : ℕ) (is : bin_of (table_of h) n ≡ Some i) (takes : Takes (table_of h) n i) where
     -- the chunks of bin i that have n bytes, and those of the larger bins, one bin after the other
     abbrev fitting : List ℕ
     fitting = keep (λ c. leb n (size_on es c)) (bin_list ws h i)
@@ -80,8 +79,8 @@ module _ (ws : List ℕ) (h : Heap) (p : Passes ws h) (n : ℕ) (large : 24 ≤ 
         let grows = bin_grows (table_of h) takes (bin_takes (table_of h) taken) enough in
         (rw (size_on_lem ws h p e.place e o.member refl) enough, go j inside taken member grows (ℕ_discrete j i))
       where
-        go : (j : ℕ) → j < h.bins → bin_of (table_of h) e.size ≡ Bin j → Mem e.place (bin_list ws h j) → i ≤ j → Dec (j ≡ i) → Listed e
-        go j inside taken member l (yes q) = inl (taken ∙ ap Bin q ∙ sym is, rw q at member)
+        go : (j : ℕ) → j < h.bins → bin_of (table_of h) e.size ≡ Some j → Mem e.place (bin_list ws h j) → i ≤ j → Dec (j ≡ i) → Listed e
+        go j inside taken member l (yes q) = inl (taken ∙ ap Some q ∙ sym is, rw q at member)
         go j inside taken member l (no d) = inr (gathered_has (bin_list ws h) (h.bins - suc i) (suc i) j (omega arith) (omega arith) member)
 
     own_least : Mem (head_or 0 fitting) fitting → LeastAt (head_or 0 fitting)
@@ -102,10 +101,10 @@ module _ (ws : List ℕ) (h : Heap) (p : Passes ws h) (n : ℕ) (large : 24 ≤ 
         go (enough, inr k) = head_least (size_on es) 0 above (bins_in_order ws h p (suc i) (h.bins - suc i) (omega (arith, in_table))) e.place k
 
   -- if the chunk of the source s is ordinary, no ordinary chunk that can serve is smaller
-  abbrev Least : Source → Type 0
+  abbrev Least : Option Source → Type 0
   Least s = (from : Entry) → CanGrant ws h n s from → kind_of h from ≡ Ordinary → (e : Entry) → OrdinaryServes ws h n e → from.size ≤ e.size
 
-  least_at : (c : ℕ) → LeastAt c → Least (FromBin (at c))
+  least_at : (c : ℕ) → LeastAt c → Least (Some (FromBin (at c)))
   least_at c least from k q e o =
       let l = least e o in
       let s = size_on_lem ws h p c from k.member k.place in
@@ -115,25 +114,25 @@ module _ (ws : List ℕ) (h : Heap) (p : Passes ws h) (n : ℕ) (large : 24 ≤ 
   own_good : Good Least own
   own_good =
       let (i, is, takes) = bin_from (table_of h) p.table.valid n large in
-      subst (λ (b : Binned). Good Least (own_bin es (bin_list ws h) n b)) (sym is)
+      subst (λ (b : Option ℕ). Good Least (own_bin es (bin_list ws h) n b)) (sym is)
       (from_first_good Least (fitting i is takes) (λ m. least_at (head_or 0 (fitting i is takes)) (own_least i is takes m)))
 
   larger_good : Fails own → Good Least (serve.larger ws h p n)
   larger_good fails =
       let (i, is, takes) = bin_from (table_of h) p.table.valid n large in
-      subst (λ (b : Binned). Good Least (larger_bin h (bin_list ws h) b)) (sym is)
+      subst (λ (b : Option ℕ). Good Least (larger_bin h (bin_list ws h) b)) (sym is)
       (from_first_good Least (above i is takes) (λ m. least_at (head_or 0 (above i is takes)) (larger_least i is takes fails)))
 
   -- donor and top are not ordinary
-  other_kind : (s : Source) → ordinary_kind (kind_in s) ≡ false → Least s
+  other_kind : (s : Option Source) → ordinary_kind (kind_in s) ≡ false → Least s
   other_kind s not from k is e o = absurd (true≢false (sym (ap ordinary_kind is) ∙ ap ordinary_kind k.kind ∙ not))
 
   chosen_least : Good Least (source_of n (as_read ws h))
   unfolding as_read chosen
   chosen_least =
       in_order_good Least (small (table_of h) n) own (serve.larger ws h p n) (serve.donor ws h p n) (serve.top ws h p n) own_good (λ o d. larger_good o)
-      (λ o l. if_good Least FromDonor (not (eqb h.donor.0 0) && leb (n + 24) (size_on es h.donor.0)) (λ t. other_kind FromDonor refl))
-      (λ o l d. if_good Least FromTop (leb (n + 24) (size_on es h.top.0)) (λ t. other_kind FromTop refl))
+      (λ o l. if_good Least (Some FromDonor) (not (eqb h.donor.0 0) && leb (n + 24) (size_on es h.donor.0)) (λ t. other_kind (Some FromDonor) refl))
+      (λ o l d. if_good Least (Some FromTop) (leb (n + 24) (size_on es h.top.0)) (λ t. other_kind (Some FromTop) refl))
 
 -- n bytes are granted
 granted_fitted : {ws : List ℕ} {h : Heap} {n : ℕ} (room : Grantable ws h n) → Fitted ws h n (granted_block room)

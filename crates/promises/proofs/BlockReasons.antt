@@ -1,5 +1,6 @@
 -- The tests of both allocates, free and reallocate decide the reasons of their refusals
 -- (`allocate_judged`, `cleared_judged`, `free_judged`, `reallocate_judged`). Assumes nothing.
+use Rattle.std.specs.Prelude.{is_none}
 use mathlib.Core.Path.{◌≡◌, refl, ap}
 use mathlib.Core.Logic.{◌↔◌}
 use mathlib.Core.Bool.{Bool, true, false, not, ◌&&◌}
@@ -19,7 +20,7 @@ use Rattle.rules.specs.Shape.{Entry}
 use Rattle.rules.specs.Kinds.{overhead}
 use Rattle.rules.specs.Check.{Passes}
 use Rattle.rules.specs.Draft.{as_read}
-use Rattle.rules.specs.Serve.{most_bytes, need, permitted, nowhere}
+use Rattle.rules.specs.Serve.{most_bytes, need, permitted}
 use Rattle.rules.specs.Outcome.{Refusals, judged, heap_fails}
 use Rattle.rules.specs.Allocate.{source_of, as_found, cleared, allocate, allocate_cleared, allocate_refusals, allocated}
 use Rattle.rules.specs.Free.{is_live, block_spot, free, free_refusals, freed}
@@ -176,7 +177,7 @@ module _ (ws : List ℕ) (h : Heap) where
           go false q = absurd (k (lives.0 (ap not q)))
 
       rooms : Passes ws h → (e : Entry) × HoldsBlock ws h b e
-          → Decides (ltb (block_spot (as_read ws h) b).here.size (need overhead z) && nowhere (source_of (need overhead z) (as_read ws h)))
+          → Decides (ltb (block_spot (as_read ws h) b).here.size (need overhead z) && is_none (source_of (need overhead z) (as_read ws h)))
           (Because ws h (Reallocate b z) NoRoom)
       rooms p some =
           meaning (both (outgrown_iff ws h p b some (need overhead z)) (room_iff ws h p (need overhead z) (omega arith)))

@@ -20,8 +20,7 @@ use Rattle.record.specs.declared.kinds.Kind.{Kind}
 use Rattle.record.specs.declared.kinds.Kind.TheVariants.{Start, InUse, Ordinary, Donor, Top, End}
 use Rattle.record.specs.declared.sources.Source.{Source}
 use Rattle.record.specs.declared.sources.Source.TheVariants.{FromDonor, FromTop}
-use Rattle.record.specs.declared.table.Binned.{Binned}
-use Rattle.record.specs.declared.table.Binned.TheVariants.{Bin, NoBin}
+use Rattle.std.specs.Prelude.{Option, Some, None}
 use Rattle.record.specs.Heap.{table_of}
 use Rattle.record.specs.Table.{small, bin_of}
 use Rattle.record.proofs.TableLaws.{bin_from}
@@ -38,10 +37,10 @@ use Rattle.promises.proofs.ServeLaws as serve
 use Rattle.promises.proofs.NewBlocksLaws.{granted_block, source_alone, each_new_block}
 
 -- one bin for both sizes
-same_bin_lem : (a b : Binned) → same_bin a b ≡ true → a ≡ b
-same_bin_lem (Bin i) (Bin j) q = ap Bin ((number_is i j).0 q)
-same_bin_lem (Bin i) NoBin q = absurd (false≢true q)
-same_bin_lem NoBin b q = absurd (false≢true q)
+same_bin_lem : (a b : Option ℕ) → same_bin a b ≡ true → a ≡ b
+same_bin_lem (Some i) (Some j) q = ap Some ((number_is i j).0 q)
+same_bin_lem (Some i) None q = absurd (false≢true q)
+same_bin_lem None b q = absurd (false≢true q)
 
 -- of two alternatives the second, if the first does not hold
 unless : {P : Type 0} {r k : ℕ} → P ⊎ (r ≤ k) → (P → ⊥) → r ≤ k
@@ -56,16 +55,16 @@ module _ (ws : List ℕ) (h : Heap) (p : Passes ws h) (n : ℕ) (large : 24 ≤ 
   little = small (table_of h) n
 
   -- the four tries
-  abbrev own : Source
+  abbrev own : Option Source
   own = serve.own ws h p n
 
-  abbrev larger : Source
+  abbrev larger : Option Source
   larger = serve.larger ws h p n
 
-  abbrev donor : Source
+  abbrev donor : Option Source
   donor = serve.donor ws h p n
 
-  abbrev top : Source
+  abbrev top : Option Source
   top = serve.top ws h p n
 
   -- a chunk of the same bin as n is found to be so
@@ -101,13 +100,13 @@ module _ (ws : List ℕ) (h : Heap) (p : Passes ws h) (n : ℕ) (large : 24 ≤ 
       go false q = inr l
 
   -- the chunk of the source s has the lowest rank
-  abbrev Lowest : Source → Type 0
+  abbrev Lowest : Option Source → Type 0
   Lowest s = (from : Entry) → CanGrant ws h n s from → AtLeast (rank h n from)
 
   own_lowest : Good Lowest own
   own_lowest =
       let (i, is, takes) = bin_from (table_of h) p.table.valid n large in
-      subst (λ (b : Binned). Good Lowest (own_bin es (bin_list ws h) n b)) (sym is)
+      subst (λ (b : Option ℕ). Good Lowest (own_bin es (bin_list ws h) n b)) (sym is)
       (from_bin_good Lowest (keep (λ c. leb n (size_on es c)) (bin_list ws h i))
       (λ c m from k.
       let member = (kept_from (λ c. leb n (size_on es c)) (bin_list ws h i) m).0 in
@@ -118,7 +117,7 @@ module _ (ws : List ℕ) (h : Heap) (p : Passes ws h) (n : ℕ) (large : 24 ≤ 
   larger_lowest : Fails own → (little ≡ true → Fails donor) → Good Lowest larger
   larger_lowest o d =
       let (i, is, takes) = bin_from (table_of h) p.table.valid n large in
-      subst (λ (b : Binned). Good Lowest (larger_bin h (bin_list ws h) b)) (sym is)
+      subst (λ (b : Option ℕ). Good Lowest (larger_bin h (bin_list ws h) b)) (sym is)
       (from_bin_good Lowest (gathered (bin_list ws h) (numbers_from (suc i) (h.bins - suc i)))
       (λ c m from k. rw k.kind (go (in_own_bin h n from))))
     where
@@ -128,7 +127,7 @@ module _ (ws : List ℕ) (h : Heap) (p : Passes ws h) (n : ℕ) (large : 24 ≤ 
 
   donor_lowest : Fails own → (little ≡ false → Fails larger × Fails top) → Good Lowest donor
   donor_lowest o others =
-      if_good Lowest FromDonor (not (eqb h.donor.0 0) && leb (n + 24) (size_on es h.donor.0)) (λ t from k. rw k.kind (go little refl))
+      if_good Lowest (Some FromDonor) (not (eqb h.donor.0 0) && leb (n + 24) (size_on es h.donor.0)) (λ t from k. rw k.kind (go little refl))
     where
       go : (b : Bool) → little ≡ b → AtLeast (cond b 1 4)
       go true q = at_least 1 (inl o) (inr (omega arith)) (inr (rw q (omega arith))) (inr (omega arith))
@@ -136,7 +135,7 @@ module _ (ws : List ℕ) (h : Heap) (p : Passes ws h) (n : ℕ) (large : 24 ≤ 
 
   top_lowest : Fails own → Fails larger → (little ≡ true → Fails donor) → Good Lowest top
   top_lowest o l d =
-      if_good Lowest FromTop (leb (n + 24) (size_on es h.top.0))
+      if_good Lowest (Some FromTop) (leb (n + 24) (size_on es h.top.0))
       (λ t from k. rw k.kind (at_least 3 (inl o) (inl l) (donor_later 3 (omega arith) d) (inr (omega arith))))
 
   -- the chosen one has it

@@ -5,7 +5,7 @@ use mathlib.Core.Path.{◌≡◌, refl, sym, ap, subst, ◌∙◌}
 use mathlib.Core.Logic.{◌⊎◌, inl, inr, ◌≢◌}
 use mathlib.Core.Bool.{Bool, true, false, false≢true}
 use mathlib.Core.List.{List, [], ◌++◌}
-use mathlib.Core.Option.{some}
+use Rattle.std.specs.Prelude.{Some}
 use Prim.Native.Nat.{ℕ, zero, suc, ◌+◌, ◌-◌, ◌/◌, ◌%◌, ◌≤◌, ◌<◌}
 use native.Mathlib.Decide.{ℕ_discrete, dec_lt}
 use native.Mathlib.Omega.{arith}
@@ -222,7 +222,7 @@ module _ (ws : List ℕ) (h : Heap) (p : Passes ws h) where
     pub record PutsBack (us : List ℕ) (c : ℕ) : Type 0 where
       pub chunks : ℕ
       pub stores : List Store
-      pub run : patrol_from chunks us end c ≡ some (patrolled 0 true stores)
+      pub run : patrol_from chunks us end c ≡ Some (patrolled 0 true stores)
       pub whole : written us stores ≡ ws
 
     module _ (next : NextFound ws h vs) where

@@ -1,5 +1,6 @@
 -- To prove something of what allocate, cleared allocate, free and reallocate come to, on any region and any record, it is enough to know it of their
 -- outcomes, each with what the laws of drafts ask: a refusal, a grant, a free, and a block that moves, shrinks or stays (`EachOutcome`). Assumes nothing.
+use Rattle.std.specs.Prelude.{is_none}
 use mathlib.Core.Path.{◌≡◌}
 use mathlib.Core.Bool.{Bool, true, false, not, cond, ◌&&◌}
 use mathlib.Core.List.{List}
@@ -19,7 +20,7 @@ use Rattle.rules.specs.Shape.{Entry}
 use Rattle.rules.specs.Kinds.{overhead}
 use Rattle.rules.specs.Check.{Passes}
 use Rattle.rules.specs.Draft.{Draft, Spot, as_read}
-use Rattle.rules.specs.Serve.{need, nowhere}
+use Rattle.rules.specs.Serve.{need}
 use Rattle.rules.specs.Cut.{Grant}
 use Rattle.rules.specs.Outcome.{Outcome, heap_fails, made, grants, refused, change_of}
 use Rattle.rules.specs.Allocate.{source_of, as_found, cleared, allocate_with, allocate, allocate_cleared, allocate_refusals, allocated}
@@ -78,7 +79,7 @@ module _ (ws : List ℕ) (h : Heap) where
         go p true l = each.frees_none
         go p false l = each.frees b p (not-false (is_live before b) l)
 
-    resized_each : (b z : ℕ) → Passes ws h → is_live before b ≡ true → (ltb (spot_of b).here.size (need overhead z) && nowhere (source_of (need overhead z) before)) ≡ false
+    resized_each : (b z : ℕ) → Passes ws h → is_live before b ≡ true → (ltb (spot_of b).here.size (need overhead z) && is_none (source_of (need overhead z) before)) ≡ false
         → P (resized_to ws before b z)
     resized_each b z p l room =
         let n = need overhead z in

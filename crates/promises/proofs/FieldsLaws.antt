@@ -6,7 +6,7 @@ use mathlib.Core.Logic.{inl, inr}
 use mathlib.Core.Bool.{Bool, true, false, true≢false}
 use mathlib.Core.List.Memᴰ
 use mathlib.Core.List.{List, [], ◌∷◌}
-use mathlib.Core.Option.{Option, some, none}
+use Rattle.std.specs.Prelude.{Option, Some, None}
 use Prim.Native.Nat.{ℕ, ◌≤◌, ◌<◌}
 use native.Mathlib.Decide.{dec_lt}
 use native.Mathlib.Omega.{arith}
@@ -196,8 +196,8 @@ module _ (ws : List ℕ) (h : Heap) where
       (λ r. all_left (Patrol f) (unchanged_keeps ws h (Refused r))) (λ _. go (patrol_run ws h f))
     where
       go : (o : Option Patrolled) → Leaves (Patrol f) ws h (ran h o)
-      go none = all_left (Patrol f) (unchanged_keeps ws h (Told 0))
-      go (some r) =
+      go None = all_left (Patrol f) (unchanged_keeps ws h (Told (Some 0)))
+      go (Some r) =
           record { bytes = λ _. refl; bins = λ _. refl; sizes = λ _. refl; merge = λ _. refl; patrol = λ q. absurd (true≢false q) }
 
   step_leaves : (call : Call) → Leaves call ws h (step call ws h)

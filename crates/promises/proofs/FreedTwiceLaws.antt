@@ -1,5 +1,6 @@
 -- A block that was freed is not live again until a call grants one there: this is kept along a run, by every way that keeps `Refusing`, `Apart`, `Kept`,
 -- `Answering` and `Fresh`. So such a way keeps the promise `FreedTwice` (`freed_twice_from`), and the rules do (`freed_twice_refused`). Assumes nothing.
+use Rattle.std.specs.Prelude.{Some, None}
 use mathlib.Core.Path.{◌≡◌, refl, sym, ap, subst, ◌∙◌}
 use mathlib.Core.Logic.{◌≢◌, ◌⊎◌, inl, inr}
 use mathlib.Core.Bool.{Bool, true, false, false≢true}
@@ -10,7 +11,7 @@ use native.Mathlib.Omega.{arith}
 use lib.IntN.{ℤ}
 use borrow.Author.Tests.{eq-eqb}
 use Rattle.record.specs.declared.answers.Answer.{Answer}
-use Rattle.record.specs.declared.answers.Answer.TheVariants.{Done, Granted, Returned, Told, ToldNone, Counted, Refused}
+use Rattle.record.specs.declared.answers.Answer.TheVariants.{Done, Granted, Returned, Told, Counted, Refused}
 use Rattle.record.specs.declared.answers.Refusal.{Refusal}
 use Rattle.record.specs.declared.heap.Heap.{Heap}
 use Rattle.region.specs.declared.Block.{Block}
@@ -42,8 +43,8 @@ refused_or_not : (a : Answer) → ((r : Refusal) × (a ≡ Refused r)) ⊎ Accep
 refused_or_not Done = inr (accepts refl)
 refused_or_not (Granted block change) = inr (accepts refl)
 refused_or_not (Returned change) = inr (accepts refl)
-refused_or_not (Told value) = inr (accepts refl)
-refused_or_not ToldNone = inr (accepts refl)
+refused_or_not (Told (Some value)) = inr (accepts refl)
+refused_or_not (Told None) = inr (accepts refl)
 refused_or_not (Counted counts) = inr (accepts refl)
 refused_or_not (Refused r) = inl (r, refl)
 
@@ -52,8 +53,8 @@ new_record : (h g : Heap) (a : Answer) → Accepted a → record_after h g a ≡
 new_record h g Done n = refl
 new_record h g (Granted block change) n = refl
 new_record h g (Returned change) n = refl
-new_record h g (Told value) n = refl
-new_record h g ToldNone n = refl
+new_record h g (Told (Some value)) n = refl
+new_record h g (Told None) n = refl
 new_record h g (Counted counts) n = refl
 new_record h g (Refused r) n = absurd (n r refl)
 
@@ -71,8 +72,8 @@ unfolding is_block
 grants_block Done q = absurd (false≢true (ap is_block q))
 grants_block (Granted block change) q = (block, change, refl)
 grants_block (Returned change) q = absurd (false≢true (ap is_block q))
-grants_block (Told value) q = absurd (false≢true (ap is_block q))
-grants_block ToldNone q = absurd (false≢true (ap is_block q))
+grants_block (Told (Some value)) q = absurd (false≢true (ap is_block q))
+grants_block (Told None) q = absurd (false≢true (ap is_block q))
 grants_block (Counted counts) q = absurd (false≢true (ap is_block q))
 grants_block (Refused r) q = absurd (false≢true (ap is_block q))
 

@@ -2,7 +2,8 @@
 use mathlib.Core.Path.{◌≡◌, refl, sym, ap, subst, ◌∙◌}
 use mathlib.Core.Bool.{Bool, true, false}
 use mathlib.Core.List.{List, ◌++◌}
-use mathlib.Core.Option.{Option, some, none, none-ne-some}
+use Rattle.std.specs.Prelude.{Option, Some, None}
+use Rattle.std.proofs.lemmas.Option.{none-some}
 use Prim.Native.Nat.{ℕ, zero, suc, ◌+◌, ◌-◌, ◌≤◌, ◌<◌}
 use native.Mathlib.Decide.{dec_lt}
 use native.Mathlib.Omega.{arith}
@@ -22,7 +23,7 @@ pub record OneRun (s t : State) : Type 0 where
   pub ready : CanRun s
   pub chunks : ℕ
   pub stores : List Store
-  pub run : run_of chunks s ≡ some (patrolled 0 true stores)
+  pub run : run_of chunks s ≡ Some (patrolled 0 true stores)
   pub leaves : t ≡ ran_to s (patrolled 0 true stores)
 
 -- the last run
@@ -31,7 +32,7 @@ last_run_lem f s q =
     record { ready = q.ready; chunks = f; stores = q.stores; run = q.run; leaves = after_is s f q.ready q.asked _ q.run }
 
 -- a run before others
-before_others : (f : ℕ) (s t : State) (c : ℕ) (ss : List Store) → CanRun s → run_of f s ≡ some (patrolled c false ss)
+before_others : (f : ℕ) (s t : State) (c : ℕ) (ss : List Store) → CanRun s → run_of f s ≡ Some (patrolled c false ss)
     → OneRun (ran_to s (patrolled c false ss)) t → OneRun s t
 before_others f s t c ss k q o =
     record {
@@ -58,16 +59,16 @@ full_run {f} (further_run {s = s} {t = t} q rest) = further_run_lem f s t (was_s
 -- one run that handles the end chunk is a full patrol of runs of f chunks
 module _ (f : ℕ) (l : 0 < f) where
   -- where the first run handles it
-  at_once : (s : State) → CanRun s → (ss : List Store) → run_of f s ≡ some (patrolled 0 true ss) → FullPatrol ours f s (ran_to s (patrolled 0 true ss))
+  at_once : (s : State) → CanRun s → (ss : List Store) → run_of f s ≡ Some (patrolled 0 true ss) → FullPatrol ours f s (ran_to s (patrolled 0 true ss))
   at_once s can ss q = subst (FullPatrol ours f s) (after_is s f can l _ q) (last_run (told_is s f can l _ q))
 
-  enough : (s : State) (n : ℕ) (ss : List Store) → n ≤ f → run_of n s ≡ some (patrolled 0 true ss) → run_of f s ≡ some (patrolled 0 true ss)
+  enough : (s : State) (n : ℕ) (ss : List Store) → n ≤ f → run_of n s ≡ Some (patrolled 0 true ss) → run_of f s ≡ Some (patrolled 0 true ss)
   enough s n ss b q =
       let whole : n + (f - n) ≡ f = omega arith in
       rw whole at (run_more n (f - n) s.words (s.heap.bytes - 8) s.heap.patrol.0 0 ss q)
 
   -- where it does not: the rest of the run is a full patrol
-  later : (s : State) → CanRun s → (c : ℕ) (rs ts : List Store) → run_of f s ≡ some (patrolled c false rs)
+  later : (s : State) → CanRun s → (c : ℕ) (rs ts : List Store) → run_of f s ≡ Some (patrolled c false rs)
       → let next = ran_to s (patrolled c false rs) in FullPatrol ours f next (ran_to next (patrolled 0 true ts))
       → FullPatrol ours f s (ran_to s (patrolled 0 true (rs ++ ts)))
   later s can c rs ts q rest =
@@ -77,12 +78,12 @@ module _ (f : ℕ) (l : 0 < f) where
   -- shorter runs from any state are full patrols
   abbrev Shorter : ℕ → Type 0
   Shorter n =
-      (s : State) → CanRun s → (m : ℕ) → m < n → (ss : List Store) → run_of m s ≡ some (patrolled 0 true ss)
+      (s : State) → CanRun s → (m : ℕ) → m < n → (ss : List Store) → run_of m s ≡ Some (patrolled 0 true ss)
       → FullPatrol ours f s (ran_to s (patrolled 0 true ss))
 
   module _ (s : State) (can : CanRun s) (n : ℕ) (ss : List Store) (shorter : Shorter n) where
-    by_end : f < n → (c : ℕ) (t : Bool) (rs : List Store) → run_of f s ≡ some (patrolled c t rs)
-        → onward (n - f) s.words (s.heap.bytes - 8) (some (patrolled c t rs)) ≡ some (patrolled 0 true ss)
+    by_end : f < n → (c : ℕ) (t : Bool) (rs : List Store) → run_of f s ≡ Some (patrolled c t rs)
+        → onward (n - f) s.words (s.heap.bytes - 8) (Some (patrolled c t rs)) ≡ Some (patrolled 0 true ss)
         → FullPatrol ours f s (ran_to s (patrolled 0 true ss))
     by_end m c true rs e g = at_once s can ss (e ∙ g)
     by_end m c false rs e g =
@@ -91,12 +92,12 @@ module _ (f : ℕ) (l : 0 < f) where
         rw parts (later s can c rs ts e (shorter next (still_runs s f can _ e) (n - f) (omega arith) ts run))
 
     after_first : f < n → (o : Option Patrolled) → run_of f s ≡ o
-        → onward (n - f) s.words (s.heap.bytes - 8) o ≡ some (patrolled 0 true ss)
+        → onward (n - f) s.words (s.heap.bytes - 8) o ≡ Some (patrolled 0 true ss)
         → FullPatrol ours f s (ran_to s (patrolled 0 true ss))
-    after_first m none e g = absurd (none-ne-some _ g)
-    after_first m (some r) e g = by_end m r.place r.ended r.stores e g
+    after_first m None e g = absurd (none-some _ g)
+    after_first m (Some r) e g = by_end m r.place r.ended r.stores e g
 
-    in_runs : run_of n s ≡ some (patrolled 0 true ss) → FullPatrol ours f s (ran_to s (patrolled 0 true ss))
+    in_runs : run_of n s ≡ Some (patrolled 0 true ss) → FullPatrol ours f s (ran_to s (patrolled 0 true ss))
     in_runs q = go (dec_lt f n)
       where
         go : Dec (f < n) → FullPatrol ours f s (ran_to s (patrolled 0 true ss))
@@ -107,7 +108,7 @@ module _ (f : ℕ) (l : 0 < f) where
         go (no m) = at_once s can ss (enough s n ss (omega arith) q)
 
   -- the first argument counts down
-  full_in : (k : ℕ) (s : State) → CanRun s → (n : ℕ) → n ≤ k → (ss : List Store) → run_of n s ≡ some (patrolled 0 true ss)
+  full_in : (k : ℕ) (s : State) → CanRun s → (n : ℕ) → n ≤ k → (ss : List Store) → run_of n s ≡ Some (patrolled 0 true ss)
       → FullPatrol ours f s (ran_to s (patrolled 0 true ss))
   full_in zero s can n b ss q = at_once s can ss (enough s n ss (omega arith) q)
   full_in (suc k) s can n b ss q = in_runs s can n ss (λ next c m d ts r. full_in k next c m (omega arith) ts r) q

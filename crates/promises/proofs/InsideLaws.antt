@@ -1,5 +1,6 @@
 -- No call on any region writes an odd last word (`stores_below`): a refused call writes nothing, and on a heap that passes every store is
 -- to a word of the heap bytes. Assumes nothing.
+use Rattle.std.specs.Prelude.{is_none}
 use mathlib.Core.Path.{◌≡◌, subst}
 use mathlib.Core.Logic.{inl, inr}
 use mathlib.Core.Bool.{Bool, true, false, not, cond, ◌&&◌, ◌||◌}
@@ -21,7 +22,7 @@ use Rattle.rules.specs.Shape.{Entry, heap_bytes, chunk_end}
 use Rattle.rules.specs.Kinds.{block_of, block_end, block_words, overhead}
 use Rattle.rules.specs.Check.{Passes}
 use Rattle.rules.specs.Draft.{Draft, Spot, as_read, also_writes}
-use Rattle.rules.specs.Serve.{nowhere, need}
+use Rattle.rules.specs.Serve.{need}
 use Rattle.rules.specs.Cut.{Grant}
 use Rattle.rules.specs.Allocate.{source_of, grant, as_found, cleared, allocate_with, allocate, allocate_cleared, allocate_refusals, allocated}
 use Rattle.rules.specs.Free.{is_live, block_spot, free_block, free, free_refusals, freed}
@@ -91,7 +92,7 @@ module _ (ws : List ℕ) (h : Heap) (p : Passes ws h) (b : ℕ) (l : is_live (as
   n = need overhead z
 
   -- it moves: it is still live after the copy
-  moved_below : nowhere (source_of n (as_read ws h)) ≡ false → at.here.size < n → Inner h (moved ws at n (as_read ws h)).draft
+  moved_below : is_none (source_of n (as_read ws h)) ≡ false → at.here.size < n → Inner h (moved ws at n (as_read ws h)).draft
   moved_below some less =
       let e : Entry = at.here in
       let moves = block_moves p b l z some less in
@@ -101,7 +102,7 @@ module _ (ws : List ℕ) (h : Heap) (p : Passes ws h) (b : ℕ) (l : is_live (as
       (rw (same_bytes moves.room) at (free_inside (copied_words moves) (copied_heap moves) (copied_passes moves) (block_of e) (still_live moves))))
 
   -- it is resized; if it has to move, there is room
-  resized_below : (ltb at.here.size n && nowhere (source_of n (as_read ws h)) ≡ false) → Inner h (resized ws at n (as_read ws h)).draft
+  resized_below : (ltb at.here.size n && is_none (source_of n (as_read ws h)) ≡ false) → Inner h (resized ws at n (as_read ws h)).draft
   unfolding as_read
   resized_below q =
       resized_so (λ x. Inner h x.draft) ws at n (as_read ws h)
@@ -123,7 +124,7 @@ module _ (ws : List ℕ) (h : Heap) where
 
   -- a block is granted, and `fill` written into it
   with_below : (fill : Entry → List Store) (z : ℕ)
-      → ((p : Passes ws h) → nowhere (source_of (need overhead z) (as_read ws h)) ≡ false
+      → ((p : Passes ws h) → is_none (source_of (need overhead z) (as_read ws h)) ≡ false
       → let g = grant (need overhead z) (as_read ws h) in Inner h (also_writes (fill g.granted) g.draft))
       → Below even (allocate_with fill ws h z).stores
   with_below fill z b =

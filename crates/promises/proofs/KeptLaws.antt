@@ -1,5 +1,6 @@
 -- The check is an invariant (`kept`): an accepted setup makes a heap that passes, and every call and every write inside a live block
 -- leaves one that passes. So a block that a call grants has one chunk (`of_its_chunk`). Assumes nothing.
+use Rattle.std.specs.Prelude.{Some, None}
 use mathlib.Core.Path.{◌≡◌, refl, ◌∙◌}
 use mathlib.Core.Bool.{Bool}
 use mathlib.Core.List.{List, [], ◌∷◌}
@@ -11,7 +12,7 @@ use Rattle.drafts.proofs.GrantKept.{the_grant}
 use Rattle.drafts.proofs.GrantedChunk.{granted_filled}
 use Rattle.lists.specs.Lists.{Mem}
 use Rattle.record.specs.declared.answers.Answer.{Answer}
-use Rattle.record.specs.declared.answers.Answer.TheVariants.{Done, Granted, Returned, Told, ToldNone, Counted, Refused}
+use Rattle.record.specs.declared.answers.Answer.TheVariants.{Done, Granted, Returned, Told, Counted, Refused}
 use Rattle.record.specs.declared.heap.Heap.{Heap}
 use Rattle.record.specs.Heap.{empty, with_merge, with_patrol}
 use Rattle.region.specs.declared.Block.{Block}
@@ -53,8 +54,8 @@ pub same_record : (h : Heap) (a : Answer) → record_after h h a ≡ h
 same_record h Done = refl
 same_record h (Granted b c) = refl
 same_record h (Returned c) = refl
-same_record h (Told v) = refl
-same_record h ToldNone = refl
+same_record h (Told (Some v)) = refl
+same_record h (Told None) = refl
 same_record h (Counted c) = refl
 same_record h (Refused r) = refl
 

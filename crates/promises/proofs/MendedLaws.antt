@@ -4,7 +4,7 @@ use mathlib.Core.Path.{◌≡◌, refl, sym, ap, ap₂, subst, ◌∙◌}
 use mathlib.Core.Logic.{◌⊎◌, inl, inr, ◌≢◌}
 use mathlib.Core.Bool.{true, false}
 use mathlib.Core.List.{List}
-use mathlib.Core.Option.{some}
+use Rattle.std.specs.Prelude.{Some}
 use Prim.Native.Nat.{ℕ, zero, suc, ◌+◌, ◌-◌, ◌/◌, ◌%◌, ◌≤◌, ◌<◌}
 use native.Mathlib.Decide.{ℕ_discrete}
 use native.Mathlib.Omega.{arith}
@@ -50,7 +50,7 @@ module _ (ws : List ℕ) (h : Heap) (p : Passes ws h) (start : h.patrol.0 ≡ 0)
         };
         chunks = b.chunks;
         stores = b.stores;
-        run = subst (λ (c : ℕ). patrol_from b.chunks vs end c ≡ some (patrolled 0 true b.stores)) (sym start) b.run;
+        run = subst (λ (c : ℕ). patrol_from b.chunks vs end c ≡ Some (patrolled 0 true b.stores)) (sym start) b.run;
         leaves = ap₂ (λ (us : List ℕ) (g : Heap). record { words = us; heap = g }) (sym b.whole) (ap (with_patrol h) start);
       })
 
@@ -64,7 +64,7 @@ module _ (ws : List ℕ) (h : Heap) (p : Passes ws h) (start : h.patrol.0 ≡ 0)
         long = sym (ap length words ∙ length_written o.stores vs);
         agree = agree_same end 0 vs;
         stores = o.stores;
-        run = subst (λ (c : ℕ). patrol_from o.chunks vs end c ≡ some (patrolled 0 true o.stores)) start o.run;
+        run = subst (λ (c : ℕ). patrol_from o.chunks vs end c ≡ Some (patrolled 0 true o.stores)) start o.run;
         whole = sym words;
       })
 
@@ -80,10 +80,10 @@ module _ (ws : List ℕ) (h : Heap) (p : Passes ws h) (start : h.patrol.0 ≡ 0)
 
   -- whole forward links with no such sign are believed
   links_found : ForwardWhole ws h vs → NoSign ws h vs → NextFound ws h vs
-  links_found whole none e (m, l) =
+  links_found whole None e (m, l) =
       let link = whole e m ∙ (chunk_right ws h p e m l).link in
-      let b = believed vs end e.place (chunk_end e) (record { place = chunk_next ws h p e m l; no_skip = none e (m, l) }) in
-      next_believed vs end e.place (rw link b) ∙ ap some link
+      let b = believed vs end e.place (chunk_end e) (record { place = chunk_next ws h p e m l; no_skip = None e (m, l) }) in
+      next_believed vs end e.place (rw link b) ∙ ap Some link
 
 -- the forward link of e is broken, and nothing else is damaged
 module _ (ws : List ℕ) (h : Heap) (p : Passes ws h) (vs : List ℕ) (e : Entry) (one : OneBroken ws h vs e) where
@@ -108,7 +108,7 @@ module _ (ws : List ℕ) (h : Heap) (p : Passes ws h) (vs : List ℕ) (e : Entry
   one_damaged =
       record {
         long = one.long;
-        elsewhere = λ i none. one.elsewhere i (λ q. none e on_chain (inl (one.chunk.1, q)));
+        elsewhere = λ i None. one.elsewhere i (λ q. None e on_chain (inl (one.chunk.1, q)));
         flags = λ d k. ap (λ (w : ℕ). w % 8) (back_whole d k);
       }
 
@@ -122,15 +122,15 @@ module _ (ws : List ℕ) (h : Heap) (p : Passes ws h) (vs : List ℕ) (e : Entry
       o
 
   -- the backward walk from a chunk above e finds the one next above e
-  walk_finds : (k : ℕ) (d : Entry) → OnChain ws h d → e.place < d.place → d.place / 8 ≤ k → seek_from k vs e.place d.place ≡ some (chunk_end e)
+  walk_finds : (k : ℕ) (d : Entry) → OnChain ws h d → e.place < d.place → d.place / 8 ≤ k → seek_from k vs e.place d.place ≡ Some (chunk_end e)
   walk_finds zero d m l f = let i = inside ws h p d m in absurd (omega arith)
   walk_finds (suc k) d m l f =
       let (b, n, up) = below_it ws h p d m (omega arith) in
       go b n up (ℕ_discrete b.place e.place) (walk_finds k b n)
     where
       go : (b : Entry) → OnChain ws h b → NextIs ws b d → Dec (b.place ≡ e.place)
-          → (e.place < b.place → b.place / 8 ≤ k → seek_from k vs e.place b.place ≡ some (chunk_end e))
-          → seek_from (suc k) vs e.place d.place ≡ some (chunk_end e)
+          → (e.place < b.place → b.place / 8 ≤ k → seek_from k vs e.place b.place ≡ Some (chunk_end e))
+          → seek_from (suc k) vs e.place d.place ≡ Some (chunk_end e)
       go b n up same rest = by same
         where
           leads : back_offset vs d.place ≡ b.place
@@ -143,7 +143,7 @@ module _ (ws : List ℕ) (h : Heap) (p : Passes ws h) (vs : List ℕ) (e : Entry
               let u = up.place in
               rw (leads, up.place) (chunk_next ws h p b n (omega arith)).room
 
-          above : (chunk_end b ≤ e.place) ⊎ (chunk_end e ≤ b.place) → seek_from (suc k) vs e.place d.place ≡ some (chunk_end e)
+          above : (chunk_end b ≤ e.place) ⊎ (chunk_end e ≤ b.place) → seek_from (suc k) vs e.place d.place ≡ Some (chunk_end e)
           above (inl o) = let u = up.place in absurd (omega arith)
           above (inr o) =
               let i = inside ws h p b n in
@@ -153,14 +153,14 @@ module _ (ws : List ℕ) (h : Heap) (p : Passes ws h) (vs : List ℕ) (e : Entry
               ∙ ap (seek_from k vs e.place) leads
               ∙ rest (omega arith) (omega arith)
 
-          by : Dec (b.place ≡ e.place) → seek_from (suc k) vs e.place d.place ≡ some (chunk_end e)
-          by (yes q) = seek_here vs e.place d.place far (leads ∙ q) k ∙ ap some (up.place ∙ ap chunk_end (one_chunk ws h p b e n on_chain q))
+          by : Dec (b.place ≡ e.place) → seek_from (suc k) vs e.place d.place ≡ Some (chunk_end e)
+          by (yes q) = seek_here vs e.place d.place far (leads ∙ q) k ∙ ap Some (up.place ∙ ap chunk_end (one_chunk ws h p b e n on_chain q))
           by (no o) = above (chunks_apart ws h p b e n on_chain o)
 
   next_found : NextFound ws h vs
   next_found d (k, l) = go (ℕ_discrete d.place e.place)
     where
-      sought : next_of vs (h.bytes - 8) e.place ≡ some (chunk_end e)
+      sought : next_of vs (h.bytes - 8) e.place ≡ Some (chunk_end e)
       sought =
           let s = ends ws h p in
           let last = last_or outside (shape ws h.bytes) in
@@ -169,16 +169,16 @@ module _ (ws : List ℕ) (h : Heap) (p : Passes ws h) (vs : List ℕ) (e : Entry
           next_sought vs (h.bytes - 8) e.place one.broken
           ∙ rw at at (walk_finds (h.bytes - 8) last s.end (omega arith) (omega arith))
 
-      believes : d.place ≢ e.place → next_of vs (h.bytes - 8) d.place ≡ some (chunk_end d)
+      believes : d.place ≢ e.place → next_of vs (h.bytes - 8) d.place ≡ Some (chunk_end d)
       believes n =
           let (a, m, up) = above_it ws h p d k l in
           let link = link_whole d k n ∙ (chunk_right ws h p d k l).link in
           let back : back_offset vs (chunk_end d) ≡ d.place = rw up.place at (leads_down d a k m up) in
           let b = believed vs (h.bytes - 8) d.place (chunk_end d)
           (record { place = chunk_next ws h p d k l; no_skip = no_skip_lem vs d.place (chunk_end d) (omega arith) }) in
-          next_believed vs (h.bytes - 8) d.place (rw link b) ∙ ap some link
+          next_believed vs (h.bytes - 8) d.place (rw link b) ∙ ap Some link
 
-      go : Dec (d.place ≡ e.place) → next_of vs (h.bytes - 8) d.place ≡ some (chunk_end d)
+      go : Dec (d.place ≡ e.place) → next_of vs (h.bytes - 8) d.place ≡ Some (chunk_end d)
       go (yes q) = rw (one_chunk ws h p d e k on_chain q) sought
       go (no n) = believes n
 
@@ -186,7 +186,7 @@ pub mended : Mended ours
 mended =
     record {
       found = λ ws h vs p z damaged next f l. undone ws h p z vs damaged next f l;
-      links_back = λ ws h vs p z damaged whole none f l. undone ws h p z vs damaged (links_found ws h p z vs whole none) f l;
+      links_back = λ ws h vs p z damaged whole None f l. undone ws h p z vs damaged (links_found ws h p z vs whole None) f l;
       only_without = λ ws h vs p z damaged whole f full. no_sign ws h p z vs (only_found ws h p z vs f full);
       one_link = λ ws h vs e p z one f l. undone ws h p z vs (one_damaged ws h p vs e one) (next_found ws h p vs e one) f l;
     }

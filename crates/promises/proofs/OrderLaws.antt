@@ -20,7 +20,7 @@ use Rattle.record.specs.declared.answers.Answer.TheVariants.{Done, Refused}
 use Rattle.record.specs.declared.answers.Refusal.{Refusal}
 use Rattle.record.specs.declared.answers.Refusal.TheVariants.{RegionLength, BadTable, DonorSize, HeapFails, BlockSize, NotLive, NoRoom, NotThere, RunSize, BeyondMending}
 use Rattle.record.specs.declared.heap.Heap.{Heap}
-use Rattle.record.specs.declared.table.Binned.TheVariants.{Bin}
+use Rattle.std.specs.Prelude.{Some}
 use Rattle.record.specs.Heap.{empty, table_of, with_merge, with_patrol}
 use Rattle.record.specs.Table.{bin_of, small_bins}
 use Rattle.record.proofs.TableLaws.{bin_takes, one_size}
@@ -196,7 +196,7 @@ record Placed (s t : State) : Type 0 where
   steady : Steady s t
 
 module _ (s t : State) (p : Passing s) (c : Carries s t) (i : ℕ) (l : i < t.heap.bins) where
-  in_bin_lem : (e : Entry) → InBin t i e → (ordinary t.heap e ≡ true) × (bin_of (table_of t.heap) e.size ≡ Bin i)
+  in_bin_lem : (e : Entry) → InBin t i e → (ordinary t.heap e ≡ true) × (bin_of (table_of t.heap) e.size ≡ Some i)
   in_bin_lem e (o, m) =
       let (d, k, (q, b)) = (c.passes.bins i l).chunks e.place m in
       rw (one_chunk t.words t.heap c.passes d e k o q) at b

@@ -3,7 +3,7 @@
 use mathlib.Core.Path.{◌≡◌, refl, ap, ap₂, ◌∙◌}
 use mathlib.Core.Bool.{Bool, true, false, cond}
 use mathlib.Core.List.{List}
-use mathlib.Core.Option.{Option, some}
+use Rattle.std.specs.Prelude.{Option, Some, None}
 use Prim.Native.Nat.{ℕ, ◌-◌, ◌<◌}
 use native.Mathlib.Omega.{arith}
 use Rattle.record.specs.declared.answers.Answer.TheVariants.{Told}
@@ -30,20 +30,20 @@ ran_to s r = record { words = written s.words r.stores; heap = with_patrol s.hea
 
 module _ (s : State) (f : ℕ) where
   -- an accepted run
-  module _ (k : CanRun s) (l : 0 < f) (r : Patrolled) (q : run_of f s ≡ some r) where
+  module _ (k : CanRun s) (l : 0 < f) (r : Patrolled) (q : run_of f s ≡ Some r) where
     pub left_is : ours (Patrol f) s.words s.heap
-        ≡ record { answer = Told (cond r.ended 1 0); heap = with_patrol s.heap r.place; words = written s.words r.stores }
+        ≡ record { answer = Told (Some (cond r.ended 1 0)); heap = with_patrol s.heap r.place; words = written s.words r.stores }
     unfolding ours step patrol_run
     left_is = rw (patrol_runs s.words s.heap f k l r q)
 
-    pub told_is : (ours (Patrol f) s.words s.heap).answer ≡ Told (cond r.ended 1 0)
+    pub told_is : (ours (Patrol f) s.words s.heap).answer ≡ Told (Some (cond r.ended 1 0))
     told_is = ap (λ (x : Left). x.answer) left_is
 
     pub after_is : after ours (Patrol f) s ≡ ran_to s r
     after_is = ap (λ (x : Left). record { words = x.words; heap = record_after s.heap x.heap x.answer }) left_is
 
   -- after a run another can be made
-  pub still_runs : CanRun s → (r : Patrolled) → run_of f s ≡ some r → CanRun (ran_to s r)
+  pub still_runs : CanRun s → (r : Patrolled) → run_of f s ≡ Some r → CanRun (ran_to s r)
   still_runs k r q =
       let b = k.fits in
       let n = length_written r.stores s.words in
@@ -56,7 +56,7 @@ module _ (s : State) (f : ℕ) where
       }
 
   -- a run that answered was accepted
-  pub was_run : (value : ℕ) → (ours (Patrol f) s.words s.heap).answer ≡ Told value → Ran s.words s.heap f value
+  pub was_run : (value : ℕ) → (ours (Patrol f) s.words s.heap).answer ≡ Told (Some value) → Ran s.words s.heap f value
   unfolding ours step
   was_run value q = patrol_told s.words s.heap f value q
 
@@ -65,16 +65,16 @@ module _ (s : State) (f : ℕ) where
     pub ready : CanRun s
     pub asked : 0 < f
     pub stores : List Store
-    pub run : run_of f s ≡ some (patrolled 0 true stores)
+    pub run : run_of f s ≡ Some (patrolled 0 true stores)
 
   pub record ShortOfEnd : Type 0 where
     pub ready : CanRun s
     pub asked : 0 < f
     pub place : ℕ
     pub stores : List Store
-    pub run : run_of f s ≡ some (patrolled place false stores)
+    pub run : run_of f s ≡ Some (patrolled place false stores)
 
-  pub was_to_end : (ours (Patrol f) s.words s.heap).answer ≡ Told 1 → ToEnd
+  pub was_to_end : (ours (Patrol f) s.words s.heap).answer ≡ Told (Some 1) → ToEnd
   unfolding patrol_run
   was_to_end q = go (was_run 1 q)
     where
@@ -92,10 +92,10 @@ module _ (s : State) (f : ℕ) where
             ready = k;
             asked = r.asked;
             stores = r.run.stores;
-            run = r.found ∙ ap₂ (λ (c : ℕ) (u : Bool). some (patrolled c u r.run.stores)) (p.start t) t;
+            run = r.found ∙ ap₂ (λ (c : ℕ) (u : Bool). Some (patrolled c u r.run.stores)) (p.start t) t;
           }
 
-  pub was_short : (ours (Patrol f) s.words s.heap).answer ≡ Told 0 → ShortOfEnd
+  pub was_short : (ours (Patrol f) s.words s.heap).answer ≡ Told (Some 0) → ShortOfEnd
   unfolding patrol_run
   was_short q = go (was_run 0 q)
     where
@@ -110,5 +110,5 @@ module _ (s : State) (f : ℕ) where
             asked = r.asked;
             place = r.run.place;
             stores = r.run.stores;
-            run = r.found ∙ ap (λ (u : Bool). some (patrolled r.run.place u r.run.stores)) (so r.run.ended r.value_is);
+            run = r.found ∙ ap (λ (u : Bool). Some (patrolled r.run.place u r.run.stores)) (so r.run.ended r.value_is);
           }

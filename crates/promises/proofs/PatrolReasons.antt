@@ -4,7 +4,8 @@ use mathlib.Core.Path.{◌≡◌, refl, sym, ap, ◌∙◌}
 use mathlib.Core.Logic.{inl, inr}
 use mathlib.Core.Bool.{Bool, true, false, not, ◌&&◌, false≢true}
 use mathlib.Core.List.{List, [], ◌∷◌}
-use mathlib.Core.Option.{Option, some, none, some-ne-none}
+use Rattle.std.specs.Prelude.{Option, Some, None}
+use Rattle.std.proofs.lemmas.Option.{none-some}
 use Prim.Native.Nat.{ℕ, zero, suc, ◌+◌, ◌-◌, ◌%◌, ◌<◌}
 use native.Mathlib.Decide.{ℕ_discrete, dec_lt}
 use native.Mathlib.Omega.{arith}
@@ -28,27 +29,27 @@ use Rattle.promises.proofs.JudgedLaws.{accepts, first, second, third, Judging}
 
 -- a run that is lost: the plan, on the words as they came, finds nothing
 module _ (ws : List ℕ) (end : ℕ) where
-  none_planned : {f c : ℕ} → Lost ws end f c → plan f ws end c ≡ none
+  none_planned : {f c : ℕ} → Lost ws end f c → plan f ws end c ≡ None
   none_planned (lost_here {f = f} {c = c} n q) = plan_lost ws end c f n q
   none_planned (lost_later {f = f} {c = c} {v = v} n q l) =
       plan_on ws end c f n v q ∙ ap (goes_on (mends ws c v)) (none_planned l)
 
-  later : (ss : List Store) (o : Option Patrolled) → goes_on ss o ≡ none → o ≡ none
-  later ss none q = refl
-  later ss (some r) q = absurd (some-ne-none _ q)
+  later : (ss : List Store) (o : Option Patrolled) → goes_on ss o ≡ None → o ≡ None
+  later ss None q = refl
+  later ss (Some r) q = absurd (none-some _ (sym q))
 
-  planned_lost : (f c : ℕ) → plan f ws end c ≡ none → Lost ws end f c
-  planned_lost zero c q = absurd (some-ne-none _ q)
+  planned_lost : (f c : ℕ) → plan f ws end c ≡ None → Lost ws end f c
+  planned_lost zero c q = absurd (none-some _ (sym q))
   planned_lost (suc f) c q = go (handling ws end c) (λ v. planned_lost f v)
     where
-      go : Handling ws end c → ((v : ℕ) → plan f ws end v ≡ none → Lost ws end f v) → Lost ws end (suc f) c
-      go (ends e) g = absurd (some-ne-none _ (sym (plan_ends ws end c f e) ∙ q))
+      go : Handling ws end c → ((v : ℕ) → plan f ws end v ≡ None → Lost ws end f v) → Lost ws end (suc f) c
+      go (ends e) g = absurd (none-some _ (sym (sym (plan_ends ws end c f e) ∙ q)))
       go (lost n e) g = lost_here n e
       go (on n v e) g = lost_later n e (g v (later (mends ws c v) (plan f ws end v) (sym (plan_on ws end c f n v e) ∙ q)))
 
-is_none : (o : Option Patrolled) → Decides (is_lost o) (o ≡ none)
-is_none none = (λ q. refl, λ q. refl)
-is_none (some r) = (λ q. absurd (false≢true q), λ q. absurd (some-ne-none r q))
+is_none : (o : Option Patrolled) → Decides (is_lost o) (o ≡ None)
+is_none None = (λ q. refl, λ q. refl)
+is_none (Some r) = (λ q. absurd (false≢true q), λ q. absurd (none-some r (sym q)))
 
 module _ (ws : List ℕ) (h : Heap) where
   -- 12
@@ -106,8 +107,8 @@ module _ (ws : List ℕ) (h : Heap) where
       }
     where
       told : (o : Option Patrolled) → Accepted (ran h o).answer
-      told none = accepts refl
-      told (some r) = accepts refl
+      told None = accepts refl
+      told (Some r) = accepts refl
 
       chunks : Decides (eqb f 0) (Because ws h (Patrol f) RunSize)
       chunks = meaning (number_is f 0) (λ z. patrol_none z) (λ k. elim k [ patrol_none z ↦ z ])

@@ -4,7 +4,8 @@ use mathlib.Core.Path.{◌≡◌, sym, ap, subst, ◌∙◌}
 use mathlib.Core.Logic.{◌⊎◌, inl, inr, ◌≢◌}
 use mathlib.Core.Bool.{true, false≢true}
 use mathlib.Core.List.{List, ◌++◌}
-use mathlib.Core.Option.{some, some-injective, none-ne-some}
+use Rattle.std.specs.Prelude.{Some}
+use Rattle.std.proofs.lemmas.Option.{same_Some, none-some}
 use Prim.Native.Nat.{ℕ, zero, suc, ◌+◌, ◌-◌, ◌/◌, ◌%◌, ◌≤◌, ◌<◌}
 use native.Mathlib.Decide.{ℕ_discrete}
 use native.Mathlib.Omega.{arith}
@@ -37,26 +38,26 @@ module _ (ws : List ℕ) (h : Heap) (p : Passes ws h) (vs : List ℕ) where
 
   -- the true next chunk is found at every chunk from c on
   abbrev FoundFrom : ℕ → Type 0
-  FoundFrom c = (d : Entry) → OnChain ws h d → c ≤ d.place → d.place + 8 < h.bytes → next_of vs end d.place ≡ some (chunk_end d)
+  FoundFrom c = (d : Entry) → OnChain ws h d → c ≤ d.place → d.place + 8 < h.bytes → next_of vs end d.place ≡ Some (chunk_end d)
 
   -- a run on the words us that puts all words back
   pub record Back (n : ℕ) (us : List ℕ) (c : ℕ) : Type 0 where
     pub long : length us ≡ length ws
     pub agree : AgreeFrom end c vs us
     pub stores : List Store
-    pub run : patrol_from n us end c ≡ some (patrolled 0 true stores)
+    pub run : patrol_from n us end c ≡ Some (patrolled 0 true stores)
     pub whole : written us stores ≡ ws
 
   -- one chunk of it: the run stands at e and goes on at v
   module _ (n : ℕ) (us : List ℕ) (e : Entry) (m : OnChain ws h e) (b : Back (suc n) us e.place)
-      (other : e.place ≡ end → ⊥) (v : ℕ) (q : next_of us end e.place ≡ some v) where
+      (other : e.place ≡ end → ⊥) (v : ℕ) (q : next_of us end e.place ≡ Some v) where
     abbrev c : ℕ
     c = e.place
 
     place : NextPlace end c v
     place = next_place us end c last v q
 
-    onward : (ts : List Store) × (patrol_from n (handled us c v) end v ≡ some (patrolled 0 true ts)) × (b.stores ≡ mends us c v ++ ts)
+    onward : (ts : List Store) × (patrol_from n (handled us c v) end v ≡ Some (patrolled 0 true ts)) × (b.stores ≡ mends us c v ++ ts)
     onward = went_on (mends us c v) (patrol_from n (handled us c v) end v) 0 true b.stores (sym (run_on us end c n other v q) ∙ b.run)
 
     on_back : Back n (handled us c v) v
@@ -90,24 +91,24 @@ module _ (ws : List ℕ) (h : Heap) (p : Passes ws h) (vs : List ℕ) where
     found_too : FoundFrom (chunk_end e) → FoundFrom c
     found_too rest d k lo hi = go (ℕ_discrete d.place c)
       where
-        here : next_of vs end c ≡ some (chunk_end e)
-        here = sym (next_agrees end c vs us (inside ws h p e m).place last b.agree (omega (arith, low))) ∙ q ∙ ap some true_next
+        here : next_of vs end c ≡ Some (chunk_end e)
+        here = sym (next_agrees end c vs us (inside ws h p e m).place last b.agree (omega (arith, low))) ∙ q ∙ ap Some true_next
 
-        above : (chunk_end d ≤ c) ⊎ (chunk_end e ≤ d.place) → next_of vs end d.place ≡ some (chunk_end d)
+        above : (chunk_end d ≤ c) ⊎ (chunk_end e ≤ d.place) → next_of vs end d.place ≡ Some (chunk_end d)
         above (inl l) = let i = inside ws h p d k in absurd (omega arith)
         above (inr l) = rest d k l hi
 
-        go : Dec (d.place ≡ c) → next_of vs end d.place ≡ some (chunk_end d)
+        go : Dec (d.place ≡ c) → next_of vs end d.place ≡ Some (chunk_end d)
         go (yes z) = rw (one_chunk ws h p d e k m z) here
         go (no o) = above (chunks_apart ws h p d e k m o)
 
   retrace : (n : ℕ) (us : List ℕ) (e : Entry) → OnChain ws h e → Back n us e.place → FoundFrom e.place
-  retrace zero us e m b = absurd (false≢true (ap (λ (r : Patrolled). r.ended) (some-injective _ _ b.run)))
+  retrace zero us e m b = absurd (false≢true (ap (λ (r : Patrolled). r.ended) (same_Some _ _ b.run)))
   retrace (suc n) us e m b = go (handling us end e.place) (λ u d k. retrace n u d k)
     where
       go : Handling us end e.place → ((u : List ℕ) (d : Entry) → OnChain ws h d → Back n u d.place → FoundFrom d.place) → FoundFrom e.place
       go (ends q) f = λ d k lo hi. absurd (omega arith)
-      go (lost o q) f = absurd (none-ne-some _ (sym (run_lost us end e.place n o q) ∙ b.run))
+      go (lost o q) f = absurd (none-some _ (sym (run_lost us end e.place n o q) ∙ b.run))
       go (on o v q) f =
           let (d, k, up) = above_it ws h p e m (low n us e m b o v q) in
           let at : v ≡ d.place = true_next n us e m b o v q ∙ sym up.place in

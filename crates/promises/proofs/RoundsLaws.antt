@@ -2,7 +2,7 @@
 use mathlib.Core.Path.{◌≡◌, refl, sym, ap, ◌∙◌}
 use mathlib.Core.Bool.{true, false}
 use mathlib.Core.List.{List, [], ◌∷◌, ◌++◌}
-use mathlib.Core.Option.{Option, some}
+use Rattle.std.specs.Prelude.{Option, Some, None}
 use Prim.Native.Nat.{ℕ, zero, suc, ◌+◌, ◌*◌, ◌-◌, ◌≤◌, ◌<◌}
 use native.Mathlib.Decide.{dec_lt}
 use native.Mathlib.Nat.{add-zero, le-div_iff_mul-le, div-lt_iff_lt-mul}
@@ -72,7 +72,7 @@ module _ (s : State) (p : Passing s) where
   abbrev run_from : ℕ → ℕ → Option Patrolled
   run_from f i = patrol_from f s.words (s.heap.bytes - 8) (chunk i).place
 
-  goes_on_lem : (f i : ℕ) → i + f < chunks_in s → run_from f i ≡ some (patrolled (chunk (i + f)).place false [])
+  goes_on_lem : (f i : ℕ) → i + f < chunks_in s → run_from f i ≡ Some (patrolled (chunk (i + f)).place false [])
   goes_on_lem zero i l = rw (add-zero i)
   goes_on_lem (suc f) i l =
       let n = leads i (omega arith) in
@@ -80,12 +80,12 @@ module _ (s : State) (p : Passing s) where
       run_steps s.words s.heap p (chunk i) (chunk_in i (omega arith)) (below i (omega arith)) f
       ∙ rw (← n.place, more) (goes_on_lem f (suc i) (omega arith))
 
-  goes_round : (f i : ℕ) → i < chunks_in s → chunks_in s ≤ i + f → run_from f i ≡ some (patrolled 0 true [])
+  goes_round : (f i : ℕ) → i < chunks_in s → chunks_in s ≤ i + f → run_from f i ≡ Some (patrolled 0 true [])
   goes_round zero i l m = absurd (omega arith)
   goes_round (suc f) i l m = go (dec_lt (suc i) (chunks_in s)) (λ k. goes_round f (suc i) k (omega arith))
     where
-      go : Dec (suc i < chunks_in s) → (suc i < chunks_in s → run_from f (suc i) ≡ some (patrolled 0 true []))
-          → run_from (suc f) i ≡ some (patrolled 0 true [])
+      go : Dec (suc i < chunks_in s) → (suc i < chunks_in s → run_from f (suc i) ≡ Some (patrolled 0 true []))
+          → run_from (suc f) i ≡ Some (patrolled 0 true [])
       go (yes k) g =
           let n = leads i k in
           run_steps s.words s.heap p (chunk i) (chunk_in i l) (below i k) f ∙ rw (← n.place) (g k)
@@ -154,12 +154,12 @@ module _ (s : State) (p : Passing s) where
     answers : n * f < chunks_in s → run_answer ours f n s ≡ (ours (Patrol f) s.words (with_patrol s.heap (chunk (n * f)).place)).answer
     answers m = ap (λ (t : State). (ours (Patrol f) t.words t.heap).answer) (runs_made m)
 
-    not_yet : suc n < runs_for (chunks_in s) f → run_answer ours f n s ≡ Told 0
+    not_yet : suc n < runs_for (chunks_in s) f → run_answer ours f n s ≡ Told (Some 0)
     not_yet m =
         let many = (le-div_iff_mul-le {k = f} {x = suc (suc n)} {y = chunks_in s + (f - 1)} l).0 m in
         answers (omega arith) ∙ ap (λ (x : Left). x.answer) (run_onward f (n * f) l (omega arith))
 
-    the_last : suc n ≡ runs_for (chunks_in s) f → (run_answer ours f n s ≡ Told 1) × (after_runs ours f (suc n) s ≡ s)
+    the_last : suc n ≡ runs_for (chunks_in s) f → (run_answer ours f n s ≡ Told (Some 1)) × (after_runs ours f (suc n) s ≡ s)
     the_last q =
         let many = (le-div_iff_mul-le {k = f} {x = suc n} {y = chunks_in s + (f - 1)} l).0 (omega arith) in
         let few = (div-lt_iff_lt-mul {k = f} {x = chunks_in s + (f - 1)} {y = suc (suc n)} l).0 (omega arith) in

@@ -19,9 +19,8 @@ use Rattle.record.specs.declared.heap.Heap.{Heap}
 use Rattle.record.specs.declared.kinds.Kind.{Kind}
 use Rattle.record.specs.declared.kinds.Kind.TheVariants.{Start, InUse, Ordinary, Donor, Top, End}
 use Rattle.record.specs.declared.sources.Source.{Source}
-use Rattle.record.specs.declared.sources.Source.TheVariants.{FromBin, FromDonor, FromTop, Nowhere}
-use Rattle.record.specs.declared.table.Binned.{Binned}
-use Rattle.record.specs.declared.table.Binned.TheVariants.{Bin}
+use Rattle.record.specs.declared.sources.Source.TheVariants.{FromBin, FromDonor, FromTop}
+use Rattle.std.specs.Prelude.{Option, Some, None, is_none}
 use Rattle.record.specs.Heap.{table_of}
 use Rattle.record.specs.Table.{small, bin_of}
 use Rattle.record.proofs.TableLaws.{bin_takes, bin_from, bin_grows}
@@ -29,7 +28,7 @@ use Rattle.rules.specs.Shape.{Entry, shape, bin_list}
 use Rattle.rules.specs.Kinds.{ordinary_kind, kind_of, in_use, size_on}
 use Rattle.rules.specs.Check.{Passes}
 use Rattle.rules.specs.Draft.{as_read}
-use Rattle.rules.specs.Serve.{serves, from_bin, own_bin, try_donor, larger_bin, try_top, chosen, nowhere}
+use Rattle.rules.specs.Serve.{serves, from_bin, own_bin, try_donor, larger_bin, try_top, chosen}
 use Rattle.rules.specs.Allocate.{source_of}
 use Rattle.rules.proofs.KindsLaws.{being_as}
 use Rattle.rules.proofs.SpotLaws.{inside, size_on_lem}
@@ -44,7 +43,7 @@ list_fails (d ∷ cs) some f m =
     false≢true (rw (ne_eqb d 0 (omega arith)) at f)
 
 -- a try under a test fails only if the test does
-test_fails : (s : Source) (t : Bool) → nowhere s ≡ false → Fails (cond t s Nowhere) → t ≡ true → ⊥
+test_fails : (s : Option Source) (t : Bool) → is_none s ≡ false → Fails (cond t s None) → t ≡ true → ⊥
 test_fails s true q f e = false≢true (sym q ∙ f)
 test_fails s false q f e = false≢true e
 
@@ -103,26 +102,26 @@ module _ (ws : List ℕ) (h : Heap) (p : Passes ws h) (n : ℕ) where
             rw (not_used free, eq-eqb e.place h.top.0 place) (at_most (n + 24) e.size)
 
   -- the chunk of a source that can grant can serve
-  pub source_serves : (s : Source) (e : Entry) → nowhere s ≡ false → CanGrant ws h n s e → can e ≡ true
+  pub source_serves : (s : Option Source) (e : Entry) → is_none s ≡ false → CanGrant ws h n s e → can e ≡ true
   source_serves s e some k = (serves_iff e k.member).1 (subst (Enough n e.size) (sym k.kind) (go s some k))
     where
-      go : (s : Source) → nowhere s ≡ false → CanGrant ws h n s e → Enough n e.size (kind_in s)
-      go (FromBin c) q k = k.enough
-      go FromDonor q k = k.spare refl
-      go FromTop q k = k.spare refl
-      go Nowhere q k = absurd (true≢false q)
+      go : (s : Option Source) → is_none s ≡ false → CanGrant ws h n s e → Enough n e.size (kind_in s)
+      go (Some (FromBin c)) q k = k.enough
+      go (Some FromDonor) q k = k.spare refl
+      go (Some FromTop) q k = k.spare refl
+      go None q k = absurd (true≢false q)
 
   -- the four tries of the rule
-  abbrev pub own : Source
+  abbrev pub own : Option Source
   own = own_bin es (bin_list ws h) n (bin_of (table_of h) n)
 
-  abbrev pub larger : Source
+  abbrev pub larger : Option Source
   larger = larger_bin h (bin_list ws h) (bin_of (table_of h) n)
 
-  abbrev pub donor : Source
+  abbrev pub donor : Option Source
   donor = try_donor h es n
 
-  abbrev pub top : Source
+  abbrev pub top : Option Source
   top = try_top h es n
 
   -- where a try fails, none of its chunks can serve
@@ -137,7 +136,7 @@ module _ (ws : List ℕ) (h : Heap) (p : Passes ws h) (n : ℕ) where
         let s = size_on_lem ws h p e.place e m refl in
         list_fails (keep (λ c. leb n (size_on es c)) (bin_list ws h j))
         (λ c k. (list_nodes ws h p j inside c (kept_from (λ c. leb n (size_on es c)) (bin_list ws h j) k).0).some)
-        (subst (λ (r : Binned). Fails (own_bin es (bin_list ws h) n r)) (sym b ∙ takes) f)
+        (subst (λ (r : Option ℕ). Fails (own_bin es (bin_list ws h) n r)) (sym b ∙ takes) f)
         (kept_has (λ c. leb n (size_on es c)) listed (le-leb n (size_on es e.place) (omega arith)))
 
     pub larger_fails : 24 ≤ n → Fails larger → kind_of h e ≡ Ordinary → (bin_of (table_of h) e.size ≡ bin_of (table_of h) n → ⊥) → ⊥
@@ -145,10 +144,10 @@ module _ (ws : List ℕ) (h : Heap) (p : Passes ws h) (n : ℕ) where
         let (j, inside, takes, listed) = ordinary_listed ws h p e m (ap ordinary_kind q) in
         let (i, is, taken) = bin_from (table_of h) p.table.valid n large in
         let grows = bin_grows (table_of h) taken (bin_takes (table_of h) takes) (enough Ordinary q) in
-        let differ : i ≡ j → ⊥ = λ s. other (takes ∙ ap Bin (sym s) ∙ sym is) in
+        let differ : i ≡ j → ⊥ = λ s. other (takes ∙ ap Some (sym s) ∙ sym is) in
         list_fails (gathered (bin_list ws h) (numbers_from (suc i) (h.bins - suc i)))
         (λ c k. let (x, (above, below), member) = gathered_from (bin_list ws h) (h.bins - suc i) (suc i) k in (list_nodes ws h p x (omega arith) c member).some)
-        (subst (λ (r : Binned). Fails (larger_bin h (bin_list ws h) r)) is f)
+        (subst (λ (r : Option ℕ). Fails (larger_bin h (bin_list ws h) r)) is f)
         (gathered_has (bin_list ws h) (h.bins - suc i) (suc i) j (omega arith) (omega arith) listed)
 
     pub donor_fails : Fails donor → kind_of h e ≡ Donor → ⊥
@@ -156,7 +155,7 @@ module _ (ws : List ℕ) (h : Heap) (p : Passes ws h) (n : ℕ) where
         let (some, end, free, place) = being_as h e Donor q in
         let l = enough Donor q in
         let s = size_on_lem ws h p h.donor.0 e m place in
-        test_fails FromDonor (not (eqb h.donor.0 0) && leb (n + 24) (size_on es h.donor.0)) refl f
+        test_fails (Some FromDonor) (not (eqb h.donor.0 0) && leb (n + 24) (size_on es h.donor.0)) refl f
         ((both (denied (number_is h.donor.0 0)) (at_most (n + 24) (size_on es h.donor.0))).1 (λ z. omega arith, omega arith))
 
     pub top_fails : Fails top → kind_of h e ≡ Top → ⊥
@@ -164,7 +163,7 @@ module _ (ws : List ℕ) (h : Heap) (p : Passes ws h) (n : ℕ) where
         let (some, end, free, place) = being_as h e Top q in
         let l = enough Top q in
         let s = size_on_lem ws h p h.top.0 e m place in
-        test_fails FromTop (leb (n + 24) (size_on es h.top.0)) refl f ((at_most (n + 24) (size_on es h.top.0)).1 (omega arith))
+        test_fails (Some FromTop) (leb (n + 24) (size_on es h.top.0)) refl f ((at_most (n + 24) (size_on es h.top.0)).1 (omega arith))
 
   -- where all four fail no chunk can serve
   all_fail : 24 ≤ n → Fails own × Fails larger × Fails donor × Fails top → (e : Entry) → Mem e es → can e ≡ true → ⊥
@@ -178,14 +177,14 @@ module _ (ws : List ℕ) (h : Heap) (p : Passes ws h) (n : ℕ) where
       go InUse q k = k
       go End q k = k
 
-  pub room_iff : 24 ≤ n → Decides (nowhere (source_of n (as_read ws h))) (NoneServes ws h n)
+  pub room_iff : 24 ≤ n → Decides (is_none (source_of n (as_read ws h))) (NoneServes ws h n)
   unfolding as_read chosen
   room_iff large = (
     λ f e m. not_so (itself (can e)) (all_fail large (in_order_fails (small (table_of h) n) own larger donor top f) e m),
-    λ none. go none (nowhere (source_of n (as_read ws h))) refl,
+    λ none. go none (is_none (source_of n (as_read ws h))) refl,
   )
     where
-      go : NoneServes ws h n → (t : Bool) → nowhere (source_of n (as_read ws h)) ≡ t → t ≡ true
+      go : NoneServes ws h n → (t : Bool) → is_none (source_of n (as_read ws h)) ≡ t → t ≡ true
       go none true q = refl
       go none false q =
           let (e, k) = source_can ws h p n q in

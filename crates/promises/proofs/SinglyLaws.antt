@@ -2,7 +2,7 @@
 use mathlib.Core.Path.{◌≡◌, sym, ap, subst, ◌∙◌}
 use mathlib.Core.Bool.{true, false}
 use mathlib.Core.List.{◌++◌}
-use mathlib.Core.Option.{some}
+use Rattle.std.specs.Prelude.{Some}
 use Prim.Native.Nat.{ℕ, suc, ◌+◌, ◌-◌}
 use native.Mathlib.Omega.{arith}
 use Rattle.region.proofs.WordsLaws.{written_append}
@@ -20,7 +20,7 @@ use Rattle.promises.proofs.PatrolLaws.{run_of, ran_to, left_is, after_is, was_ru
 one_over : (f : ℕ) (s : State) → ToEnd s 1 → ours (Patrol (suc f)) s.words s.heap ≡ leaves 1 (after ours (Patrol 1) s)
 one_over f s q =
     let more : suc f ≡ 1 + f = omega arith in
-    let run : run_of (suc f) s ≡ some (patrolled 0 true q.stores) =
+    let run : run_of (suc f) s ≡ Some (patrolled 0 true q.stores) =
     rw more (run_more 1 f s.words (s.heap.bytes - 8) s.heap.patrol.0 0 q.stores q.run) in
     left_is s (suc f) q.ready (omega arith) _ run ∙ ap (leaves 1) (sym (after_is s 1 q.ready q.asked _ q.run))
 
@@ -37,7 +37,7 @@ module _ (s : State) (q : ShortOfEnd s 1) where
   same_next_lem f value r =
       let more : suc f ≡ 1 + f = omega arith in
       let t = r.run in
-      let run : run_of (suc f) s ≡ some (patrolled t.place t.ended (q.stores ++ t.stores)) =
+      let run : run_of (suc f) s ≡ Some (patrolled t.place t.ended (q.stores ++ t.stores)) =
       rw more (run_then 1 f s.words (s.heap.bytes - 8) s.heap.patrol.0 q.place q.stores q.run ∙ ap (goes_on q.stores) r.found) in
       left_is s (suc f) q.ready (omega arith) _ run
       ∙ rw (written_append q.stores t.stores s.words) (sym (left_is next f r.ready r.asked t r.found))

@@ -4,7 +4,7 @@ use mathlib.Core.Path.{◌≡◌, refl, sym, ap, subst, ◌∙◌}
 use mathlib.Core.Logic.{◌≢◌}
 use mathlib.Core.Bool.{true, false≢true}
 use mathlib.Core.List.{List, [], ◌++◌}
-use mathlib.Core.Option.{some}
+use Rattle.std.specs.Prelude.{Some}
 use Prim.Native.Nat.{ℕ, suc, ◌+◌, ◌-◌, ◌/◌, ◌%◌, ◌≤◌, ◌<◌}
 use native.Mathlib.Omega.{arith}
 use lib.ListN.{length}
@@ -72,7 +72,7 @@ module _ (end : ℕ) (last : end % 8 ≡ 0) (above : 0 < end) where
     pub straight : c % 8 ≡ 0 → end / 4 + 2 ≤ length ws → r.ended ≡ true
         → let fin = written ws r.stores in (c ≡ 0 → back_offset fin c ≡ 0) × Straight fin end c
 
-  leaves_more : (ws : List ℕ) (c v : ℕ) (r : Patrolled) → NextPlace end c v → next_of ws end c ≡ some v → Leaves (handled ws c v) v r
+  leaves_more : (ws : List ℕ) (c v : ℕ) (r : Patrolled) → NextPlace end c v → next_of ws end c ≡ Some v → Leaves (handled ws c v) v r
       → Leaves ws c (patrolled r.place r.ended (mends ws c v ++ r.stores))
   leaves_more ws c v r n q rest =
       record {
@@ -84,7 +84,7 @@ module _ (end : ℕ) (last : end % 8 ≡ 0) (above : 0 < end) where
             (start_back ws end c v n e f r.stores rest.from, up n.inside (neighbours ws end c v n e f r.stores rest.from) onward);
       }
 
-  run_leaves : (f : ℕ) (ws : List ℕ) (c : ℕ) (r : Patrolled) → patrol_from f ws end c ≡ some r → Leaves ws c r
+  run_leaves : (f : ℕ) (ws : List ℕ) (c : ℕ) (r : Patrolled) → patrol_from f ws end c ≡ Some r → Leaves ws c r
   run_leaves =
       run_by end last Leaves
       (λ ws c. record { from = tt; straight = λ e f t. absurd (false≢true t) })
@@ -93,7 +93,7 @@ module _ (end : ℕ) (last : end % 8 ≡ 0) (above : 0 < end) where
 
 -- over straight links a run writes nothing and handles the end chunk
 straight_run : (ws : List ℕ) {end c : ℕ} → (c ≡ 0 → back_offset ws c ≡ 0) → Straight ws end c
-    → (n : ℕ) × (patrol_from n ws end c ≡ some (patrolled 0 true []))
+    → (n : ℕ) × (patrol_from n ws end c ≡ Some (patrolled 0 true []))
 straight_run ws {end} start there = (1, run_ends ws end end 0 refl)
 straight_run ws {end} start (up {c = c} {v = v} l n rest) =
     let place : NextPlace end c v = record { eights = n.eights; room = n.room; inside = l } in
@@ -112,7 +112,7 @@ left_straight : (s t : State) → s.heap.patrol.0 ≡ 0 → OneRun s t
     → (back_offset t.words 0 ≡ 0) × Straight t.words (t.heap.bytes - 8) 0
 left_straight s t start o =
     let e = end_is s.words s.heap o.ready.fits in
-    let run = subst (λ (c : ℕ). patrol_from o.chunks s.words (s.heap.bytes - 8) c ≡ some (patrolled 0 true o.stores)) start o.run in
+    let run = subst (λ (c : ℕ). patrol_from o.chunks s.words (s.heap.bytes - 8) c ≡ Some (patrolled 0 true o.stores)) start o.run in
     let above : 0 < s.heap.bytes - 8 = omega arith in
     let l = run_leaves (s.heap.bytes - 8) e.eights above o.chunks s.words 0 _ run in
     let (back, links) = l.straight refl e.fits refl in
@@ -128,7 +128,7 @@ next_quiet s t start o =
       ready = subst CanRun (sym o.leaves) (still_runs s o.chunks o.ready _ o.run);
       chunks = n;
       stores = [];
-      run = subst (λ (c : ℕ). patrol_from n t.words (t.heap.bytes - 8) c ≡ some (patrolled 0 true [])) (sym home) run;
+      run = subst (λ (c : ℕ). patrol_from n t.words (t.heap.bytes - 8) c ≡ Some (patrolled 0 true [])) (sym home) run;
       leaves = subst (λ (x : State). x ≡ ran_to x (patrolled 0 true [])) (sym o.leaves) refl;
     }
 

@@ -1,5 +1,6 @@
 -- Each of the three wrong orders of the tries breaks a promise, shown on heaps of the demonstration's setup: bins of 24, 32, 40 and 128, so
 -- that needs below 40 are small, and a donor of 64 bytes at 8. Assumes nothing.
+use Rattle.std.specs.Prelude.{Option, Some, None}
 use mathlib.Core.Path.{◌≡◌, refl}
 use mathlib.Core.Bool.{Bool, true, false, cond, ◌&&◌, false≢true}
 use mathlib.Core.List.{List, [], ◌∷◌}
@@ -15,7 +16,7 @@ use Rattle.record.specs.declared.answers.Answer.TheVariants.{Granted, Refused}
 use Rattle.record.specs.declared.answers.Refusal.TheVariants.{NoRoom}
 use Rattle.record.specs.declared.heap.Heap.{Heap}
 use Rattle.record.specs.declared.sources.Source.{Source}
-use Rattle.record.specs.declared.sources.Source.TheVariants.{FromBin, FromDonor, FromTop, Nowhere}
+use Rattle.record.specs.declared.sources.Source.TheVariants.{FromBin, FromDonor, FromTop}
 use Rattle.record.specs.Heap.{table_of}
 use Rattle.record.specs.Table.{small}
 use Rattle.rules.specs.Shape.{shape, chunk_end}
@@ -94,18 +95,16 @@ room_refutes_donor_for_small promised = not_refused donor_for_small promised ful
 
 -- Request Four gives refusal 7 less often: on one heap, a request that is refused for lack of room now was refused in document 01's way too
 -- (the reverse does not hold, as 15 shows). Of a run of calls this says nothing: the two heaps differ from the first large block in the donor on
-tries_fail : (little : Bool) (own larger donor top : Source) → Fails own × Fails larger × Fails donor × Fails top
+tries_fail : (little : Bool) (own larger donor top : Option Source) → Fails own × Fails larger × Fails donor × Fails top
     → Fails (first_of (cond little (in_order little own larger donor top) (own ∷ larger ∷ top ∷ [])))
 tries_fail little own larger donor top (o, l, d, t) =
     rw (nothing_found own o, nothing_found larger l, nothing_found donor d, nothing_found top t) (none_left little)
   where
-    nothing_found : (s : Source) → Fails s → s ≡ Nowhere
-    nothing_found (FromBin c) f = absurd (false≢true f)
-    nothing_found FromDonor f = absurd (false≢true f)
-    nothing_found FromTop f = absurd (false≢true f)
-    nothing_found Nowhere f = refl
+    nothing_found : (s : Option Source) → Fails s → s ≡ None
+    nothing_found (Some source) f = absurd (false≢true f)
+    nothing_found None f = refl
 
-    none_left : (b : Bool) → Fails (first_of (cond b (in_order b Nowhere Nowhere Nowhere Nowhere) (Nowhere ∷ Nowhere ∷ Nowhere ∷ [])))
+    none_left : (b : Bool) → Fails (first_of (cond b (in_order b None None None None) (None ∷ None ∷ None ∷ [])))
     none_left true = refl
     none_left false = refl
 

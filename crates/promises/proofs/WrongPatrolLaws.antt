@@ -1,5 +1,6 @@
 -- Each of the four wrong ways of the patrol breaks a promise, shown on the smallest heap, of 10 words, and on the demonstration's.
 -- Assumes nothing.
+use Rattle.std.specs.Prelude.{Some, None}
 use mathlib.Core.Path.{◌≡◌, refl, sym, ap, ◌∙◌}
 use mathlib.Core.Bool.{true}
 use mathlib.Core.List.Memᴰ
@@ -59,7 +60,7 @@ unfolding computes
 three_chunks = ltb-true 1 3 refl
 
 -- 6: the first run walks everything: a run of one chunk says that it handled the end chunk
-walks_on : (walks_all (Patrol 1) smallest.words smallest.heap).answer ≡ Told 1
+walks_on : (walks_all (Patrol 1) smallest.words smallest.heap).answer ≡ Told (Some 1)
 unfolding computes ours
 walks_on = refl
 

@@ -1,12 +1,13 @@
 -- Each of the three wrong ways of the questions breaks a promise, shown on the smallest heap, of 10 words: at its start chunk, which is at 0,
 -- and at the chunk above. What breaks `Zero` breaks `Telling` too, from which it follows. Assumes nothing.
+use Rattle.std.specs.Prelude.{Some, None}
 use mathlib.Core.Path.{◌≡◌, sym, ap, ◌∙◌}
 use mathlib.Core.Bool.{false≢true}
 use Prim.Native.Nat.{ℕ}
 use native.Mathlib.Omega.{arith}
 use Rattle.lists.specs.Lists.{head_or}
 use Rattle.record.specs.declared.answers.Answer.{Answer}
-use Rattle.record.specs.declared.answers.Answer.TheVariants.{Told, ToldNone}
+use Rattle.record.specs.declared.answers.Answer.TheVariants.{Told}
 use Rattle.record.specs.Answers.{figures_of}
 use Rattle.rules.specs.Shape.{Entry, shape}
 use Rattle.rules.specs.Kinds.{outside}
@@ -24,7 +25,7 @@ on_smallest : (way : Way) → Zero way → ZeroAt way smallest.words smallest.he
 on_smallest way promised = promised smallest.words smallest.heap smallest_passes
 
 -- a value is not none
-not_none : (v : ℕ) → Told v ≡ ToldNone → ⊥
+not_none : (v : ℕ) → Told (Some v) ≡ Told None → ⊥
 not_none v e = false≢true (ap (λ (a : Answer). (figures_of a).is_none) e)
 
 -- 10: the start's previous is none, and 0 is told
@@ -45,6 +46,6 @@ pub telling_refutes_always_zero : Telling always_zero → ⊥
 telling_refutes_always_zero promised =
     let n = ends smallest.words smallest.heap smallest_passes in
     let right = (promised smallest.words smallest.heap smallest_passes).size start n.start in
-    let told = ap (retold (λ v. Told 0)) ((telling smallest.words smallest.heap smallest_passes).size start n.start) in
+    let told = ap (retold (λ v. Told (Some 0))) ((telling smallest.words smallest.heap smallest_passes).size start n.start) in
     let same = ap (λ (a : Answer). (figures_of a).value) (sym told ∙ right) in
     omega (arith, n.start_size)

@@ -1,4 +1,5 @@
 -- 0 is told apart from none (`zero`): it follows from what the questions tell, for any way of answering (`zero_follows`). Assumes nothing.
+use Rattle.std.specs.Prelude.{Some, None}
 use mathlib.Core.Path.{◌≡◌, refl, sym, ap, ◌∙◌}
 use mathlib.Core.Bool.{false}
 use mathlib.Core.List.Memᴰ
@@ -12,7 +13,7 @@ use Rattle.books.proofs.HeapBooks.{list_none}
 use Rattle.lists.specs.Lists.{Mem, head_or}
 use Rattle.lists.proofs.ListsLaws.{itself, not_so}
 use Rattle.lists.proofs.SplitLaws.{begins_with}
-use Rattle.record.specs.declared.answers.Answer.TheVariants.{Told, ToldNone}
+use Rattle.record.specs.declared.answers.Answer.TheVariants.{Told}
 use Rattle.record.specs.declared.heap.Heap.{Heap}
 use Rattle.rules.specs.Shape.{Entry, shape, bin_list, chunk_end}
 use Rattle.rules.specs.Kinds.{ordinary_kind, ordinary, in_use, outside}
@@ -53,7 +54,7 @@ module _ (way : Way) (promised : Telling way) (ws : List ℕ) (h : Heap) (p : Pa
       omega (arith, s.place, n.start_place, n.start_size)
 
   -- a chunk of the chain that is not ordinary, at c, is in no bin
-  in_none : (e : Entry) → OnChain ws h e → ordinary h e ≡ false → (c : ℕ) → e.place ≡ c → of_chunk way ws h 1 c ≡ ToldNone
+  in_none : (e : Entry) → OnChain ws h e → ordinary h e ≡ false → (c : ℕ) → e.place ≡ c → of_chunk way ws h 1 c ≡ Told None
   in_none e m o c q = ap (of_chunk way ws h 1) (sym q) ∙ (promised ws h p).no_bin e m o
 
   zero_at : ZeroAt way ws h
@@ -63,7 +64,7 @@ module _ (way : Way) (promised : Telling way) (ws : List ℕ) (h : Heap) (p : Pa
         of_start = ap (of_chunk way ws h 6) (sym (ends ws h p).start_place) ∙ (promised ws h p).no_previous start (drop 1 es, (ends ws h p).begins);
         above_start =
             ap (of_chunk way ws h 6) (sym second_place) ∙ (promised ws h p).previous start second ([], drop 1 (drop 1 es), begins_two)
-            ∙ ap Told (ends ws h p).start_place;
+            ∙ ap (λ v. Told (Some v)) (ends ws h p).start_place;
         in_bin_zero = λ c m. bin_zero c m (dec_lt 0 h.bins);
         in_use = λ e m u. in_none e m (not_so (itself (ordinary h e)) (used_not_ordinary h e (eqb-true (e.flags % 2) 1 u))) e.place refl;
         donor = λ l. let d = donor_here ws h p l in in_none _ d.member (ap ordinary_kind d.kind) h.donor.0 d.place;
@@ -71,7 +72,7 @@ module _ (way : Way) (promised : Telling way) (ws : List ℕ) (h : Heap) (p : Pa
         empty_bin = λ i l q. ((promised ws h p).no_first i l q, (promised ws h p).no_last i l q);
       }
     where
-      bin_zero : (c : ℕ) → Mem c (bin_list ws h 0) → Dec (0 < h.bins) → of_chunk way ws h 1 c ≡ Told 0
+      bin_zero : (c : ℕ) → Mem c (bin_list ws h 0) → Dec (0 < h.bins) → of_chunk way ws h 1 c ≡ Told (Some 0)
       bin_zero c m (yes l) = (promised ws h p).bin 0 c l m
       bin_zero c m (no n) = absurd (Memᴰ.not-nil (rw (list_none ws h p 0 (omega arith)) at m))
 

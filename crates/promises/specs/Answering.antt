@@ -1,8 +1,8 @@
 -- Answering (manual 5; document 01, "The calls", "The check"): an accepted call answers in its own form, on every region and every record. So no
 -- call that should grant a block answers that it is done.
-use Rattle.std.specs.Prelude.{◌≡◌, List, ℕ, ◌≤◌}
+use Rattle.std.specs.Prelude.{◌≡◌, List, ℕ, ◌≤◌, Some, None}
 use Rattle.record.specs.declared.answers.Answer.{Answer}
-use Rattle.record.specs.declared.answers.Answer.TheVariants.{Done, Granted, Returned, Told, ToldNone, Counted, Refused}
+use Rattle.record.specs.declared.answers.Answer.TheVariants.{Done, Granted, Returned, Told, Counted, Refused}
 use Rattle.record.specs.declared.heap.Heap.{Heap}
 use Rattle.rules.specs.Calls.{Call, Setup, Allocate, AllocateCleared, Free, Reallocate, SetMerge, Check, AskChunk, AskBin, Patrol}
 use Rattle.promises.specs.Ways.{Way}
@@ -23,7 +23,6 @@ form_of Done = JustDone
 form_of (Granted block change) = ABlock
 form_of (Returned change) = AChange
 form_of (Told value) = AValue
-form_of ToldNone = AValue
 form_of (Counted counts) = FourCounts
 form_of (Refused refusal) = ARefusal
 
@@ -45,4 +44,4 @@ pub record Answering (way : Way) : Type 0 where
   pub form : (call : Call) (ws : List ℕ) (h : Heap) → Accepted (way call ws h).answer → form_of (way call ws h).answer ≡ form_for call
   -- the patrol's value says whether the end chunk was handled: 1 or 0, and never none
   pub handled : (f : ℕ) (ws : List ℕ) (h : Heap) → Accepted (way (Patrol f) ws h).answer
-      → (v : ℕ) × ((way (Patrol f) ws h).answer ≡ Told v) × (v ≤ 1)
+      → (v : ℕ) × ((way (Patrol f) ws h).answer ≡ Told (Some v)) × (v ≤ 1)

@@ -1,11 +1,9 @@
 -- Choice (manual 5.2; document 01, "The calls": the order in which Allocate tries; document 02, request Four: the donor for large needs): on a heap
 -- that passes, a block is granted from a chunk that is tried first among those that can serve its need.
-use Rattle.std.specs.Prelude.{◌≡◌, ◌⊎◌, Bool, true, false, cond, List, ℕ, ◌≤◌, ◌<◌, eqb}
+use Rattle.std.specs.Prelude.{◌≡◌, ◌⊎◌, Bool, true, false, cond, List, ℕ, ◌≤◌, ◌<◌, eqb, Option, Some, None}
 use Rattle.record.specs.declared.heap.Heap.{Heap}
 use Rattle.record.specs.declared.kinds.Kind.{Kind}
 use Rattle.record.specs.declared.kinds.Kind.TheVariants.{Start, InUse, Ordinary, Donor, Top, End}
-use Rattle.record.specs.declared.table.Binned.{Binned}
-use Rattle.record.specs.declared.table.Binned.TheVariants.{Bin, NoBin}
 use Rattle.record.specs.Heap.{table_of}
 use Rattle.record.specs.Table.{small, bin_of}
 use Rattle.rules.specs.Shape.{Entry, chunk_end}
@@ -21,10 +19,10 @@ abbrev pub LiesIn : ℕ → Entry → Type 0
 LiesIn b e = (e.place < b) × (b < chunk_end e)
 
 -- the chunk's size and n have the same bin
-abbrev pub same_bin : Binned → Binned → Bool
-same_bin (Bin i) (Bin j) = eqb i j
-same_bin (Bin i) NoBin = false
-same_bin NoBin b = false
+abbrev pub same_bin : Option ℕ → Option ℕ → Bool
+same_bin (Some i) (Some j) = eqb i j
+same_bin (Some i) None = false
+same_bin None b = false
 
 abbrev pub in_own_bin : Heap → ℕ → Entry → Bool
 in_own_bin h n e = same_bin (bin_of (table_of h) e.size) (bin_of (table_of h) n)

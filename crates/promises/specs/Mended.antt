@@ -1,8 +1,7 @@
 -- Mended (manual 9; document 02, request Two): a heap that passed the check was damaged in links and free sizes, its record whole, its patrol at the
 -- start. A full patrol, with any number of chunks a run, undoes the damage exactly where each chunk's next one is still found; and so
 -- in the document's two cases.
-use Rattle.std.specs.Prelude.{◌≡◌, ◌⊎◌, ◌≢◌, true, false, List, ℕ, ◌+◌, ◌-◌, ◌/◌, ◌<◌, length, get_or}
-use Rattle.std.proofs.Math.Option.{some}
+use Rattle.std.specs.Prelude.{◌≡◌, ◌⊎◌, ◌≢◌, true, false, List, ℕ, ◌+◌, ◌-◌, ◌/◌, ◌<◌, length, get_or, Some}
 use Rattle.record.specs.declared.heap.Heap.{Heap}
 use Rattle.region.specs.Words.{word, forward, backward, size}
 use Rattle.rules.specs.Shape.{Entry, chunk_end, flags_at}
@@ -31,7 +30,7 @@ pub record Damaged (ws : List ℕ) (h : Heap) (vs : List ℕ) : Type 0 where
 
 -- the true next chunk of each chunk is the one that is believed, or found by the backward walk, on the damaged words
 abbrev pub NextFound : List ℕ → Heap → List ℕ → Type 0
-NextFound ws h vs = (e : Entry) → BelowEnd ws h e → next_of vs (h.bytes - end_size) e.place ≡ some (chunk_end e)
+NextFound ws h vs = (e : Entry) → BelowEnd ws h e → next_of vs (h.bytes - end_size) e.place ≡ Some (chunk_end e)
 
 -- all forward links are whole
 abbrev pub ForwardWhole : List ℕ → Heap → List ℕ → Type 0

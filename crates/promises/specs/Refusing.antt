@@ -1,7 +1,6 @@
 -- Refused (manual 6; document 01, "Numbers of refusal"; document 02, request Two): a call is refused exactly with the first number whose reason holds,
 -- and a refused call changes nothing. The reasons stand in the order of the document's table.
-use Rattle.std.specs.Prelude.{◌≡◌, ◌↔◌, ◌⊎◌, ◌≢◌, Bool, true, false, List, ℕ, suc, ◌+◌, ◌*◌, ◌-◌, ◌%◌, ◌≤◌, ◌<◌, pos, length}
-use Rattle.std.proofs.Math.Option.{some, none}
+use Rattle.std.specs.Prelude.{◌≡◌, ◌↔◌, ◌⊎◌, ◌≢◌, Bool, true, false, List, ℕ, suc, ◌+◌, ◌*◌, ◌-◌, ◌%◌, ◌≤◌, ◌<◌, pos, length, Some, None}
 use Rattle.record.specs.declared.answers.Answer.TheVariants.{Refused}
 use Rattle.record.specs.declared.answers.Refusal.{Refusal}
 use Rattle.record.specs.declared.answers.Refusal.TheVariants.{RegionLength, BadTable, DonorSize, HeapFails, BlockSize, NotLive, NoRoom, NotThere, RunSize, BeyondMending}
@@ -83,8 +82,8 @@ AskedOf ws h q p e = (q ≡ 3 → HoldsBlock ws h p e) × (q ≢ 3 → OnChain w
 -- 12: a run of so many chunks from the one at c meets a chunk whose next one is not found. All is judged on the words as they came:
 -- what the run mends on its way makes no difference
 pub data Lost (ws : List ℕ) (end : ℕ) : ℕ → ℕ → Type 0 where
-  lost_here : {f c : ℕ} → c ≢ end → next_of ws end c ≡ none → Lost ws end (suc f) c
-  lost_later : {f c v : ℕ} → c ≢ end → next_of ws end c ≡ some v → Lost ws end f v → Lost ws end (suc f) c
+  lost_here : {f c : ℕ} → c ≢ end → next_of ws end c ≡ None → Lost ws end (suc f) c
+  lost_later : {f c v : ℕ} → c ≢ end → next_of ws end c ≡ Some v → Lost ws end f v → Lost ws end (suc f) c
 
 -- the reason of each number, for each call that can give it
 pub data Because (ws : List ℕ) (h : Heap) : Call → Refusal → Type 0 where

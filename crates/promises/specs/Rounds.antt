@@ -1,6 +1,6 @@
 -- Rounds (manual 9; document 02, request Two): on a heap that passes, a run of the patrol writes nothing and goes on by exactly the chunks that it was
 -- asked for; from the start the patrol reaches the end in k/f runs, rounded up, for k chunks and f a run, and is at the start again.
-use Rattle.std.specs.Prelude.{◌≡◌, ℕ, zero, suc, ◌+◌, ◌-◌, ◌/◌, ◌≤◌, ◌<◌, length, get_or}
+use Rattle.std.specs.Prelude.{◌≡◌, ℕ, zero, suc, ◌+◌, ◌-◌, ◌/◌, ◌≤◌, ◌<◌, length, get_or, Some, None}
 use Rattle.record.specs.declared.answers.Answer.{Answer}
 use Rattle.record.specs.declared.answers.Answer.TheVariants.{Told}
 use Rattle.record.specs.Heap.{with_patrol}
@@ -20,7 +20,7 @@ place_of s i = get_or (places_of (shape s.words s.heap.bytes)) i 0
 
 -- a run that wrote nothing and moved the patrol's place alone
 abbrev pub moved_to : State → ℕ → ℕ → Left
-moved_to s value c = record { answer = Told value; heap = with_patrol s.heap c; words = s.words }
+moved_to s value c = record { answer = Told (Some value); heap = with_patrol s.heap c; words = s.words }
 
 -- a run of f chunks from the i-th: on to chunk i + f; or through the end chunk, and to the start
 pub record RoundsAt (way : Way) (s : State) : Type 0 where
@@ -48,7 +48,7 @@ pub record Rounds (way : Way) : Type 0 where
   pub each : (s : State) → Passing s → RoundsAt way s
   -- from the start: no run but the last says that the end was handled, and the last leaves all as it was
   pub before : (s : State) → Passing s → s.heap.patrol.0 ≡ 0
-      → (f n : ℕ) → 0 < f → suc n < runs_for (chunks_in s) f → run_answer way f n s ≡ Told 0
+      → (f n : ℕ) → 0 < f → suc n < runs_for (chunks_in s) f → run_answer way f n s ≡ Told (Some 0)
   pub last : (s : State) → Passing s → s.heap.patrol.0 ≡ 0
       → (f n : ℕ) → 0 < f → suc n ≡ runs_for (chunks_in s) f
-      → (run_answer way f n s ≡ Told 1) × (after_runs way f (suc n) s ≡ s)
+      → (run_answer way f n s ≡ Told (Some 1)) × (after_runs way f (suc n) s ≡ s)

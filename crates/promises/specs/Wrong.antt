@@ -1,18 +1,15 @@
 -- Wrong programs (manual 7; document 01, "How far each statement reaches"; document 02, requests One, Two, Four, Five and Six): forty-three ways of
 -- answering that the promises must rule out. Each answers one call, or the questions, wrongly and the other calls by the rules.
-use Rattle.std.specs.Prelude.{Bool, true, false, not, cond, ◌&&◌, List, [], ◌∷◌, ℕ, suc, ◌+◌, ◌-◌, eqb, leb, ltb, ℤ, pos}
-use Rattle.std.proofs.Math.Option.{Option, some, none}
+use Rattle.std.specs.Prelude.{Bool, true, false, not, cond, ◌&&◌, List, [], ◌∷◌, ℕ, suc, ◌+◌, ◌-◌, eqb, leb, ltb, ℤ, pos, Option, Some, None, is_none}
 use Rattle.record.specs.declared.answers.Answer.{Answer}
-use Rattle.record.specs.declared.answers.Answer.TheVariants.{Done, Granted, Returned, Told, ToldNone, Counted, Refused}
+use Rattle.record.specs.declared.answers.Answer.TheVariants.{Done, Granted, Returned, Told, Counted, Refused}
 use Rattle.record.specs.declared.answers.Refusal.TheVariants.{BlockSize, NoRoom}
 use Rattle.lists.specs.Lists.{head_or, last_or, but_last, keep, up_to, on_from, numbers_from, gathered}
 use Rattle.record.specs.declared.heap.Heap.{Heap}
 use Rattle.record.specs.declared.kinds.Kind.{Kind}
 use Rattle.record.specs.declared.kinds.Kind.TheVariants.{Ordinary, Donor}
 use Rattle.record.specs.declared.sources.Source.{Source}
-use Rattle.record.specs.declared.sources.Source.TheVariants.{FromBin, FromDonor, FromTop, Nowhere}
-use Rattle.record.specs.declared.table.Binned.{Binned}
-use Rattle.record.specs.declared.table.Binned.TheVariants.{Bin, NoBin}
+use Rattle.record.specs.declared.sources.Source.TheVariants.{FromBin, FromDonor, FromTop}
 use Rattle.record.specs.Heap.{table_of, with_donor, with_merge, with_patrol}
 use Rattle.record.specs.Table.{least, small, bin_of, small_bins}
 use Rattle.region.specs.declared.Block.{Block}
@@ -21,7 +18,7 @@ use Rattle.rules.specs.Shape.{Entry, entry, shape}
 use Rattle.rules.specs.Kinds.{overhead, ordinary_kind, unused, is_at, outside, size_on}
 use Rattle.rules.specs.Check.{passes, counts_of}
 use Rattle.rules.specs.Draft.{Draft, as_read, with_heap, now_uses, leave, put_between, put_into, on_bin, relink, settle, spot}
-use Rattle.rules.specs.Serve.{need, permitted, from_bin, own_bin, larger_bin, try_donor, try_top, in_order, first_of, nowhere}
+use Rattle.rules.specs.Serve.{need, permitted, from_bin, own_bin, larger_bin, try_donor, try_top, in_order, first_of}
 use Rattle.rules.specs.Cut.{Grant, cut, chunks_of, grant_from}
 use Rattle.rules.specs.Join.{joining, leave_bins, swallowing}
 use Rattle.rules.specs.Allocate.{source_of, cleared, allocate_with}
@@ -122,7 +119,7 @@ idle_free = but_free (λ b ws h. merely (ours (Free b) ws h).answer ws h)
 
 -- 4: every bin is said to have n chunks; the other questions are answered by the rules
 abbrev pub invented_count : ℕ → Way
-invented_count n = but_questions asks_chunk (λ q i ws h. cond (eqb q 1) (merely (Told n) ws h) (asks_bin q i ws h))
+invented_count n = but_questions asks_chunk (λ q i ws h. cond (eqb q 1) (merely (Told (Some n)) ws h) (asks_bin q i ws h))
 
 -- 5: the check says that n bytes are used; its other counts are right
 abbrev pub invented_used : ℕ → Way
@@ -150,7 +147,6 @@ is_refused Done = false
 is_refused (Granted block change) = false
 is_refused (Returned change) = false
 is_refused (Told value) = false
-is_refused ToldNone = false
 is_refused (Counted counts) = false
 is_refused (Refused refusal) = true
 
@@ -179,8 +175,7 @@ abbrev pub retold : (Option ℕ → Answer) → Answer → Answer
 retold tell Done = Done
 retold tell (Granted block change) = Granted block change
 retold tell (Returned change) = Returned change
-retold tell (Told value) = tell (some value)
-retold tell ToldNone = tell none
+retold tell (Told value) = tell value
 retold tell (Counted counts) = Counted counts
 retold tell (Refused refusal) = Refused refusal
 
@@ -192,32 +187,32 @@ but_told tell =
 
 -- 10: 0 is told where there is none, as document 01 had it
 abbrev pub zero_if_none : Option ℕ → Answer
-zero_if_none (some v) = Told v
-zero_if_none none = Told 0
+zero_if_none (Some v) = Told (Some v)
+zero_if_none None = Told (Some 0)
 
 abbrev pub zero_for_none : Way
 zero_for_none = but_told zero_if_none
 
 -- 11: none is told where the value is 0
 abbrev pub none_if_zero : Option ℕ → Answer
-none_if_zero (some v) = cond (eqb v 0) ToldNone (Told v)
-none_if_zero none = ToldNone
+none_if_zero (Some v) = cond (eqb v 0) (Told None) (Told (Some v))
+none_if_zero None = Told None
 
 abbrev pub none_for_zero : Way
 none_for_zero = but_told none_if_zero
 
 -- 12: 0 is told, whatever the question
 abbrev pub always_zero : Way
-always_zero = but_told (λ v. Told 0)
+always_zero = but_told (λ v. Told (Some 0))
 
 -- Allocate with the tries in another order, or with fewer of them: `order` is told whether the need is small, and what the own bin, the larger
 -- bins, the donor and the top have. It is refused for lack of room where these tries find nothing
 abbrev pub Ordering : Type 0
-Ordering = Bool → Source → Source → Source → Source → List Source
+Ordering = Bool → Option Source → Option Source → Option Source → Option Source → List (Option Source)
 
 -- what is found in bins for the need n, given its own bin
 abbrev pub OfBins : Type 0
-OfBins = ℕ → Draft → Binned → Source
+OfBins = ℕ → Draft → Option ℕ → Option Source
 
 abbrev first_of_own : OfBins
 first_of_own n d own = own_bin d.chain d.lists n own
@@ -225,14 +220,14 @@ first_of_own n d own = own_bin d.chain d.lists n own
 abbrev first_of_larger : OfBins
 first_of_larger n d own = larger_bin d.heap d.lists own
 
-abbrev tried : OfBins → OfBins → Ordering → ℕ → Draft → Source
+abbrev tried : OfBins → OfBins → Ordering → ℕ → Draft → Option Source
 tried own larger order n d =
     let h = d.heap in
     let bin = bin_of (table_of h) n in
     first_of (order (small (table_of h) n) (own n d bin) (larger n d bin) (try_donor h d.chain n) (try_top h d.chain n))
 
 -- allocate with another choice of the source, and with another cut
-abbrev but_grant : (ℕ → Draft → Source) → (Source → ℕ → Draft → Grant) → Way
+abbrev but_grant : (ℕ → Draft → Option Source) → (Option Source → ℕ → Draft → Grant) → Way
 but_grant choose cuts =
     but_allocate
     (λ z ws h.
@@ -241,7 +236,7 @@ but_grant choose cuts =
     let source = choose n before in
     let g = cuts source n before in
     left_by ws
-    (judged h (heap_fails ws h ∷ (not (permitted z), BlockSize) ∷ (nowhere source, NoRoom) ∷ []) (made (grants 0 g.granted) g.draft)))
+    (judged h (heap_fails ws h ∷ (not (permitted z), BlockSize) ∷ (is_none source, NoRoom) ∷ []) (made (grants 0 g.granted) g.draft)))
 
 abbrev pub but_tries : OfBins → OfBins → Ordering → Way
 but_tries own larger order = but_grant (tried own larger order) grant_from
@@ -309,8 +304,8 @@ at_the_tail = but_put (λ es e c. false)
 
 -- 18: of the own bin the last chunk that fits is taken
 abbrev pub last_of_own : OfBins
-last_of_own n d (Bin i) = from_bin (last_or 0 (keep (λ c. leb n (size_on d.chain c)) (d.lists i)))
-last_of_own n d NoBin = Nowhere
+last_of_own n d (Some i) = from_bin (last_or 0 (keep (λ c. leb n (size_on d.chain c)) (d.lists i)))
+last_of_own n d None = None
 
 abbrev pub last_that_fits : Way
 last_that_fits = but_tries last_of_own first_of_larger in_order
@@ -321,8 +316,8 @@ larger_before_own = but_order (λ little own larger donor top. larger ∷ in_ord
 
 -- 20: of the larger bins the last chunk is taken, the largest there
 abbrev pub last_of_larger : OfBins
-last_of_larger n d (Bin i) = from_bin (last_or 0 (gathered d.lists (numbers_from (suc i) (d.heap.bins - suc i))))
-last_of_larger n d NoBin = Nowhere
+last_of_larger n d (Some i) = from_bin (last_or 0 (gathered d.lists (numbers_from (suc i) (d.heap.bins - suc i))))
+last_of_larger n d None = None
 
 abbrev pub largest_of_larger : Way
 largest_of_larger = but_tries first_of_own last_of_larger in_order
@@ -341,7 +336,6 @@ changed_by d Done = Done
 changed_by d (Granted block change) = Granted block d
 changed_by d (Returned change) = Returned change
 changed_by d (Told value) = Told value
-changed_by d ToldNone = ToldNone
 changed_by d (Counted counts) = Counted counts
 changed_by d (Refused refusal) = Refused refusal
 
@@ -353,21 +347,21 @@ invented_change d =
     record { answer = changed_by d left.answer; heap = left.heap; words = left.words })
 
 -- 24: of the top all is granted but 24 bytes
-abbrev all_of_top : Source → ℕ → Draft → Grant
-all_of_top (FromBin c) n d = grant_from (FromBin c) n d
-all_of_top FromDonor n d = grant_from FromDonor n d
-all_of_top FromTop n d = grant_from FromTop (size_on d.chain d.heap.top.0 - least) d
-all_of_top Nowhere n d = grant_from Nowhere n d
+abbrev all_of_top : Option Source → ℕ → Draft → Grant
+all_of_top (Some (FromBin c)) n d = grant_from (Some (FromBin c)) n d
+all_of_top (Some FromDonor) n d = grant_from (Some FromDonor) n d
+all_of_top (Some FromTop) n d = grant_from (Some FromTop) (size_on d.chain d.heap.top.0 - least) d
+all_of_top None n d = grant_from None n d
 
 abbrev pub takes_the_top : Way
 takes_the_top = but_grant source_of all_of_top
 
 -- 25: an ordinary chunk is granted whole, however large it is
-abbrev whole_chunk : Source → ℕ → Draft → Grant
-whole_chunk (FromBin c) n d = grant_from (FromBin c) (size_on d.chain c.0) d
-whole_chunk FromDonor n d = grant_from FromDonor n d
-whole_chunk FromTop n d = grant_from FromTop n d
-whole_chunk Nowhere n d = grant_from Nowhere n d
+abbrev whole_chunk : Option Source → ℕ → Draft → Grant
+whole_chunk (Some (FromBin c)) n d = grant_from (Some (FromBin c)) (size_on d.chain c.0) d
+whole_chunk (Some FromDonor) n d = grant_from (Some FromDonor) n d
+whole_chunk (Some FromTop) n d = grant_from (Some FromTop) n d
+whole_chunk None n d = grant_from None n d
 
 abbrev pub never_splits : Way
 never_splits = but_grant source_of whole_chunk
@@ -463,9 +457,9 @@ abbrev pub turns_abin : Way
 turns_abin = but_freed (λ b d. free_block b (turned d))
 
 -- 40: what remains of the donor goes into a bin, and there is no donor any more
-abbrev donor_once : Source → ℕ → Draft → Grant
-donor_once (FromBin c) n d = grant_from (FromBin c) n d
-donor_once FromDonor n d =
+abbrev donor_once : Option Source → ℕ → Draft → Grant
+donor_once (Some (FromBin c)) n d = grant_from (Some (FromBin c)) n d
+donor_once (Some FromDonor) n d =
     let s = spot (is_at d.heap.donor.0) d.chain in
     let parts = cut s.here 0 n in
     let linked = relink s.low (chunks_of parts) s.high d in
@@ -473,8 +467,8 @@ donor_once FromDonor n d =
       granted = parts.granted;
       draft = now_uses 0 parts.granted.size (settle Ordinary parts.above (with_heap (with_donor linked.heap 0) linked));
     }
-donor_once FromTop n d = grant_from FromTop n d
-donor_once Nowhere n d = grant_from Nowhere n d
+donor_once (Some FromTop) n d = grant_from (Some FromTop) n d
+donor_once None n d = grant_from None n d
 
 abbrev pub gives_up_the_donor : Way
 gives_up_the_donor = but_grant source_of donor_once

@@ -12,8 +12,7 @@ use borrow.Author.Tests.{eqb-true, eqb-false, leb-true, leb-false}
 use lib.Dec.{eqb, leb, ltb}
 use lib.ListN.{length, drop}
 use Rattle.lists.proofs.ListsLaws.{Decides, number_is, at_most, less, both, or_else, meaning}
-use Rattle.record.specs.declared.table.Binned.{Binned}
-use Rattle.record.specs.declared.table.Binned.TheVariants.{Bin, NoBin}
+use Rattle.std.specs.Prelude.{Option, Some, None}
 use Rattle.record.specs.Table.{size_at, ValidTable, goes_up, valid_table, Takes, TakenBy, one_on, bin_of, eights_from, takes_bin, SmallBins, small_bins, guide_table}
 
 -- the sizes bs after b are multiples of 8, each greater than the one before
@@ -81,18 +80,18 @@ pub bin_taken : (t : List ℕ) (s : ℕ) → TakenBy t s (bin_of t s)
 bin_taken [] s = λ i h. absurd (omega arith)
 bin_taken (b ∷ bs) s = go (bin_of bs s) (bin_taken bs s) (leb b s) refl
   where
-    go : (r : Binned) → TakenBy bs s r → (n : Bool) → leb b s ≡ n → TakenBy (b ∷ bs) s (one_on r n)
-    go (Bin i) k n e = record { inside = omega (arith, k.inside); not_above = k.not_above; last = above }
+    go : (r : Option ℕ) → TakenBy bs s r → (n : Bool) → leb b s ≡ n → TakenBy (b ∷ bs) s (one_on r n)
+    go (Some i) k n e = record { inside = omega (arith, k.inside); not_above = k.not_above; last = above }
       where
         above : (j : ℕ) → suc i < j → j < suc (length bs) → s < size_at (b ∷ bs) j
         above zero lo hi = absurd (omega arith)
         above (suc j) lo hi = k.last j (omega arith) (omega arith)
-    go NoBin k true e = record { inside = omega arith; not_above = leb-true b s e; last = above }
+    go None k true e = record { inside = omega arith; not_above = leb-true b s e; last = above }
       where
         above : (j : ℕ) → 0 < j → j < suc (length bs) → s < size_at (b ∷ bs) j
         above zero lo hi = absurd (omega arith)
         above (suc j) lo hi = k j (omega arith)
-    go NoBin k false e = above
+    go None k false e = above
       where
         above : (j : ℕ) → j < suc (length bs) → s < size_at (b ∷ bs) j
         above zero hi = leb-false b s e
@@ -100,8 +99,8 @@ bin_taken (b ∷ bs) s = go (bin_of bs s) (bin_taken bs s) (leb b s) refl
 
 module _ (t : List ℕ) where
   -- the bin that it computes takes the size
-  pub bin_takes : {s i : ℕ} → bin_of t s ≡ Bin i → Takes t s i
-  bin_takes {s} e = subst (λ (r : Binned). TakenBy t s r) e (bin_taken t s)
+  pub bin_takes : {s i : ℕ} → bin_of t s ≡ Some i → Takes t s i
+  bin_takes {s} e = subst (λ (r : Option ℕ). TakenBy t s r) e (bin_taken t s)
 
   -- a larger size has no smaller bin; the sizes of a larger bin are larger
   pub bin_grows : {s u i j : ℕ} → Takes t s i → Takes t u j → s ≤ u → i ≤ j
@@ -118,13 +117,13 @@ module _ (t : List ℕ) where
   takes_one a b = let c = bin_grows a b (omega arith) in let d = bin_grows b a (omega arith) in omega arith
 
   -- a size is taken by one bin, or by none
-  pub bin_one : (s : ℕ) (r q : Binned) → TakenBy t s r → TakenBy t s q → r ≡ q
-  bin_one s (Bin i) (Bin j) a b = ap Bin (takes_one a b)
-  bin_one s (Bin i) NoBin a b = let c = b i a.inside in absurd (omega (arith, a.not_above))
-  bin_one s NoBin (Bin j) a b = let c = a j b.inside in absurd (omega (arith, b.not_above))
-  bin_one s NoBin NoBin a b = refl
+  pub bin_one : (s : ℕ) (r q : Option ℕ) → TakenBy t s r → TakenBy t s q → r ≡ q
+  bin_one s (Some i) (Some j) a b = ap Some (takes_one a b)
+  bin_one s (Some i) None a b = let c = b i a.inside in absurd (omega (arith, a.not_above))
+  bin_one s None (Some j) a b = let c = a j b.inside in absurd (omega (arith, b.not_above))
+  bin_one s None None a b = refl
 
-  pub bin_is : (s : ℕ) (r : Binned) → TakenBy t s r → r ≡ bin_of t s
+  pub bin_is : (s : ℕ) (r : Option ℕ) → TakenBy t s r → r ≡ bin_of t s
   bin_is s r k = bin_one s r (bin_of t s) k (bin_taken t s)
 
 -- where a run of eights from `next` ends
@@ -232,20 +231,20 @@ module _ (t : List ℕ) (v : ValidTable t) where
           absurd (omega arith)
 
   -- there is a bin for every size from 24 on
-  pub bin_from : (s : ℕ) → 24 ≤ s → (i : ℕ) × (bin_of t s ≡ Bin i) × Takes t s i
+  pub bin_from : (s : ℕ) → 24 ≤ s → (i : ℕ) × (bin_of t s ≡ Some i) × Takes t s i
   bin_from s h = go (bin_of t s) refl (bin_taken t s)
     where
-      go : (r : Binned) → bin_of t s ≡ r → TakenBy t s r → (i : ℕ) × (bin_of t s ≡ Bin i) × Takes t s i
-      go (Bin i) e k = (i, e, k)
-      go NoBin e k = let a = k 0 (omega (arith, v.some)) in absurd (omega (arith, v.first))
+      go : (r : Option ℕ) → bin_of t s ≡ r → TakenBy t s r → (i : ℕ) × (bin_of t s ≡ Some i) × Takes t s i
+      go (Some i) e k = (i, e, k)
+      go None e k = let a = k 0 (omega (arith, v.some)) in absurd (omega (arith, v.first))
 
   -- a smaller size has none
-  pub none_takes : (s : ℕ) → s < 24 → TakenBy t s NoBin
+  pub none_takes : (s : ℕ) → s < 24 → TakenBy t s None
   none_takes s h zero l = omega (arith, v.first)
   none_takes s h (suc i) l = let a = table_up 0 (suc i) (omega arith) l in omega (arith, v.first)
 
-  pub bin_none : (s : ℕ) → s < 24 → bin_of t s ≡ NoBin
-  bin_none s h = sym (bin_is t s NoBin (none_takes s h))
+  pub bin_none : (s : ℕ) → s < 24 → bin_of t s ≡ None
+  bin_none s h = sym (bin_is t s None (none_takes s h))
 
   -- the small array: the bin of a size is found by division
   pub division_takes : (s : ℕ) → 24 ≤ s → s < 24 + 8 * small_bins t → Takes t s (s / 8 - 3)
@@ -266,8 +265,8 @@ module _ (t : List ℕ) (v : ValidTable t) where
               let up = table_up (suc (s / 8 - 3)) j (omega arith) h in
               omega arith
 
-  pub bin_small : (s : ℕ) → 24 ≤ s → s < 24 + 8 * small_bins t → bin_of t s ≡ Bin (s / 8 - 3)
-  bin_small s lo hi = sym (bin_is t s (Bin (s / 8 - 3)) (division_takes s lo hi))
+  pub bin_small : (s : ℕ) → 24 ≤ s → s < 24 + 8 * small_bins t → bin_of t s ≡ Some (s / 8 - 3)
+  bin_small s lo hi = sym (bin_is t s (Some (s / 8 - 3)) (division_takes s lo hi))
 
   -- a bin of the small array takes one multiple of 8 only
   pub one_size : {s i : ℕ} → Takes t s i → i < small_bins t → s % 8 ≡ 0 → s ≡ 24 + 8 * i
@@ -278,11 +277,11 @@ module _ (t : List ℕ) (v : ValidTable t) where
       omega (arith, k.not_above, k.last (suc i) (omega arith) (omega (arith, m.below)))
 
   -- the comparison with two sizes decides which bin a size has
-  pub takes_iff : (i s : ℕ) → Decides (takes_bin t i s) (bin_of t s ≡ Bin i)
+  pub takes_iff : (i s : ℕ) → Decides (takes_bin t i s) (bin_of t s ≡ Some i)
   unfolding takes_bin
   takes_iff i s =
       meaning (both (both (less i (length t)) (at_most (size_at t i) s)) (or_else (at_most (length t) (suc i)) (less s (size_at t (suc i)))))
-      (λ ((inside, not_above), next). sym (bin_is t s (Bin i) (record { inside = inside; not_above = not_above; last = λ j lo hi. above next j lo hi })))
+      (λ ((inside, not_above), next). sym (bin_is t s (Some i) (record { inside = inside; not_above = not_above; last = λ j lo hi. above next j lo hi })))
       (λ e. back (bin_takes t e))
     where
       above : (length t ≤ suc i) ⊎ (s < size_at t (suc i)) → (j : ℕ) → i < j → j < length t → s < size_at t j

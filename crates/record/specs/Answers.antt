@@ -1,8 +1,8 @@
 -- The number of each refusal, and the figures that each answer stands for
 -- (manual 5, 6; document 01, "Numbers of refusal", "The calls", "The check"; document 02, request One: an answer of none).
-use Rattle.std.specs.Prelude.{Bool, true, false, ℕ, ℤ, pos}
+use Rattle.std.specs.Prelude.{Bool, true, false, ℕ, ℤ, pos, Some, None}
 use Rattle.record.specs.declared.answers.Answer.{Answer}
-use Rattle.record.specs.declared.answers.Answer.TheVariants.{Done, Granted, Returned, Told, ToldNone, Counted, Refused}
+use Rattle.record.specs.declared.answers.Answer.TheVariants.{Done, Granted, Returned, Told, Counted, Refused}
 use Rattle.record.specs.declared.answers.Counts.{Counts}
 use Rattle.record.specs.declared.answers.Refusal.{Refusal}
 use Rattle.record.specs.declared.answers.Refusal.TheVariants.{RegionLength, BadTable, DonorSize, HeapFails, BlockSize, NotLive, NoRoom, NotThere, RunSize, BeyondMending}
@@ -42,7 +42,7 @@ abbrev pub figures_of : Answer → Figures
 figures_of Done = figures 0 0 0 false (pos 0) no_counts
 figures_of (Granted block change) = figures 0 block.0 0 false change no_counts
 figures_of (Returned change) = figures 0 0 0 false change no_counts
-figures_of (Told value) = figures 0 0 value false (pos 0) no_counts
-figures_of ToldNone = figures 0 0 0 true (pos 0) no_counts
+figures_of (Told (Some value)) = figures 0 0 value false (pos 0) no_counts
+figures_of (Told None) = figures 0 0 0 true (pos 0) no_counts
 figures_of (Counted counts) = figures 0 0 0 false (pos 0) counts
 figures_of (Refused refusal) = figures (number_of refusal) 0 0 false (pos 0) no_counts

@@ -3,6 +3,7 @@
 -- every other definition names the fields that it uses.
 use Rattle.std.specs.Prelude.{ℕ, Bool, false, List, replicate, take}
 use Rattle.region.specs.declared.Chunk.{Chunk}
+use Rattle.record.specs.declared.heap.Ends.{Ends}
 use Rattle.record.specs.declared.heap.Heap.{Heap}
 use Rattle.record.specs.declared.heap.Summary.{Summary}
 
@@ -46,6 +47,10 @@ summary_of h =
       used = h.used;
       patrol = h.patrol;
     }
+
+-- the heads and tails of the record
+abbrev pub ends_of : Heap → Ends
+ends_of h = record { heads = h.heads; tails = h.tails }
 
 -- the record of a summary and of the sizes, heads and tails of the bins; every setter of the record is made of it
 abbrev pub record_of : Summary → List ℕ → List ℕ → List ℕ → Heap

@@ -1,3 +1,4 @@
 pub mod Heap
 pub mod Answers
+pub mod Questions
 pub mod Table

@@ -1,8 +1,6 @@
 -- The bin table (manual 3.1, 3.2; document 01, "The bin table and the record"): which tables are valid, the bin of a size, the small array.
-use Rattle.std.specs.Prelude.{◌≡◌, Bool, true, false, cond, ◌&&◌, ◌||◌, List, [], ◌∷◌, ℕ, suc, ◌+◌, ◌*◌, ◌%◌, ◌≤◌, ◌<◌, eqb, leb, ltb, length, get_or, drop}
+use Rattle.std.specs.Prelude.{◌≡◌, Bool, true, false, cond, ◌&&◌, ◌||◌, List, [], ◌∷◌, ℕ, suc, ◌+◌, ◌*◌, ◌%◌, ◌≤◌, ◌<◌, eqb, leb, ltb, length, get_or, drop, Option, Some, None}
 use Rattle.record.specs.Heap.{places}
-use Rattle.record.specs.declared.table.Binned.{Binned}
-use Rattle.record.specs.declared.table.Binned.TheVariants.{Bin, NoBin}
 
 -- the first bin's size, and the least size of a chunk other than start and end
 abbrev pub least : ℕ
@@ -46,19 +44,19 @@ pub record TakenWithin (t : List ℕ) (s low width : ℕ) : Type 0 where
   pub below : bin < low + width
 
 -- what `bin_of`'s answer means: bin i takes the size s; or every bin's size is above s
-abbrev pub TakenBy : List ℕ → ℕ → Binned → Type 0
-TakenBy t s (Bin i) = Takes t s i
-TakenBy t s NoBin = (i : ℕ) → i < length t → s < size_at t i
+abbrev pub TakenBy : List ℕ → ℕ → Option ℕ → Type 0
+TakenBy t s (Some i) = Takes t s i
+TakenBy t s None = (i : ℕ) → i < length t → s < size_at t i
 
 -- a step of `bin_of`: the bin found in the rest of the table, counted one higher; else the first bin, if its size is not above
-abbrev pub one_on : Binned → Bool → Binned
-one_on (Bin i) not_above = Bin (suc i)
-one_on NoBin true = Bin 0
-one_on NoBin false = NoBin
+abbrev pub one_on : Option ℕ → Bool → Option ℕ
+one_on (Some i) not_above = Some (suc i)
+one_on None true = Some 0
+one_on None false = None
 
 -- the bin that takes the size s, computed
-abbrev pub bin_of : List ℕ → ℕ → Binned
-bin_of [] s = NoBin
+abbrev pub bin_of : List ℕ → ℕ → Option ℕ
+bin_of [] s = None
 bin_of (b ∷ bs) s = one_on (bin_of bs s) (leb b s)
 
 -- `Takes` as a test, right for a valid table: s is at least bin i's size and below the next bin's

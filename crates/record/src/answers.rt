@@ -1,4 +1,4 @@
-// What calls answer: one enum for all of them, the refusals by name, and the paper's figures for each case.
+// What calls answer: one enum for all of them, and the refusals by name.
 // When each is given is in the rules.
 ghost use Rattle.std.specs.Prelude.{◌≡◌};
 ghost use Rattle.record.specs.Answers.{number_of};
@@ -6,18 +6,19 @@ ghost use Rattle.record.specs.Answers.{number_of};
 use crate::heap::Heap;
 use region::Block;
 
+// The numbers are the paper's.
 #[derive(Clone, Copy)]
 pub enum Refusal {
-    RegionLength,
-    BadTable,
-    DonorSize,
-    HeapFails,
-    BlockSize,
-    NotLive,
-    NoRoom,
-    NotThere,
-    RunSize,
-    BeyondMending,
+    RegionLength = 1,
+    BadTable = 2,
+    DonorSize = 3,
+    HeapFails = 4,
+    BlockSize = 5,
+    NotLive = 6,
+    NoRoom = 7,
+    NotThere = 8,
+    RunSize = 10,
+    BeyondMending = 12,
 }
 
 // The check's four figures.
@@ -34,9 +35,8 @@ pub enum Answer {
     Done,
     Granted(Block, i32),
     Returned(i32),
-    Told(u32),
-    // A question's answer where there is no such chunk, block or bin. It is not a value of 0: that names the start, or the first bin.
-    ToldNone,
+    // A value, or none where there is no such chunk, block or bin. None is not a value of 0: that names the start, or the first bin.
+    Told(Option<u32>),
     Counted(Counts),
     Refused(Refusal),
 }
@@ -48,20 +48,10 @@ pub struct Reply {
     pub heap: Heap,
 }
 
-// The paper's number.
-pub fn number(refusal: Refusal) -> u32
-    ensures { result ≡ number_of refusal }
-{
-    match refusal {
-        Refusal::RegionLength => 1,
-        Refusal::BadTable => 2,
-        Refusal::DonorSize => 3,
-        Refusal::HeapFails => 4,
-        Refusal::BlockSize => 5,
-        Refusal::NotLive => 6,
-        Refusal::NoRoom => 7,
-        Refusal::NotThere => 8,
-        Refusal::RunSize => 10,
-        Refusal::BeyondMending => 12,
+impl From<Refusal> for u32 {
+    ghost from_gives = { λ refusal n. n ≡ number_of refusal };
+
+    fn from(refusal: Refusal) -> u32 {
+        refusal as u32
     }
 }

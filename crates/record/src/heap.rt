@@ -1,7 +1,8 @@
 // The record: a struct by value, with a setter for what grants and frees change, one for the merge setting and one for the patrol's
-// place; and its summary, which is the record without its arrays. What the fields must be for a heap to pass is in the rules.
+// place; its summary, which is the record without its arrays; and the ends of its bins. What the fields must be for a heap to pass is in
+// the rules.
 ghost use Rattle.std.specs.Prelude.{◌≡◌};
-ghost use Rattle.record.specs.Heap.{donor_now, empty, patrol_now, summary_of, top_now, used_now, with_ends, with_merge, with_patrol, with_summary};
+ghost use Rattle.record.specs.Heap.{donor_now, empty, ends_of, patrol_now, summary_of, top_now, used_now, with_ends, with_merge, with_patrol, with_summary};
 
 use region::Chunk;
 
@@ -35,72 +36,36 @@ pub struct Summary {
     pub patrol: Chunk,
 }
 
-// The setters name every field, so that the compiler copies fields and not the struct: a copy of the struct reads `merge` and `used` at
-// once, and the processor has to wait where they were stored one by one just before.
+// The ends of the bins' lists: what a grant or a free changes beside the scalars.
+#[derive(Clone, Copy)]
+pub struct Ends {
+    pub heads: [u32; PLACES],
+    pub tails: [u32; PLACES],
+}
+
 impl Summary {
     pub fn with_donor(self, donor: Chunk) -> Self
         ensures { result ≡ donor_now self donor.0 }
     {
-        let top = self.top;
-        let patrol = self.patrol;
-        Self {
-            bytes: self.bytes,
-            bins: self.bins,
-            donor: donor,
-            top: top,
-            merge: self.merge,
-            used: self.used,
-            patrol: patrol,
-        }
+        Self { donor, ..self }
     }
 
     pub fn with_top(self, top: Chunk) -> Self
         ensures { result ≡ top_now self top.0 }
     {
-        let donor = self.donor;
-        let patrol = self.patrol;
-        Self {
-            bytes: self.bytes,
-            bins: self.bins,
-            donor: donor,
-            top: top,
-            merge: self.merge,
-            used: self.used,
-            patrol: patrol,
-        }
+        Self { top, ..self }
     }
 
     pub fn with_used(self, used: u32) -> Self
         ensures { result ≡ used_now self used }
     {
-        let donor = self.donor;
-        let top = self.top;
-        let patrol = self.patrol;
-        Self {
-            bytes: self.bytes,
-            bins: self.bins,
-            donor: donor,
-            top: top,
-            merge: self.merge,
-            used: used,
-            patrol: patrol,
-        }
+        Self { used, ..self }
     }
 
     pub fn with_patrol(self, patrol: Chunk) -> Self
         ensures { result ≡ patrol_now self patrol.0 }
     {
-        let donor = self.donor;
-        let top = self.top;
-        Self {
-            bytes: self.bytes,
-            bins: self.bins,
-            donor: donor,
-            top: top,
-            merge: self.merge,
-            used: self.used,
-            patrol: patrol,
-        }
+        Self { patrol, ..self }
     }
 }
 
@@ -126,39 +91,43 @@ impl Heap {
     pub fn summary(self) -> Summary
         ensures { result ≡ summary_of self }
     {
-        let donor = self.donor;
-        let top = self.top;
-        let patrol = self.patrol;
         Summary {
             bytes: self.bytes,
             bins: self.bins,
-            donor: donor,
-            top: top,
+            donor: self.donor,
+            top: self.top,
             merge: self.merge,
             used: self.used,
-            patrol: patrol,
+            patrol: self.patrol,
         }
     }
 
-    // All that a grant or a free changes: the heads and tails of the bins' lists, and the scalars.
-    pub fn with_books(self, heads: [u32; PLACES], tails: [u32; PLACES], summary: Summary) -> Self
-        ensures { result ≡ with_ends (with_summary self summary) heads tails }
+    pub fn ends(self) -> Ends
+        ensures { result ≡ ends_of self }
     {
-        let donor = summary.donor;
-        let top = summary.top;
-        let patrol = summary.patrol;
+        let heads = self.heads;
+        let tails = self.tails;
+        Ends { heads, tails }
+    }
+
+    // All that a grant or a free changes.
+    pub fn with_books(self, ends: Ends, summary: Summary) -> Self
+        ensures { result ≡ with_ends (with_summary self summary) ends.heads ends.tails }
+    {
         let sizes = self.sizes;
+        let heads = ends.heads;
+        let tails = ends.tails;
         Self {
             bytes: summary.bytes,
             bins: summary.bins,
-            sizes: sizes,
-            heads: heads,
-            tails: tails,
-            donor: donor,
-            top: top,
+            sizes,
+            heads,
+            tails,
+            donor: summary.donor,
+            top: summary.top,
             merge: summary.merge,
             used: summary.used,
-            patrol: patrol,
+            patrol: summary.patrol,
         }
     }
 

@@ -1,5 +1,5 @@
 // The kinds of a chunk. Which kind a chunk has is in the rules.
-#[derive(Clone, Copy)]
+#[derive(Clone, Copy, PartialEq, Eq)]
 pub enum Kind {
     Start,
     InUse,

@@ -1,26 +1,63 @@
-// The numbers of the questions. What is answered to each is in the rules.
-// About a chunk; the third alone is asked of a block.
-pub const ASK_BIN: u32 = 1;
+// The questions by their numbers, which a caller gives. What is answered to each is in the rules.
+ghost use Rattle.record.specs.Questions.{AsksBin, AsksChunk};
 
-pub const ASK_BLOCK: u32 = 2;
-
+// The chunk of a live block: this one is asked of a block's place, every other question of a chunk's.
 pub const ASK_CHUNK: u32 = 3;
 
-pub const ASK_NEXT: u32 = 4;
+#[derive(Clone, Copy)]
+pub enum ChunkQuestion {
+    Bin = 1,
+    Block = 2,
+    Next = 4,
+    NextInBin = 5,
+    Previous = 6,
+    PreviousInBin = 7,
+    Size = 8,
+    Type = 9,
+}
 
-pub const ASK_NEXT_IN_BIN: u32 = 5;
+#[derive(Clone, Copy)]
+pub enum BinQuestion {
+    Count = 1,
+    First = 2,
+    Last = 3,
+}
 
-pub const ASK_PREVIOUS: u32 = 6;
+// A number that names no question.
+#[derive(Clone, Copy)]
+pub struct NoQuestion(pub u32);
 
-pub const ASK_PREVIOUS_IN_BIN: u32 = 7;
+impl TryFrom<u32> for ChunkQuestion {
+    type Error = NoQuestion;
 
-pub const ASK_SIZE: u32 = 8;
+    ghost try_from_gives = { AsksChunk };
 
-pub const ASK_TYPE: u32 = 9;
+    fn try_from(number: u32) -> Result<Self, NoQuestion> {
+        match number {
+            1 => Ok(Self::Bin),
+            2 => Ok(Self::Block),
+            4 => Ok(Self::Next),
+            5 => Ok(Self::NextInBin),
+            6 => Ok(Self::Previous),
+            7 => Ok(Self::PreviousInBin),
+            8 => Ok(Self::Size),
+            9 => Ok(Self::Type),
+            _ => Err(NoQuestion(number)),
+        }
+    }
+}
 
-// About a bin.
-pub const ASK_COUNT: u32 = 1;
+impl TryFrom<u32> for BinQuestion {
+    type Error = NoQuestion;
 
-pub const ASK_FIRST: u32 = 2;
+    ghost try_from_gives = { AsksBin };
 
-pub const ASK_LAST: u32 = 3;
+    fn try_from(number: u32) -> Result<Self, NoQuestion> {
+        match number {
+            1 => Ok(Self::Count),
+            2 => Ok(Self::First),
+            3 => Ok(Self::Last),
+            _ => Err(NoQuestion(number)),
+        }
+    }
+}

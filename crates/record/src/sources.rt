@@ -6,5 +6,4 @@ pub enum Source {
     FromBin(Chunk),
     FromDonor,
     FromTop,
-    Nowhere,
 }

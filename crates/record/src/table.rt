@@ -1,4 +1,4 @@
-// The bin table, lent as a slice: whether it is valid, which bins and sizes are the small array's, and the bin of a size.
+// The bin table, lent: whether it is valid, which bins and sizes are the small array's, and the bin of a size.
 // Which chunks are in a bin is not known here.
 ghost use Rattle.std.specs.Prelude.{◌≡◌, ltb};
 ghost use Rattle.record.specs.Table.{ValidTable, valid_table, small_bins, small, Takes, TakenBy, TakenWithin};
@@ -13,18 +13,11 @@ const SECOND: usize = LEAST as usize + STEP;
 
 const FIRST_EIGHTS: usize = LEAST as usize / STEP;
 
-// The bin of a size, or none where every bin is for larger ones.
-#[derive(Clone, Copy)]
-pub enum Binned {
-    Bin(usize),
-    NoBin,
-}
-
 // The loop has no early exit, so that the compiler can test several sizes at a time.
 pub fn valid(table: &[u32]) -> bool
     ensures { result ≡ valid_table table.now }
 {
-    if table.len() == 0 {
+    if table.is_empty() {
         return false;
     }
     if PLACES < table.len() {
@@ -35,38 +28,57 @@ pub fn valid(table: &[u32]) -> bool
     }
     let mut right = true;
     let mut before = LEAST;
-    let mut i = 1;
-    while i < table.len() {
-        let size = table[i];
+    for &size in &table[1..] {
         right = right & (size % ALIGNMENT == 0) & (before < size);
         before = size;
-        i += 1;
     }
     right
 }
 
-// Whether the bin is one of the small array's. m is not counted: sizes go up by 8 at least, so that bin i + 1 has the size
-// 24 + 8(i + 1) only where no size is left out below it.
-pub fn in_small_array(table: &[u32], bin: usize) -> bool
-    requires { ValidTable table.now }
-    ensures { result ≡ ltb bin (small_bins table.now) }
-{
-    if table.len() - 1 <= bin {
-        return false;
-    }
-    table[bin + 1] as usize == SECOND + STEP * bin
+// The sizes of a valid table: a function that is handed one need not ask whether it is valid.
+#[derive(Clone, Copy)]
+pub struct Table<'a> {
+    pub sizes: &'a [u32],
+    ghost valid: { ValidTable sizes.now },
 }
 
-// Whether the size is one of the small array's: its bin would be, by the division.
-pub fn is_small(table: &[u32], size: u32) -> bool
-    requires { ValidTable table.now }
-    ensures { result ≡ small table.now size }
-{
-    let eights = (size / ALIGNMENT) as usize;
-    if eights < FIRST_EIGHTS {
-        return true;
+impl<'a> Table<'a> {
+    // Whether the bin is one of the small array's. m is not counted: sizes go up by 8 at least, so that bin i + 1 has the size
+    // 24 + 8(i + 1) only where no size is left out below it.
+    pub fn in_small_array(self, bin: usize) -> bool
+        ensures { result ≡ ltb bin (small_bins self.entry.sizes.now) }
+    {
+        if self.sizes.len() - 1 <= bin {
+            return false;
+        }
+        self.sizes[bin + 1] as usize == SECOND + STEP * bin
     }
-    in_small_array(table, eights - FIRST_EIGHTS)
+
+    // Whether the size is one of the small array's: its bin would be, by the division.
+    pub fn is_small(self, size: u32) -> bool
+        ensures { result ≡ small self.entry.sizes.now size }
+    {
+        let eights = (size / ALIGNMENT) as usize;
+        if eights < FIRST_EIGHTS {
+            return true;
+        }
+        self.in_small_array(eights - FIRST_EIGHTS)
+    }
+
+    // None where every bin is for larger sizes. Else the guide's two rules: the bin of a small size by division, that of any other by
+    // halving. The first range is the whole table, since m is not known: no bin of the small array is above such a size, so that the search
+    // goes up past the small array.
+    pub fn bin_of(self, size: u32) -> Option<usize>
+        ensures { TakenBy self.entry.sizes.now size result }
+    {
+        if size < LEAST {
+            return None;
+        }
+        if self.is_small(size) {
+            return Some((size / ALIGNMENT) as usize - FIRST_EIGHTS);
+        }
+        Some(upper_bin(&self.sizes, size, 0, self.sizes.len()))
+    }
 }
 
 // Binary search: one of the `width` bins from `low` on takes the size, and the range is halved until one bin is left.
@@ -90,20 +102,4 @@ fn upper_bin(table: &&[u32], size: u32, low: usize, width: usize) -> usize
         return low;
     }
     upper_bin(table, size, low, half)
-}
-
-// The guide's two rules: the bin of a small size by division, that of any other by halving. The first range is the whole table,
-// since m is not known: no bin of the small array is above such a size, so that the search goes up past the small array.
-pub fn bin_of(table: &[u32], size: u32) -> Binned
-    requires { ValidTable table.now }
-    ensures { TakenBy table.now size result }
-{
-    if size < LEAST {
-        return Binned::NoBin;
-    }
-    if is_small(table, size) {
-        return Binned::Bin((size / ALIGNMENT) as usize - FIRST_EIGHTS);
-    }
-    let bins = table.len();
-    Binned::Bin(upper_bin(&table, size, 0, bins))
 }

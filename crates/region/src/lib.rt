@@ -7,10 +7,10 @@ ghost use Rattle.region.specs.Places.{block_at, chunk_at};
 ghost use Rattle.region.specs.Words.{backward, forward, word, store};
 
 // A chunk's place and a block's place, both byte offsets: eight bytes apart, and never mixed, since each has a type of its own.
-#[derive(Clone, Copy)]
+#[derive(Clone, Copy, PartialEq, Eq)]
 pub struct Chunk(pub u32);
 
-#[derive(Clone, Copy)]
+#[derive(Clone, Copy, PartialEq, Eq)]
 pub struct Block(pub u32);
 
 // The words of a header by number. A chunk in use has the first two alone.

@@ -1,4 +1,5 @@
 -- A live block gets another size as the rule says: it stays, gives its tail back, moves, or is refused for room (`resize_is`). Assumes nothing.
+use Rattle.std.specs.Prelude.{is_none}
 use Rattle.std.proofs.Common.{◌≡◌, ℕ, ◌+◌, ◌-◌, ◌%◌, ◌^◌, ◌<◌, ◌≤◌, Bool, true, false, List, sym, refl, ap, ◌∙◌, arith, le-ltb, lt-ltb, le-leb}
 use native.Mathlib.Decide.{dec_lt}
 use borrow.Author.Tests.{lt-leb}
@@ -15,7 +16,7 @@ use Rattle.rules.specs.Free.{is_live, block_spot, free_block}
 use Rattle.rules.specs.Kinds.{overhead, block_of}
 use Rattle.rules.specs.Outcome.{made, grants}
 use Rattle.rules.specs.Reallocate.{resize, resized}
-use Rattle.rules.specs.Serve.{need, permitted, nowhere}
+use Rattle.rules.specs.Serve.{need, permitted}
 use Rattle.rules.specs.Shape.{Entry, chunk_end, shape}
 use Rattle.rules.specs.Statements.{left_by}
 use Rattle.rules.proofs.CheckLaws.{passes_iff}
@@ -96,13 +97,13 @@ module _ (ws : List ℕ) (h : Heap) (q : passes ws h ≡ true) (z : ℕ) (k : pe
 
   -- the block moves, if something can serve
   module _ (less : e.size < n) where
-    refuses : nowhere (source_of n (as_read ws h)) ≡ true → AsRuled
+    refuses : is_none (source_of n (as_read ws h)) ≡ true → AsRuled
     unfolding resize_m move_m resize
     refuses none =
         let i = measured in
         rw (i.size, lt-ltb e.size n less, choose_is ws h well n, none, q, k, l)
 
-    module _ (some : nowhere (source_of n (as_read ws h)) ≡ false) where
+    module _ (some : is_none (source_of n (as_read ws h)) ≡ false) where
       abbrev g : Grant
       g = grant n (as_read ws h)
 
@@ -139,9 +140,9 @@ module _ (ws : List ℕ) (h : Heap) (q : passes ws h ≡ true) (z : ℕ) (k : pe
       moves = code_moves ∙ sym (ap (left_by ws) rule_moves)
 
   pub resize_is : resize_m ws (table_of h) h p n ≡ left_by ws (resize ws h b z)
-  resize_is = by (dec_lt e.size n) (dec_lt e.size (n + 24)) (nowhere (source_of n (as_read ws h))) refl
+  resize_is = by (dec_lt e.size n) (dec_lt e.size (n + 24)) (is_none (source_of n (as_read ws h))) refl
     where
-      by : Dec (e.size < n) → Dec (e.size < n + 24) → (t : Bool) → nowhere (source_of n (as_read ws h)) ≡ t
+      by : Dec (e.size < n) → Dec (e.size < n + 24) → (t : Bool) → is_none (source_of n (as_read ws h)) ≡ t
           → AsRuled
       by (yes u) d true t = refuses u t
       by (yes u) d false t = moves u t

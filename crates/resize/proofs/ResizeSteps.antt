@@ -1,4 +1,5 @@
 -- Where a live block gets another size, what the code's calls come to, over plain variables. Assumes nothing.
+use Rattle.std.specs.Prelude.{Option, Some, None, is_none}
 use Rattle.std.proofs.Common.{◌≡◌, ℕ, ◌+◌, ◌-◌, ◌/◌, ◌%◌, ◌^◌, ◌<◌, ◌≤◌, Bool, true, false, List, ℤ, sym, w32, to_z, of_z, le-ltb, lt-ltb, le-leb}
 use borrow.Author.Tests.{lt-leb}
 use Rattle.blocks.specs.Blocks.{copied_m}
@@ -15,7 +16,6 @@ use Rattle.region.specs.declared.Block.{Block}
 use Rattle.region.specs.Places.{block_at}
 use Rattle.region.specs.Words.{store, forward}
 use Rattle.release.specs.Give.{state, given_up_m}
-use Rattle.rules.specs.Serve.{nowhere}
 use Rattle.rules.specs.Statements.{Left, replied}
 use Rattle.seek.specs.declared.Place.{Place}
 use Rattle.replies.specs.Replies.{reply, refused_reply, change_m}
@@ -51,8 +51,8 @@ module _ {ws table : List ℕ} {h : Heap} {p : Place} {n : ℕ} where
   shrunk_by er es eg {size} ez eb ec =
       record { is = rw (ec, change_kept size n, ez, eb, sym er, sym es, sym eg) }
 
-  module _ {s₀ : Summary} (e₀ : s₀ ≡ summary_of h) {source : Source} (e : source ≡ choose_m ws table h.heads s₀ n)
-      {t : Bool} (et : t ≡ nowhere source) where
+  module _ {s₀ : Summary} (e₀ : s₀ ≡ summary_of h) {source : Option Source} (e : source ≡ choose_m ws table h.heads s₀ n)
+      {t : Bool} (et : t ≡ is_none source) where
     pub moved_nowhere : t ≡ true → {r : Reply} → r ≡ refused_reply h NoRoom → Moves ws table h p n (replied r ws)
     unfolding move_m
     moved_nowhere q er = record { is = rw (er, ← e₀, sym e, sym et, q) }

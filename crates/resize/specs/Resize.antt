@@ -1,5 +1,5 @@
 -- What giving a live block another size leaves, as the code makes it: these definitions mirror the code. The rules say what a call leaves.
-use Rattle.std.specs.Prelude.{ℕ, ◌+◌, ◌-◌, ◌/◌, ◌%◌, ◌^◌, cond, List, nat_le, nat_lt}
+use Rattle.std.specs.Prelude.{ℕ, ◌+◌, ◌-◌, ◌/◌, ◌%◌, ◌^◌, cond, List, nat_le, nat_lt, Option, Some, None, is_none}
 use Rattle.blocks.specs.Blocks.{copied_m}
 use Rattle.grant.specs.Choose.{choose_m}
 use Rattle.grant.specs.Serve.{AfterGrant, served_m}
@@ -13,7 +13,6 @@ use Rattle.region.specs.Places.{block_at}
 use Rattle.region.specs.Words.{word, store, forward, backward}
 use Rattle.release.specs.Give.{given_up_m}
 use Rattle.rules.specs.Calls.{State}
-use Rattle.rules.specs.Serve.{nowhere}
 use Rattle.rules.specs.Statements.{Left}
 use Rattle.seek.specs.declared.Place.{Place}
 use Rattle.seek.specs.Seek.{size_in}
@@ -39,8 +38,8 @@ moved_m table p l =
 
 unfoldable pub move_m : List ℕ → List ℕ → Heap → Place → ℕ → Left
 move_m ws table h p n =
-    let source : Source = choose_m ws table h.heads (summary_of h) n in
-    cond (nowhere source) (left (Refused NoRoom) h ws) (moved_m table p (served_m ws table h source n))
+    let source : Option Source = choose_m ws table h.heads (summary_of h) n in
+    cond (is_none source) (left (Refused NoRoom) h ws) (moved_m table p (served_m ws table h source n))
 
 unfoldable pub resize_m : List ℕ → List ℕ → Heap → Place → ℕ → Left
 resize_m ws table h p n =

@@ -10,8 +10,7 @@ use Rattle.lists.specs.Lists.{Mem, head_or, last_or}
 use Rattle.lists.proofs.ListsLaws.{Decides, number_is, at_most, less, meaning, both, if_then, for_each, for_some, for_below, is_member, once, itself, zeros_from}
 use Rattle.lists.proofs.AscendingLaws.{ascending_iff}
 use Rattle.record.specs.declared.heap.Heap.{Heap}
-use Rattle.record.specs.declared.table.Binned.{Binned}
-use Rattle.record.specs.declared.table.Binned.TheVariants.{Bin, NoBin}
+use Rattle.std.specs.Prelude.{Option, Some, None}
 use Rattle.record.specs.Heap.{table_of}
 use Rattle.record.specs.Table.{bin_of, small_bins}
 use Rattle.record.proofs.TableLaws.{valid_iff}
@@ -98,10 +97,10 @@ module _ (ws : List ℕ) (h : Heap) where
       (λ ((previous, next), rest). (previous, next, rest))
       (λ (previous, next, rest). ((previous, next), rest))
 
-  bin_iff : (i : ℕ) (r : Binned) → Decides (is_bin i r) (r ≡ Bin i)
-  bin_iff i (Bin j) =
+  bin_iff : (i : ℕ) (r : Option ℕ) → Decides (is_bin i r) (r ≡ Some i)
+  bin_iff i (Some j) =
       meaning (number_is i j) (λ e. rw e refl) (λ e. cc)
-  bin_iff i NoBin = (λ t. absurd (false≢true t), λ e. cc)
+  bin_iff i None = (λ t. absurd (false≢true t), λ e. cc)
 
   belongs_iff : (i : ℕ) (e : Entry) → Decides (belongs_to h i e) (BelongsTo h i e)
   belongs_iff i e = both (itself (ordinary h e)) (bin_iff i (bin_of (table_of h) e.size))
@@ -120,13 +119,13 @@ module _ (ws : List ℕ) (h : Heap) where
       record { tail = tail; links = links; once = once; chunks = chunks; words = words; order = order })
       (λ f. (((((f.tail, f.links), f.once), f.chunks), f.words), f.order))
 
-  in_bin_iff : (c : ℕ) (r : Binned)
-      → Decides (in_bin ws h c r) ((i : ℕ) × (r ≡ Bin i) × ((i < h.bins) × Mem c (bin_list ws h i)))
-  in_bin_iff c (Bin j) =
+  in_bin_iff : (c : ℕ) (r : Option ℕ)
+      → Decides (in_bin ws h c r) ((i : ℕ) × (r ≡ Some i) × ((i < h.bins) × Mem c (bin_list ws h i)))
+  in_bin_iff c (Some j) =
       meaning (both (less j h.bins) (is_member c (bin_list ws h j)))
       (λ t. (j, refl, t))
       (λ f. let e : f.0 ≡ j = cc f.1 in rw e at f.2)
-  in_bin_iff c NoBin = (λ t. absurd (false≢true t), λ f. cc f.1)
+  in_bin_iff c None = (λ t. absurd (false≢true t), λ f. cc f.1)
 
   passes_as_iff : (es : List Entry) → Decides (passes_as ws h es) (PassesAs ws h es)
   unfolding passes_as

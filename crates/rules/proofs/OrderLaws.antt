@@ -15,7 +15,7 @@ use Rattle.lists.proofs.CountLaws.{gathered_ascending}
 use Rattle.lists.proofs.ListsLaws.{number_is, for_some}
 use Rattle.lists.proofs.SplitLaws.{first_splits, in_split}
 use Rattle.record.specs.declared.heap.Heap.{Heap}
-use Rattle.record.specs.declared.table.Binned.TheVariants.{Bin}
+use Rattle.std.specs.Prelude.{Some}
 use Rattle.record.specs.Heap.{table_of}
 use Rattle.record.specs.Table.{ValidTable, bin_of, small_bins}
 use Rattle.record.proofs.TableLaws.{bin_takes, sizes_grow, one_size}
@@ -33,7 +33,7 @@ size_there from es up e m c q =
     ap (λ (d : Entry). d.size) (same_place from es up found m (eqb-true _ c holds ∙ sym q))
 
 module _ (table : List ℕ) (valid : ValidTable table) (i : ℕ) (size : ℕ → ℕ) (cs : List ℕ)
-    (takes : (c : ℕ) → Mem c cs → bin_of table (size c) ≡ Bin i) (eights : (c : ℕ) → Mem c cs → size c % 8 ≡ 0) where
+    (takes : (c : ℕ) → Mem c cs → bin_of table (size c) ≡ Some i) (eights : (c : ℕ) → Mem c cs → size c % 8 ≡ 0) where
   -- all members of a small bin have one size
   small_in_order : i < small_bins table → Ascending size cs
   small_in_order l = before_ascending size cs (λ x y b. let (m, k) = before_members x y cs b in let p = only x m in let q = only y k in omega arith)

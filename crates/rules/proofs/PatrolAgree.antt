@@ -4,7 +4,7 @@
 use mathlib.Core.Path.{◌≡◌, refl, sym, ap, ◌∙◌}
 use mathlib.Core.Bool.{Bool, true, false, cond, not, ◌&&◌, ◌||◌}
 use mathlib.Core.List.{List, []}
-use mathlib.Core.Option.{some}
+use Rattle.std.specs.Prelude.{Some}
 use Prim.Native.Nat.{ℕ, zero, suc, ◌+◌, ◌-◌, ◌/◌, ◌%◌, ◌≤◌, ◌<◌}
 use native.Mathlib.Decide.{dec_lt}
 use native.Mathlib.Omega.{arith}
@@ -105,7 +105,7 @@ module _ (end c : ℕ) (ws vs : List ℕ) (eights : c % 8 ≡ 0) (last : end % 8
       go : (t : Bool) → broken ws end c (word ws c forward) ≡ t → next_of vs end c ≡ next_of ws end c
       go true b =
           next_sought vs end c (same ∙ b) ∙ seek_agrees end end l (omega arith) last ∙ sym (next_sought ws end c b)
-      go false b = next_believed vs end c (same ∙ b) ∙ ap some a.link ∙ sym (next_believed ws end c b)
+      go false b = next_believed vs end c (same ∙ b) ∙ ap Some a.link ∙ sym (next_believed ws end c b)
 
   module _ (v : ℕ) (n : NextPlace end c v) where
     own_agrees : own vs c v ≡ own ws c v

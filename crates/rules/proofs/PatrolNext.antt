@@ -3,7 +3,8 @@
 use mathlib.Core.Path.{◌≡◌, refl, sym, ◌∙◌}
 use mathlib.Core.Bool.{Bool, true, false, not, ◌&&◌, ◌||◌, true≢false, false≢true}
 use mathlib.Core.List.{List}
-use mathlib.Core.Option.{some, some-injective}
+use Rattle.std.specs.Prelude.{Some}
+use Rattle.std.proofs.lemmas.Option.{same_Some}
 use Prim.Native.Nat.{ℕ, ◌+◌, ◌%◌, ◌≤◌, ◌<◌}
 use native.Mathlib.Omega.{arith}
 use lib.Dec.{eqb, ltb}
@@ -64,7 +65,7 @@ module _ (ws : List ℕ) (end c v : ℕ) where
       rw (le-ltb end v n.inside, eq-eqb (v % 8) 0 n.eights, le-ltb v (c + least_size c) n.room, b.no_skip)
 
 module _ (ws : List ℕ) (end c : ℕ) where
-  pub next_believed : broken ws end c (word ws c forward) ≡ false → next_of ws end c ≡ some (word ws c forward)
+  pub next_believed : broken ws end c (word ws c forward) ≡ false → next_of ws end c ≡ Some (word ws c forward)
   unfolding next_of
   next_believed h = rw (h, next_of)
 
@@ -77,7 +78,7 @@ module _ (ws : List ℕ) (end c : ℕ) where
     by_link : word ws c forward ≡ v → skips ws c v ≡ false → NextBy v
     by_walk : broken ws end c (word ws c forward) ≡ true → back_offset ws v ≡ c → NextBy v
 
-  pub next_by : end % 8 ≡ 0 → (v : ℕ) → next_of ws end c ≡ some v → NextPlace end c v × NextBy v
+  pub next_by : end % 8 ≡ 0 → (v : ℕ) → next_of ws end c ≡ Some v → NextPlace end c v × NextBy v
   next_by e v h = go (broken ws end c (word ws c forward)) refl
     where
       go : (t : Bool) → broken ws end c (word ws c forward) ≡ t → NextPlace end c v × NextBy v
@@ -85,9 +86,9 @@ module _ (ws : List ℕ) (end c : ℕ) where
           let (place, back) = seek_finds ws end c end end (omega arith) e v (sym (next_sought b) ∙ h) in
           (place, by_walk b back)
       go false b =
-          let same = some-injective (word ws c forward) v (sym (next_believed b) ∙ h) in
+          let same = same_Some (word ws c forward) v (sym (next_believed b) ∙ h) in
           let u : Believed ws end c v = rw same at (unbroken ws end c (word ws c forward) b) in
           (u.place, by_link same u.no_skip)
 
-  pub next_place : end % 8 ≡ 0 → (v : ℕ) → next_of ws end c ≡ some v → NextPlace end c v
+  pub next_place : end % 8 ≡ 0 → (v : ℕ) → next_of ws end c ≡ Some v → NextPlace end c v
   next_place e v h = (next_by e v h).0

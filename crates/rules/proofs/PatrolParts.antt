@@ -6,7 +6,8 @@ use mathlib.Core.Path.{◌≡◌, refl, sym, ap, ap₂, ◌∙◌}
 use mathlib.Core.Logic.{◌≢◌}
 use mathlib.Core.Bool.{Bool, true, false, false≢true}
 use mathlib.Core.List.{List, [], ◌++◌, append_assoc}
-use mathlib.Core.Option.{Option, some, none, some-injective, none-ne-some}
+use Rattle.std.specs.Prelude.{Option, Some, None}
+use Rattle.std.proofs.lemmas.Option.{same_Some, none-some}
 use Prim.Native.Nat.{ℕ, zero, suc, ◌+◌, ◌-◌, ◌/◌, ◌%◌, ◌≤◌, ◌<◌}
 use native.Mathlib.Nat.{zero-add, suc-add}
 use native.Mathlib.Omega.{arith}
@@ -20,38 +21,38 @@ use Rattle.rules.proofs.PatrolRun.{run_ends, run_lost, run_on, Handling, ends, l
 
 -- a run goes on with g chunks more, unless it handled the end chunk
 abbrev pub onward : ℕ → List ℕ → ℕ → Option Patrolled → Option Patrolled
-onward g ws end none = none
-onward g ws end (some r) =
-    elim r.ended [ true ↦ some r | false ↦ goes_on r.stores (patrol_from g (written ws r.stores) end r.place) ]
+onward g ws end None = None
+onward g ws end (Some r) =
+    elim r.ended [ true ↦ Some r | false ↦ goes_on r.stores (patrol_from g (written ws r.stores) end r.place) ]
 
 -- no stores before a run; stores in two parts
 pub goes_on_none : (o : Option Patrolled) → goes_on [] o ≡ o
-goes_on_none none = refl
-goes_on_none (some r) = refl
+goes_on_none None = refl
+goes_on_none (Some r) = refl
 
 goes_on_both : (ss ts : List Store) (o : Option Patrolled) → goes_on (ss ++ ts) o ≡ goes_on ss (goes_on ts o)
-goes_on_both ss ts none = refl
-goes_on_both ss ts (some r) = ap (λ (us : List Store). some (patrolled r.place r.ended us)) (append_assoc ss ts r.stores)
+goes_on_both ss ts None = refl
+goes_on_both ss ts (Some r) = ap (λ (us : List Store). Some (patrolled r.place r.ended us)) (append_assoc ss ts r.stores)
 
 -- what a run came to, where it had these stores before the rest
-pub went_on : (ss : List Store) (o : Option Patrolled) (c : ℕ) (t : Bool) (us : List Store) → goes_on ss o ≡ some (patrolled c t us)
-    → (ts : List Store) × (o ≡ some (patrolled c t ts)) × (us ≡ ss ++ ts)
-went_on ss none c t us q = absurd (none-ne-some _ q)
-went_on ss (some r) c t us q =
-    let e = some-injective _ _ q in (
+pub went_on : (ss : List Store) (o : Option Patrolled) (c : ℕ) (t : Bool) (us : List Store) → goes_on ss o ≡ Some (patrolled c t us)
+    → (ts : List Store) × (o ≡ Some (patrolled c t ts)) × (us ≡ ss ++ ts)
+went_on ss None c t us q = absurd (none-some _ q)
+went_on ss (Some r) c t us q =
+    let e = same_Some _ _ q in (
       r.stores,
-      ap₂ (λ (d : ℕ) (u : Bool). some (patrolled d u r.stores)) (ap (λ (x : Patrolled). x.place) e) (ap (λ (x : Patrolled). x.ended) e),
+      ap₂ (λ (d : ℕ) (u : Bool). Some (patrolled d u r.stores)) (ap (λ (x : Patrolled). x.place) e) (ap (λ (x : Patrolled). x.ended) e),
       sym (ap (λ (x : Patrolled). x.stores) e),
     )
 
 -- what goes on after stores goes on on the words that they leave
 onward_after : (ss : List Store) (g : ℕ) (ws : List ℕ) (end : ℕ) (o : Option Patrolled)
     → onward g ws end (goes_on ss o) ≡ goes_on ss (onward g (written ws ss) end o)
-onward_after ss g ws end none = refl
-onward_after ss g ws end (some r) = go r.place r.ended r.stores
+onward_after ss g ws end None = refl
+onward_after ss g ws end (Some r) = go r.place r.ended r.stores
   where
     go : (c : ℕ) (t : Bool) (ts : List Store)
-        → onward g ws end (some (patrolled c t (ss ++ ts))) ≡ goes_on ss (onward g (written ws ss) end (some (patrolled c t ts)))
+        → onward g ws end (Some (patrolled c t (ss ++ ts))) ≡ goes_on ss (onward g (written ws ss) end (Some (patrolled c t ts)))
     go c true ts = refl
     go c false ts = rw (written_append ss ts ws) (goes_on_both ss ts (patrol_from g (written (written ws ss) ts) end c))
 
@@ -71,12 +72,12 @@ run_parts (suc f) g ws end c = rw (suc-add f g) (go (handling ws end c) (λ v. r
         ∙ ap (onward g ws end) (sym (run_on ws end c f n v q))
 
 -- a run that did not handle the end chunk, and one after it
-pub run_then : (f g : ℕ) (ws : List ℕ) (end c d : ℕ) (ss : List Store) → patrol_from f ws end c ≡ some (patrolled d false ss)
+pub run_then : (f g : ℕ) (ws : List ℕ) (end c d : ℕ) (ss : List Store) → patrol_from f ws end c ≡ Some (patrolled d false ss)
     → patrol_from (f + g) ws end c ≡ goes_on ss (patrol_from g (written ws ss) end d)
 run_then f g ws end c d ss h = run_parts f g ws end c ∙ ap (onward g ws end) h
 
-pub run_more : (f g : ℕ) (ws : List ℕ) (end c d : ℕ) (ss : List Store) → patrol_from f ws end c ≡ some (patrolled d true ss)
-    → patrol_from (f + g) ws end c ≡ some (patrolled d true ss)
+pub run_more : (f g : ℕ) (ws : List ℕ) (end c d : ℕ) (ss : List Store) → patrol_from f ws end c ≡ Some (patrolled d true ss)
+    → patrol_from (f + g) ws end c ≡ Some (patrolled d true ss)
 run_more f g ws end c d ss h = run_parts f g ws end c ∙ ap (onward g ws end) h
 
 -- the words into which a run from c on writes: from c's own on, up to the end chunk's, and not c's backward link, the start's apart
@@ -102,7 +103,7 @@ module _ (end : ℕ) (last : end % 8 ≡ 0) where
       fall_both (From end c) (mends ws c v) ss (mends_from ws c v n)
       (fall_so (From end v) (From end c) (λ i b. record { above = omega arith; not_back = λ k w. omega arith; inside = b.inside }) ss rest)
 
-  pub run_fall : (f : ℕ) (ws : List ℕ) (c : ℕ) (r : Patrolled) → patrol_from f ws end c ≡ some r → Fall (From end c) r.stores
+  pub run_fall : (f : ℕ) (ws : List ℕ) (c : ℕ) (r : Patrolled) → patrol_from f ws end c ≡ Some r → Fall (From end c) r.stores
   run_fall f ws c r h =
       run_by end last (λ us d t. Fall (From end d) t.stores) (λ us d. tt) (λ us. tt)
       (λ us d v t n q rest. falls_on us d v n t.stores rest) f ws c r h
@@ -114,7 +115,7 @@ pub record NextTime (end : ℕ) (r : Patrolled) : Type 0 where
   pub start : r.ended ≡ true → r.place ≡ 0
 
 pub run_place : (end : ℕ) → end % 8 ≡ 0 → (f : ℕ) (ws : List ℕ) (c : ℕ) → c % 8 ≡ 0 → c ≤ end
-    → (r : Patrolled) → patrol_from f ws end c ≡ some r → NextTime end r
+    → (r : Patrolled) → patrol_from f ws end c ≡ Some r → NextTime end r
 run_place end last f ws c e l r h =
     run_by end last (λ us d t. d % 8 ≡ 0 → d ≤ end → NextTime end t)
     (λ us d e l. record { eights = e; inside = l; start = λ q. absurd (false≢true q) })
@@ -128,16 +129,16 @@ module _ (ws : List ℕ) (end c v : ℕ) (n : NextPlace end c v) (r : Right ws c
   right_back : back_offset ws v ≡ c
   right_back = let b = r.back in let e : word ws v backward - word ws v backward % 8 ≡ c = omega arith in e
 
-  pub next_right : next_of ws end c ≡ some v
+  pub next_right : next_of ws end c ≡ Some v
   next_right =
       let link = r.link in
       let b = believed ws end c v (record { place = n; no_skip = no_skip_lem ws c v (let q = right_back in omega arith) }) in
-      next_believed ws end c (rw link b) ∙ ap some link
+      next_believed ws end c (rw link b) ∙ ap Some link
 
   pub run_right : (f : ℕ) → patrol_from (suc f) ws end c ≡ patrol_from f ws end v
   run_right f =
       let up = next_above n in
       let inside = n.inside in
-      let none = mends_none ws c v r in
+      let None = mends_none ws c v r in
       run_on ws end c f (λ q. omega arith) v next_right
-      ∙ rw none (goes_on_none _)
+      ∙ rw None (goes_on_none _)

@@ -4,7 +4,7 @@
 use mathlib.Core.Path.{◌≡◌, refl}
 use mathlib.Core.Bool.{false, not, cond, ◌&&◌, true≢false}
 use mathlib.Core.List.{List}
-use mathlib.Core.Option.{Option, some, none}
+use Rattle.std.specs.Prelude.{Option, Some, None}
 use Prim.Native.Nat.{ℕ, ◌+◌, ◌-◌, ◌*◌, ◌/◌, ◌%◌, ◌≤◌, ◌<◌}
 use native.Mathlib.Omega.{arith}
 use lib.Dec.{eqb}
@@ -52,14 +52,14 @@ module _ (ws : List ℕ) (h : Heap) (chunks : ℕ) where
       (λ (_, (heap, _)). go ((ready_iff ws h).0 (not-false (fits ws h && placed h) heap)) (patrol_run ws h chunks) refl)
     where
       go : Ready ws h → (o : Option Patrolled) → patrol_run ws h chunks ≡ o → Below (length ws / 2 * 2) (ran h o).stores
-      go r none q = tt
-      go r (some t) q =
+      go r None q = tt
+      go r (Some t) q =
           let e = end_is ws h r.fits in
           fall_so (From (h.bytes - 8) h.patrol.0) (λ i. i < length ws / 2 * 2) (λ i b. omega arith) t.stores
           (run_fall (h.bytes - 8) e.eights chunks ws h.patrol.0 t q)
 
   -- an accepted run
-  pub patrol_runs : Ready ws h → 0 < chunks → (r : Patrolled) → patrol_run ws h chunks ≡ some r → patrol ws h chunks ≡ ran h (some r)
+  pub patrol_runs : Ready ws h → 0 < chunks → (r : Patrolled) → patrol_run ws h chunks ≡ Some r → patrol ws h chunks ≡ ran h (Some r)
   unfolding patrol
   patrol_runs k l r q = rw (ne_eqb chunks 0 (λ z. omega arith), (ready_iff ws h).1 k, q)
 
@@ -68,23 +68,23 @@ module _ (ws : List ℕ) (h : Heap) (chunks : ℕ) where
     pub ready : Ready ws h
     pub asked : 0 < chunks
     pub run : Patrolled
-    pub found : patrol_run ws h chunks ≡ some run
+    pub found : patrol_run ws h chunks ≡ Some run
     pub value_is : value ≡ cond run.ended 1 0
 
-  pub patrol_told : (value : ℕ) → (patrol ws h chunks).answer ≡ Told value → Ran value
+  pub patrol_told : (value : ℕ) → (patrol ws h chunks).answer ≡ Told (Some value) → Ran value
   unfolding patrol
   patrol_told value =
-      judged_so (λ o. o.answer ≡ Told value → Ran value) h (ran h (patrol_run ws h chunks)) (patrol_refusals ws h chunks)
+      judged_so (λ o. o.answer ≡ Told (Some value) → Ran value) h (ran h (patrol_run ws h chunks)) (patrol_refusals ws h chunks)
       (λ r q. absurd (no_refusal r q))
       (λ (run, (heap, (lost, _))) q. go run heap (patrol_run ws h chunks) refl lost q)
     where
-      no_refusal : (r : Refusal) → Refused r ≡ Told value → ⊥
+      no_refusal : (r : Refusal) → Refused r ≡ Told (Some value) → ⊥
       no_refusal r q = let z : ◌≡◌ {A = ℕ} 0 1 = cc in omega arith
 
       go : eqb chunks 0 ≡ false → not (fits ws h && placed h) ≡ false → (o : Option Patrolled) → patrol_run ws h chunks ≡ o
-          → is_lost o ≡ false → (ran h o).answer ≡ Told value → Ran value
-      go run heap none e lost q = absurd (true≢false lost)
-      go run heap (some r) e lost q =
+          → is_lost o ≡ false → (ran h o).answer ≡ Told (Some value) → Ran value
+      go run heap None e lost q = absurd (true≢false lost)
+      go run heap (Some r) e lost q =
           record {
             ready = (ready_iff ws h).0 (not-false _ heap);
             asked = let n = eqb-false chunks 0 run in omega arith;

@@ -4,7 +4,8 @@
 use mathlib.Core.Path.{◌≡◌, refl, sym, ap, ap₂, ◌∙◌}
 use mathlib.Core.Bool.{true, false}
 use mathlib.Core.List.{List, [], ◌++◌}
-use mathlib.Core.Option.{Option, some, none, some-injective, none-ne-some}
+use Rattle.std.specs.Prelude.{Option, Some, None}
+use Rattle.std.proofs.lemmas.Option.{same_Some, none-some}
 use Prim.Native.Nat.{ℕ, zero, suc, ◌+◌, ◌/◌, ◌%◌, ◌≤◌, ◌<◌}
 use native.Mathlib.Decide.{ℕ_discrete}
 use native.Mathlib.Omega.{arith}
@@ -20,74 +21,74 @@ use Rattle.rules.proofs.PatrolAgree.{AgreeFrom, agree_same, next_agrees, mends_a
 
 -- the run on the words as they came, with nothing written on the way
 abbrev pub plan : ℕ → List ℕ → ℕ → ℕ → Option Patrolled
-plan zero ws end c = some (patrolled c false [])
+plan zero ws end c = Some (patrolled c false [])
 plan (suc chunks) ws end c =
     elim (eqb c end) [
-      | true ↦ some (patrolled 0 true [])
+      | true ↦ Some (patrolled 0 true [])
       | false ↦ elim (next_of ws end c) [
-        | none ↦ none
-        | some v ↦ goes_on (mends ws c v) (plan chunks ws end v)
+        | None ↦ None
+        | Some v ↦ goes_on (mends ws c v) (plan chunks ws end v)
       ]
     ]
 
 -- the next chunk to be handled is the one at c
 module _ (ws : List ℕ) (end c f : ℕ) where
-  pub run_ends : c ≡ end → patrol_from (suc f) ws end c ≡ some (patrolled 0 true [])
+  pub run_ends : c ≡ end → patrol_from (suc f) ws end c ≡ Some (patrolled 0 true [])
   run_ends q = rw (eq-eqb c end q, patrol_from)
 
-  pub run_lost : (c ≡ end → ⊥) → next_of ws end c ≡ none → patrol_from (suc f) ws end c ≡ none
+  pub run_lost : (c ≡ end → ⊥) → next_of ws end c ≡ None → patrol_from (suc f) ws end c ≡ None
   run_lost n q = rw (ne_eqb c end n, q, patrol_from)
 
-  pub run_on : (c ≡ end → ⊥) → (v : ℕ) → next_of ws end c ≡ some v
+  pub run_on : (c ≡ end → ⊥) → (v : ℕ) → next_of ws end c ≡ Some v
       → patrol_from (suc f) ws end c ≡ goes_on (mends ws c v) (patrol_from f (handled ws c v) end v)
   run_on n v q = rw (ne_eqb c end n, q, patrol_from)
 
-  pub plan_ends : c ≡ end → plan (suc f) ws end c ≡ some (patrolled 0 true [])
+  pub plan_ends : c ≡ end → plan (suc f) ws end c ≡ Some (patrolled 0 true [])
   plan_ends q = rw (eq-eqb c end q, plan)
 
-  pub plan_lost : (c ≡ end → ⊥) → next_of ws end c ≡ none → plan (suc f) ws end c ≡ none
+  pub plan_lost : (c ≡ end → ⊥) → next_of ws end c ≡ None → plan (suc f) ws end c ≡ None
   plan_lost n q = rw (ne_eqb c end n, q, plan)
 
-  pub plan_on : (c ≡ end → ⊥) → (v : ℕ) → next_of ws end c ≡ some v → plan (suc f) ws end c ≡ goes_on (mends ws c v) (plan f ws end v)
+  pub plan_on : (c ≡ end → ⊥) → (v : ℕ) → next_of ws end c ≡ Some v → plan (suc f) ws end c ≡ goes_on (mends ws c v) (plan f ws end v)
   plan_on n v q = rw (ne_eqb c end n, q, plan)
 
 -- which of these it is
 module _ (ws : List ℕ) (end c : ℕ) where
   pub data Handling : Type 0 where
     ends : c ≡ end → Handling
-    lost : (c ≡ end → ⊥) → next_of ws end c ≡ none → Handling
-    on : (c ≡ end → ⊥) → (v : ℕ) → next_of ws end c ≡ some v → Handling
+    lost : (c ≡ end → ⊥) → next_of ws end c ≡ None → Handling
+    on : (c ≡ end → ⊥) → (v : ℕ) → next_of ws end c ≡ Some v → Handling
 
   pub handling : Handling
   handling = go (ℕ_discrete c end) (next_of ws end c) refl
     where
       go : Dec (c ≡ end) → (o : Option ℕ) → next_of ws end c ≡ o → Handling
       go (yes q) o e = ends q
-      go (no n) none e = lost n e
-      go (no n) (some v) e = on n v e
+      go (no n) None e = lost n e
+      go (no n) (Some v) e = on n v e
 
 -- induction along a run that comes to something: P holds of it, from the words ws and the chunk at c, if it holds of a run that has no
 -- chunk left, of one at the end chunk, and passes from the rest of a run to the run with one more chunk before
 module _ (end : ℕ) (last : end % 8 ≡ 0) (P : List ℕ → ℕ → Patrolled → Type 0)
     (spent : (ws : List ℕ) (c : ℕ) → P ws c (patrolled c false []))
     (over : (ws : List ℕ) → P ws end (patrolled 0 true []))
-    (more : (ws : List ℕ) (c v : ℕ) (r : Patrolled) → NextPlace end c v → next_of ws end c ≡ some v → P (handled ws c v) v r
+    (more : (ws : List ℕ) (c v : ℕ) (r : Patrolled) → NextPlace end c v → next_of ws end c ≡ Some v → P (handled ws c v) v r
     → P ws c (patrolled r.place r.ended (mends ws c v ++ r.stores))) where
-  pub run_by : (f : ℕ) (ws : List ℕ) (c : ℕ) (r : Patrolled) → patrol_from f ws end c ≡ some r → P ws c r
-  run_by zero ws c r h = rw (← some-injective _ _ h) (spent ws c)
+  pub run_by : (f : ℕ) (ws : List ℕ) (c : ℕ) (r : Patrolled) → patrol_from f ws end c ≡ Some r → P ws c r
+  run_by zero ws c r h = rw (← same_Some _ _ h) (spent ws c)
   run_by (suc f) ws c r h = go (handling ws end c) (λ v. run_by f (handled ws c v) v)
     where
       Rest : Type 0
-      Rest = (v : ℕ) (t : Patrolled) → patrol_from f (handled ws c v) end v ≡ some t → P (handled ws c v) v t
+      Rest = (v : ℕ) (t : Patrolled) → patrol_from f (handled ws c v) end v ≡ Some t → P (handled ws c v) v t
 
-      rest : (v : ℕ) → next_of ws end c ≡ some v → (o : Option Patrolled) → patrol_from f (handled ws c v) end v ≡ o
-          → goes_on (mends ws c v) o ≡ some r → Rest → P ws c r
-      rest v n none e q g = absurd (none-ne-some r q)
-      rest v n (some t) e q g = rw (← some-injective _ _ q) (more ws c v t (next_place ws end c last v n) n (g v t e))
+      rest : (v : ℕ) → next_of ws end c ≡ Some v → (o : Option Patrolled) → patrol_from f (handled ws c v) end v ≡ o
+          → goes_on (mends ws c v) o ≡ Some r → Rest → P ws c r
+      rest v n None e q g = absurd (none-some r q)
+      rest v n (Some t) e q g = rw (← same_Some _ _ q) (more ws c v t (next_place ws end c last v n) n (g v t e))
 
       go : Handling ws end c → Rest → P ws c r
-      go (ends q) g = rw (← some-injective _ _ (sym (run_ends ws end c f q) ∙ h), q) (over ws)
-      go (lost n q) g = absurd (none-ne-some r (sym (run_lost ws end c f n q) ∙ h))
+      go (ends q) g = rw (← same_Some _ _ (sym (run_ends ws end c f q) ∙ h), q) (over ws)
+      go (lost n q) g = absurd (none-some r (sym (run_lost ws end c f n q) ∙ h))
       go (on n v q) g = rest v q (patrol_from f (handled ws c v) end v) refl (sym (run_on ws end c f n v q) ∙ h) g
 
 module _ (end : ℕ) (last : end % 8 ≡ 0) where

@@ -4,7 +4,8 @@
 use mathlib.Core.Path.{◌≡◌, refl, sym, ◌∙◌}
 use mathlib.Core.Bool.{Bool, true, false, ◌||◌}
 use mathlib.Core.List.{List}
-use mathlib.Core.Option.{some, none, some-injective, none-ne-some}
+use Rattle.std.specs.Prelude.{Some, None}
+use Rattle.std.proofs.lemmas.Option.{same_Some, none-some}
 use Prim.Native.Nat.{ℕ, zero, suc, ◌+◌, ◌-◌, ◌/◌, ◌%◌, ◌≤◌, ◌<◌}
 use native.Mathlib.Decide.{ℕ_discrete, dec_lt}
 use native.Mathlib.Omega.{arith}
@@ -34,16 +35,16 @@ module _ (ws : List ℕ) (c x : ℕ) where
   abbrev below : ℕ
   below = back_offset ws x
 
-  pub seek_near : x < below + least_size below → (k : ℕ) → seek_from k ws c x ≡ none
+  pub seek_near : x < below + least_size below → (k : ℕ) → seek_from k ws c x ≡ None
   seek_near l zero = refl
   seek_near l (suc k) = rw (seek_from, lt-ltb x (below + least_size below) l)
 
-  pub seek_low : below < c → (k : ℕ) → seek_from k ws c x ≡ none
+  pub seek_low : below < c → (k : ℕ) → seek_from k ws c x ≡ None
   seek_low l zero = refl
   seek_low l (suc k) = rw (seek_from, lt-ltb below c l, either_true (ltb x (below + least_size below)))
 
   module _ (far : below + least_size below ≤ x) where
-    pub seek_here : below ≡ c → (k : ℕ) → seek_from (suc k) ws c x ≡ some x
+    pub seek_here : below ≡ c → (k : ℕ) → seek_from (suc k) ws c x ≡ Some x
     seek_here q k = rw (seek_from, le-ltb x (below + least_size below) far, le-ltb below c (omega arith), eq-eqb below c q)
 
     pub seek_down : c < below → (k : ℕ) → seek_from (suc k) ws c x ≡ seek_from k ws c below
@@ -96,18 +97,18 @@ module _ {end c v : ℕ} (n : NextPlace end c v) where
   next_far l = let s = least_above c l in let r = n.room in omega arith
 
 -- what the walk finds is such a place, and its backward link names c
-pub seek_finds : (ws : List ℕ) (end c k x : ℕ) → x ≤ end → x % 8 ≡ 0 → (v : ℕ) → seek_from k ws c x ≡ some v
+pub seek_finds : (ws : List ℕ) (end c k x : ℕ) → x ≤ end → x % 8 ≡ 0 → (v : ℕ) → seek_from k ws c x ≡ Some v
     → NextPlace end c v × (back_offset ws v ≡ c)
-seek_finds ws end c zero x l e v f = absurd (none-ne-some v f)
+seek_finds ws end c zero x l e v f = absurd (none-some v f)
 seek_finds ws end c (suc k) x l e v f =
     go (step ws c x) (λ a. seek_finds ws end c k (back_offset ws x) a (back_eights ws x) v)
   where
     go : Step ws c x
-        → (back_offset ws x ≤ end → seek_from k ws c (back_offset ws x) ≡ some v → NextPlace end c v × (back_offset ws v ≡ c))
+        → (back_offset ws x ≤ end → seek_from k ws c (back_offset ws x) ≡ Some v → NextPlace end c v × (back_offset ws v ≡ c))
         → NextPlace end c v × (back_offset ws v ≡ c)
-    go (near m) g = absurd (none-ne-some v (sym (seek_near ws c x m (suc k)) ∙ f))
-    go (low m) g = absurd (none-ne-some v (sym (seek_low ws c x m (suc k)) ∙ f))
+    go (near m) g = absurd (none-some v (sym (seek_near ws c x m (suc k)) ∙ f))
+    go (low m) g = absurd (none-some v (sym (seek_low ws c x m (suc k)) ∙ f))
     go (here a q) g =
-        let same = some-injective x v (sym (seek_here ws c x a q k) ∙ f) in
+        let same = same_Some x v (sym (seek_here ws c x a q k) ∙ f) in
         rw (← same) (record { eights = e; room = rw q at a; inside = l }, q)
     go (down a m) g = g (omega arith) (sym (seek_down ws c x a m k) ∙ f)

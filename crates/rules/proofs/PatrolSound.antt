@@ -3,7 +3,7 @@
 use mathlib.Core.Path.{◌≡◌, refl, sym, ap, subst, ◌∙◌}
 use mathlib.Core.Bool.{Bool, true, false}
 use mathlib.Core.List.{List, [], ◌∷◌, ◌++◌}
-use mathlib.Core.Option.{Option, some}
+use Rattle.std.specs.Prelude.{Option, Some}
 use Prim.Native.Nat.{ℕ, zero, suc, ◌+◌, ◌-◌, ◌%◌, ◌≤◌, ◌<◌}
 use native.Mathlib.Decide.{ℕ_discrete, dec_lt}
 use native.Mathlib.Omega.{arith}
@@ -117,14 +117,14 @@ module _ (ws : List ℕ) (h : Heap) (p : Passes ws h) where
   run_steps e m l f = run_right ws end e.place (chunk_end e) (chunk_next e m l) (chunk_right e m l) f
 
   pub run_last : (e : Entry) → Mem e es → (e.place + 8 < h.bytes → ⊥) → (f : ℕ)
-      → patrol_from (suc f) ws end e.place ≡ some (patrolled 0 true [])
+      → patrol_from (suc f) ws end e.place ≡ Some (patrolled 0 true [])
   run_last e m n f = run_ends ws end e.place f (chunk_last e m n)
 
   -- a run from a chunk writes nothing, and its next place is a chunk's
   pub record Quiet (f c : ℕ) : Type 0 where
     pub place : ℕ
     pub ended : Bool
-    pub run : patrol_from f ws end c ≡ some (patrolled place ended [])
+    pub run : patrol_from f ws end c ≡ Some (patrolled place ended [])
     pub chunk : (e : Entry) × Mem e es × (e.place ≡ place)
 
   pub run_quiet : (f : ℕ) (e : Entry) → Mem e es → Quiet f e.place
@@ -151,7 +151,7 @@ module _ (ws : List ℕ) (h : Heap) (p : Passes ws h) where
 
   -- P holds of the outcome of a run if it holds of every refusal, and of a run that moved the patrol's place to a chunk and wrote nothing
   pub patrol_so : (P : Outcome → Type 0) → ((r : Refusal) → P (refused h r))
-      → ((c : ℕ) (ended : Bool) → ((e : Entry) × Mem e es × (e.place ≡ c)) → P (ran h (some (patrolled c ended []))))
+      → ((c : ℕ) (ended : Bool) → ((e : Entry) × Mem e es × (e.place ≡ c)) → P (ran h (Some (patrolled c ended []))))
       → (f : ℕ) → P (patrol ws h f)
   unfolding patrol patrol_run
   patrol_so P refuses runs f =

@@ -1,5 +1,5 @@
 -- Allocate and cleared allocate (manual 5.2, 5.3; document 01, "The calls"); refusals 4, 5, 7.
-use Rattle.std.specs.Prelude.{Bool, not, List, [], ◌∷◌, map, ℕ, ◌*◌}
+use Rattle.std.specs.Prelude.{Bool, not, List, [], ◌∷◌, map, ℕ, ◌*◌, Option, Some, None, is_none}
 use Rattle.lists.specs.Lists.{numbers_from}
 use Rattle.record.specs.declared.answers.Refusal.{Refusal}
 use Rattle.record.specs.declared.answers.Refusal.TheVariants.{BlockSize, NoRoom}
@@ -8,13 +8,13 @@ use Rattle.record.specs.declared.sources.Source.{Source}
 use Rattle.region.specs.Words.{Store, put}
 use Rattle.rules.specs.Shape.{Entry}
 use Rattle.rules.specs.Kinds.{overhead, block_of, block_words}
-use Rattle.rules.specs.Serve.{need, permitted, chosen, nowhere}
+use Rattle.rules.specs.Serve.{need, permitted, chosen}
 use Rattle.rules.specs.Draft.{Draft, as_read, also_writes}
 use Rattle.rules.specs.Cut.{Grant, grant_from}
 use Rattle.rules.specs.Outcome.{Outcome, Refusals, judged, heap_fails, made, grants}
 
 -- the source chosen for n bytes
-abbrev pub source_of : ℕ → Draft → Source
+abbrev pub source_of : ℕ → Draft → Option Source
 source_of n d = chosen d.heap d.chain d.lists n
 
 -- n bytes are granted from it
@@ -34,7 +34,7 @@ allocate_refusals fails d z =
     let n = need overhead z in
     fails
     ∷ (not (permitted z), BlockSize)
-    ∷ (nowhere (source_of n d), NoRoom)
+    ∷ (is_none (source_of n d), NoRoom)
     ∷ []
 
 -- the outcome of an accepted call: the block is granted, then filled

@@ -1,15 +1,12 @@
 -- Questions about a chunk and about a bin (manual 5.8; document 01, "The calls": Questions); refusals 4, then 8.
 -- What is asked for is a value or none, and none is not 0 (manual 5.8; document 02, request One): 0 is the start's place and a bin's number.
-use Rattle.std.specs.Prelude.{Bool, true, false, not, cond, ◌&&◌, ◌||◌, List, [], ◌∷◌, map, ℕ, ◌-◌, eqb, leb, ltb, length, get_or}
-use Rattle.std.proofs.Math.Option.{Option, some, none}
+use Rattle.std.specs.Prelude.{Bool, true, false, not, cond, ◌&&◌, ◌||◌, List, [], ◌∷◌, map, ℕ, ◌-◌, eqb, leb, ltb, length, get_or, Option, Some, None}
 use Rattle.lists.specs.Lists.{last_or, any, up_to, past}
 use Rattle.record.specs.declared.answers.Answer.{Answer}
-use Rattle.record.specs.declared.answers.Answer.TheVariants.{Told, ToldNone}
+use Rattle.record.specs.declared.answers.Answer.TheVariants.{Told}
 use Rattle.record.specs.declared.answers.Refusal.{Refusal}
 use Rattle.record.specs.declared.answers.Refusal.TheVariants.{NotThere}
 use Rattle.record.specs.declared.heap.Heap.{Heap}
-use Rattle.record.specs.declared.table.Binned.{Binned}
-use Rattle.record.specs.declared.table.Binned.TheVariants.{Bin, NoBin}
 use Rattle.record.specs.Heap.{table_of}
 use Rattle.record.specs.Table.{bin_of}
 use Rattle.rules.specs.Shape.{Entry}
@@ -18,36 +15,26 @@ use Rattle.rules.specs.Draft.{Draft, as_read, Spot, spot}
 use Rattle.rules.specs.Outcome.{Outcome, Refusals, judged, heap_fails, unchanged}
 use Rattle.rules.specs.Free.{is_live, block_spot}
 
--- a value and none, as answers
-abbrev pub told : Option ℕ → Answer
-told (some v) = Told v
-told none = ToldNone
-
--- answers that may be absent: a value under a condition, the first and the last of a list, a bin's number;
--- and the list of a bin, empty where there is no bin
+-- answers that may be absent: a value under a condition, the first and the last of a list; and the list of a bin, empty where there is no bin
 abbrev pub only_if : Bool → ℕ → Option ℕ
-only_if true v = some v
-only_if false v = none
+only_if true v = Some v
+only_if false v = None
 
 abbrev pub first_in : List ℕ → Option ℕ
-first_in [] = none
-first_in (c ∷ cs) = some c
+first_in [] = None
+first_in (c ∷ cs) = Some c
 
 abbrev pub last_in : List ℕ → Option ℕ
-last_in [] = none
-last_in (c ∷ cs) = some (last_or c cs)
+last_in [] = None
+last_in (c ∷ cs) = Some (last_or c cs)
 
-abbrev pub number_of_bin : Binned → Option ℕ
-number_of_bin (Bin i) = some i
-number_of_bin NoBin = none
-
-abbrev pub list_of : Draft → Binned → List ℕ
-list_of d (Bin i) = d.lists i
-list_of d NoBin = []
+abbrev pub list_of : Draft → Option ℕ → List ℕ
+list_of d (Some i) = d.lists i
+list_of d None = []
 
 -- the bin of a chunk; there is none for one in use, the donor and the top
-abbrev pub bin_of_chunk : Draft → Entry → Binned
-bin_of_chunk d e = cond (ordinary d.heap e) (bin_of (table_of d.heap) e.size) NoBin
+abbrev pub bin_of_chunk : Draft → Entry → Option ℕ
+bin_of_chunk d e = cond (ordinary d.heap e) (bin_of (table_of d.heap) e.size) None
 
 -- the chunks before and after a chunk in its bin's list
 abbrev pub before_in_bin : Draft → Entry → List ℕ
@@ -64,20 +51,20 @@ places_of es = map (λ (e : Entry). e.place) es
 abbrev pub chunk_answers : Draft → Spot → List (Option ℕ)
 chunk_answers d s =
     let e = s.here in
-    number_of_bin (bin_of_chunk d e)
+    bin_of_chunk d e
     ∷ only_if (live d.heap e) (block_of e)
-    ∷ some e.place
+    ∷ Some e.place
     ∷ first_in (places_of s.high)
     ∷ first_in (after_in_bin d e)
     ∷ last_in (places_of s.low)
     ∷ last_in (before_in_bin d e)
-    ∷ some e.size
-    ∷ some e.flags
+    ∷ Some e.size
+    ∷ Some e.flags
     ∷ []
 
 -- the answers to questions 1 to 3 about a bin: count of chunks, first, last
 abbrev pub bin_answers : List ℕ → List (Option ℕ)
-bin_answers cs = some (length cs) ∷ first_in cs ∷ last_in cs ∷ []
+bin_answers cs = Some (length cs) ∷ first_in cs ∷ last_in cs ∷ []
 
 -- question 3 is asked of a live block, every other of a chunk
 abbrev pub asked_spot : Draft → ℕ → ℕ → Spot
@@ -92,7 +79,7 @@ is_asked q answers = leb 1 q && leb q (length answers)
 
 -- the answer to question q
 abbrev pub answer_to : ℕ → List (Option ℕ) → Answer
-answer_to q answers = told (get_or answers (q - 1) none)
+answer_to q answers = Told (get_or answers (q - 1) None)
 
 -- the refusals in their order, behind `fails`, that of a heap that fails; `there` says whether the chunk, block or bin exists
 abbrev pub ask_refusals : Bool × Refusal → ℕ → List (Option ℕ) → Bool → Refusals

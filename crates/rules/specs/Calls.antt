@@ -1,7 +1,7 @@
 -- Calls as data, the step that one makes, and runs of calls (manual 5; document 01, "The calls"; document 02, request Two).
-use Rattle.std.specs.Prelude.{Bool, List, [], ◌∷◌, ℕ}
+use Rattle.std.specs.Prelude.{Bool, List, [], ◌∷◌, ℕ, Some, None}
 use Rattle.record.specs.declared.answers.Answer.{Answer}
-use Rattle.record.specs.declared.answers.Answer.TheVariants.{Done, Granted, Returned, Told, ToldNone, Counted, Refused}
+use Rattle.record.specs.declared.answers.Answer.TheVariants.{Done, Granted, Returned, Told, Counted, Refused}
 use Rattle.record.specs.declared.heap.Heap.{Heap}
 use Rattle.region.specs.Words.{written}
 use Rattle.rules.specs.Outcome.{Outcome}
@@ -56,7 +56,6 @@ record_after before after Done = after
 record_after before after (Granted b c) = after
 record_after before after (Returned c) = after
 record_after before after (Told v) = after
-record_after before after ToldNone = after
 record_after before after (Counted c) = after
 record_after before after (Refused r) = before
 

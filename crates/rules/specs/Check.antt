@@ -1,11 +1,9 @@
 -- The check (manual 4; document 01, "The check" and the sections that it refers to): the invariant of a heap, part by part in the
 -- document's order, each part also as a test; and the four counts.
-use Rattle.std.specs.Prelude.{◌≡◌, Bool, true, false, not, ◌&&◌, ◌||◌, List, [], ◌∷◌, ℕ, ◌+◌, ◌*◌, ◌%◌, ◌≤◌, ◌<◌, eqb, leb, ltb, length, get_or, drop}
+use Rattle.std.specs.Prelude.{◌≡◌, Bool, true, false, not, ◌&&◌, ◌||◌, List, [], ◌∷◌, ℕ, ◌+◌, ◌*◌, ◌%◌, ◌≤◌, ◌<◌, eqb, leb, ltb, length, get_or, drop, Option, Some, None}
 use Rattle.lists.specs.Lists.{Mem, head_or, last_or, every, any, keep, total, numbers_from, Distinct, distinct, Ascending, ascending}
 use Rattle.record.specs.declared.answers.Counts.{Counts}
 use Rattle.record.specs.declared.heap.Heap.{Heap}
-use Rattle.record.specs.declared.table.Binned.{Binned}
-use Rattle.record.specs.declared.table.Binned.TheVariants.{Bin, NoBin}
 use Rattle.record.specs.Heap.{places, table_of}
 use Rattle.record.specs.Table.{least, ValidTable, valid_table, bin_of, small_bins}
 use Rattle.region.specs.Words.{word, forward, backward, size, next_in_bin, previous_in_bin, bin}
@@ -141,13 +139,13 @@ linked ws p (c ∷ cs) =
     eqb (word ws c previous_in_bin) p && eqb (word ws c next_in_bin) (head_or 0 cs) && linked ws c cs
 
 -- `bin_of` answered bin i, as a test
-abbrev pub is_bin : ℕ → Binned → Bool
-is_bin i (Bin j) = eqb i j
-is_bin i NoBin = false
+abbrev pub is_bin : ℕ → Option ℕ → Bool
+is_bin i (Some j) = eqb i j
+is_bin i None = false
 
 -- The chunk e is ordinary and bin i takes its size.
 abbrev pub BelongsTo : Heap → ℕ → Entry → Type 0
-BelongsTo h i e = (ordinary h e ≡ true) × (bin_of (table_of h) e.size ≡ Bin i)
+BelongsTo h i e = (ordinary h e ≡ true) × (bin_of (table_of h) e.size ≡ Some i)
 
 abbrev pub belongs_to : Heap → ℕ → Entry → Bool
 belongs_to h i e = ordinary h e && is_bin i (bin_of (table_of h) e.size)
@@ -173,11 +171,11 @@ listed ws h es i cs =
 -- The chunk e is in the list of the bin that takes its size.
 abbrev pub InItsBin : List ℕ → Heap → Entry → Type 0
 InItsBin ws h e =
-    (i : ℕ) × (bin_of (table_of h) e.size ≡ Bin i) × ((i < h.bins) × Mem e.place (bin_list ws h i))
+    (i : ℕ) × (bin_of (table_of h) e.size ≡ Some i) × ((i < h.bins) × Mem e.place (bin_list ws h i))
 
-abbrev pub in_bin : List ℕ → Heap → ℕ → Binned → Bool
-in_bin ws h c (Bin i) = ltb i h.bins && any (eqb c) (bin_list ws h i)
-in_bin ws h c NoBin = false
+abbrev pub in_bin : List ℕ → Heap → ℕ → Option ℕ → Bool
+in_bin ws h c (Some i) = ltb i h.bins && any (eqb c) (bin_list ws h i)
+in_bin ws h c None = false
 
 abbrev pub in_its_bin : List ℕ → Heap → Entry → Bool
 in_its_bin ws h e = in_bin ws h e.place (bin_of (table_of h) e.size)

@@ -1,8 +1,8 @@
 -- Splitting a free chunk to grant a part of it (manual 5.2; document 01, "The calls": Allocate).
-use Rattle.std.specs.Prelude.{not, cond, List, [], ◌∷◌, ℕ, ◌+◌, ◌-◌, eqb, leb}
+use Rattle.std.specs.Prelude.{not, cond, List, [], ◌∷◌, ℕ, ◌+◌, ◌-◌, eqb, leb, Option, Some, None}
 use Rattle.lists.specs.Lists.{keep}
 use Rattle.record.specs.declared.sources.Source.{Source}
-use Rattle.record.specs.declared.sources.Source.TheVariants.{FromBin, FromDonor, FromTop, Nowhere}
+use Rattle.record.specs.declared.sources.Source.TheVariants.{FromBin, FromDonor, FromTop}
 use Rattle.record.specs.Table.{least}
 use Rattle.record.specs.declared.kinds.Kind.{Kind}
 use Rattle.record.specs.declared.kinds.Kind.TheVariants.{Start, InUse, Ordinary, Donor, Top, End}
@@ -55,8 +55,8 @@ grant_at kind s n d =
     record { granted = parts.granted; draft = now_uses 0 parts.granted.size settled }
 
 -- n bytes are granted from the chosen source
-unfoldable pub grant_from : Source → ℕ → Draft → Grant
-grant_from (FromBin c) n d = grant_at Ordinary (spot (is_at c.0) d.chain) n d
-grant_from FromDonor n d = grant_at Donor (spot (is_at d.heap.donor.0) d.chain) n d
-grant_from FromTop n d = grant_at Top (spot (is_at d.heap.top.0) d.chain) n d
-grant_from Nowhere n d = record { granted = outside; draft = d }
+unfoldable pub grant_from : Option Source → ℕ → Draft → Grant
+grant_from (Some (FromBin c)) n d = grant_at Ordinary (spot (is_at c.0) d.chain) n d
+grant_from (Some FromDonor) n d = grant_at Donor (spot (is_at d.heap.donor.0) d.chain) n d
+grant_from (Some FromTop) n d = grant_at Top (spot (is_at d.heap.top.0) d.chain) n d
+grant_from None n d = record { granted = outside; draft = d }

@@ -1,10 +1,8 @@
 -- A draft: the record, chain, lists and stores of a heap that a call is building. A step changes them together.
 -- The steps here take a chunk out of a bin, put one into a bin, and link chunks into the chain (manual 5; document 01, "The calls").
-use Rattle.std.specs.Prelude.{Bool, true, false, cond, List, [], ◌∷◌, ◌++◌, ℕ, ◌+◌, ◌*◌, ◌-◌, eqb, ltb, set}
+use Rattle.std.specs.Prelude.{Bool, true, false, cond, Option, Some, None, List, [], ◌∷◌, ◌++◌, ℕ, ◌+◌, ◌*◌, ◌-◌, eqb, ltb, set}
 use Rattle.lists.specs.Lists.{head_or, last_or, keep, up_to, past, on_from}
 use Rattle.record.specs.declared.heap.Heap.{Heap}
-use Rattle.record.specs.declared.table.Binned.{Binned}
-use Rattle.record.specs.declared.table.Binned.TheVariants.{Bin, NoBin}
 use Rattle.record.specs.Heap.{table_of, with_ends, with_donor, with_top, with_used, with_patrol}
 use Rattle.record.specs.Table.{small_bins, bin_of}
 use Rattle.region.specs.Words.{Store, put, forward, backward, size, next_in_bin, previous_in_bin, bin}
@@ -91,9 +89,9 @@ put_into i e d =
 
 -- a step on the bin that `bin_of` answered. The case without a bin can't be reached: the check asks for a valid table, a chunk has at least
 -- 24 bytes, and in a valid table every size from 24 on has a bin (`bin_from`, record/proofs/TableLaws.antt)
-abbrev pub on_bin : (ℕ → Draft → Draft) → Binned → Draft → Draft
-on_bin step (Bin i) d = step i d
-on_bin step NoBin d = d
+abbrev pub on_bin : (ℕ → Draft → Draft) → Option ℕ → Draft → Draft
+on_bin step (Some i) d = step i d
+on_bin step None d = d
 
 -- an ordinary chunk leaves the bin of its size
 unfoldable pub leave_bin : Entry → Draft → Draft

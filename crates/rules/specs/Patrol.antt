@@ -1,8 +1,7 @@
 -- The patrol (manual 5.9; document 02, request Two): a run handles a given number of chunks, going up from the patrol's place, and mends links and
 -- free sizes; refusals 10, 4, 12. It is for damaged heaps, so it does not ask for the check: each chunk is judged by the words as the
 -- run finds them. `end` is the place of the end chunk throughout.
-use Rattle.std.specs.Prelude.{Bool, true, false, not, cond, ◌&&◌, ◌||◌, List, [], ◌∷◌, ◌++◌, ℕ, zero, suc, ◌+◌, ◌-◌, ◌%◌, eqb, leb, ltb}
-use Rattle.std.proofs.Math.Option.{Option, some, none}
+use Rattle.std.specs.Prelude.{Bool, true, false, not, cond, ◌&&◌, ◌||◌, List, [], ◌∷◌, ◌++◌, ℕ, zero, suc, ◌+◌, ◌-◌, ◌%◌, eqb, leb, ltb, Option, Some, None}
 use Rattle.record.specs.declared.answers.Answer.TheVariants.{Told}
 use Rattle.record.specs.declared.answers.Refusal.TheVariants.{HeapFails, RunSize, BeyondMending}
 use Rattle.record.specs.declared.heap.Heap.{Heap}
@@ -38,19 +37,19 @@ broken ws end c v = ltb end v || not (eqb (v % 8) 0) || ltb v (c + least_size c)
 -- where a backward link leaves the heap, goes down by less than the least distance, or passes below c.
 -- The first argument is fuel: `end` steps always suffice, since each goes down
 abbrev pub seek_from : ℕ → List ℕ → ℕ → ℕ → Option ℕ
-seek_from zero ws c x = none
+seek_from zero ws c x = None
 seek_from (suc steps) ws c x =
     let p : ℕ = back_offset ws x in
     elim (ltb x (p + least_size p) || ltb p c) [
-      | true ↦ none
-      | false ↦ elim (eqb p c) [ true ↦ some x | false ↦ seek_from steps ws c p ]
+      | true ↦ None
+      | false ↦ elim (eqb p c) [ true ↦ Some x | false ↦ seek_from steps ws c p ]
     ]
 
 -- the chunk above c: the one that its forward link names, if it is believed; else the one that the backward walk from the end finds
 unfoldable pub next_of : List ℕ → ℕ → ℕ → Option ℕ
 next_of ws end c =
     let v : ℕ = word ws c forward in
-    elim (broken ws end c v) [ true ↦ seek_from end ws c end | false ↦ some v ]
+    elim (broken ws end c v) [ true ↦ seek_from end ws c end | false ↦ Some v ]
 
 -- word k of the chunk at c is to be v: a store where it is not, nothing where it is so already
 abbrev pub mend : List ℕ → ℕ → ℕ → ℕ → List Store
@@ -76,19 +75,19 @@ patrolled c ended ss = record { place = c; ended = ended; stores = ss }
 
 -- these stores, then those of the rest of the run
 abbrev pub goes_on : List Store → Option Patrolled → Option Patrolled
-goes_on ss none = none
-goes_on ss (some r) = some (patrolled r.place r.ended (ss ++ r.stores))
+goes_on ss None = None
+goes_on ss (Some r) = Some (patrolled r.place r.ended (ss ++ r.stores))
 
 -- a run of so many chunks from the one at c; none where it meets a link that is beyond mending. Each chunk is handled on the words
 -- that the one before it left. The end chunk ends the run, and the next run begins at the start
 abbrev pub patrol_from : ℕ → List ℕ → ℕ → ℕ → Option Patrolled
-patrol_from zero ws end c = some (patrolled c false [])
+patrol_from zero ws end c = Some (patrolled c false [])
 patrol_from (suc chunks) ws end c =
     elim (eqb c end) [
-      | true ↦ some (patrolled 0 true [])
+      | true ↦ Some (patrolled 0 true [])
       | false ↦ elim (next_of ws end c) [
-        | none ↦ none
-        | some v ↦ goes_on (mends ws c v) (patrol_from chunks (written ws (mends ws c v)) end v)
+        | None ↦ None
+        | Some v ↦ goes_on (mends ws c v) (patrol_from chunks (written ws (mends ws c v)) end v)
       ]
     ]
 
@@ -101,8 +100,8 @@ unfoldable pub patrol_run : List ℕ → Heap → ℕ → Option Patrolled
 patrol_run ws h chunks = patrol_from chunks ws (h.bytes - end_size) h.patrol.0
 
 abbrev pub is_lost : Option Patrolled → Bool
-is_lost none = true
-is_lost (some r) = false
+is_lost None = true
+is_lost (Some r) = false
 
 -- the refusals, in their order
 abbrev pub patrol_refusals : List ℕ → Heap → ℕ → Refusals
@@ -114,9 +113,9 @@ patrol_refusals ws h chunks =
 
 -- the outcome of an accepted run: the answer's value is 1 where the end chunk was handled. (Where there is no run the call is refused.)
 abbrev pub ran : Heap → Option Patrolled → Outcome
-ran h none = unchanged h (Told 0)
-ran h (some r) =
-    record { answer = Told (cond r.ended 1 0); heap = with_patrol h r.place; stores = r.stores }
+ran h None = unchanged h (Told (Some 0))
+ran h (Some r) =
+    record { answer = Told (Some (cond r.ended 1 0)); heap = with_patrol h r.place; stores = r.stores }
 
 -- the call
 unfoldable pub patrol : List ℕ → Heap → ℕ → Outcome

@@ -1,5 +1,5 @@
 -- Reallocate (manual 5.5; document 01, "The calls"); refusals 4, 5, 6, 7.
-use Rattle.std.specs.Prelude.{Bool, not, cond, ◌&&◌, List, [], ◌∷◌, ◌++◌, map, ℕ, ◌+◌, ◌-◌, eqb, leb, ltb}
+use Rattle.std.specs.Prelude.{Bool, not, cond, ◌&&◌, List, [], ◌∷◌, ◌++◌, map, ℕ, ◌+◌, ◌-◌, eqb, leb, ltb, is_none}
 use Rattle.lists.specs.Lists.{numbers_from}
 use Rattle.record.specs.declared.answers.Refusal.{Refusal}
 use Rattle.record.specs.declared.answers.Refusal.TheVariants.{BlockSize, NotLive, NoRoom}
@@ -8,7 +8,7 @@ use Rattle.record.specs.Table.{least}
 use Rattle.region.specs.Words.{Store, put, word, forward}
 use Rattle.rules.specs.Shape.{Entry, entry, chunk_end}
 use Rattle.rules.specs.Kinds.{overhead, block_of, block_words, used}
-use Rattle.rules.specs.Serve.{need, permitted, nowhere}
+use Rattle.rules.specs.Serve.{need, permitted}
 use Rattle.rules.specs.Draft.{Draft, as_read, also_writes, Spot, now_uses}
 use Rattle.rules.specs.Cut.{Grant}
 use Rattle.rules.specs.Join.{release}
@@ -59,7 +59,7 @@ resize_refusals fails d b z =
     fails
     ∷ (not (permitted z), BlockSize)
     ∷ (not (is_live d b), NotLive)
-    ∷ (ltb (block_spot d b).here.size n && nowhere (source_of n d), NoRoom)
+    ∷ (ltb (block_spot d b).here.size n && is_none (source_of n d), NoRoom)
     ∷ []
 
 -- the outcome of an accepted call on a live block

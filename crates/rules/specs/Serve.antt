@@ -1,12 +1,10 @@
 -- The need of a request, the chunks that can serve it, and the one that is chosen (manual 5.2; document 01, "The calls": Allocate; the donor
 -- serves every need since request Four of document 02).
-use Rattle.std.specs.Prelude.{Bool, true, false, not, cond, ◌&&◌, ◌||◌, List, [], ◌∷◌, ℕ, suc, ◌+◌, ◌*◌, ◌-◌, ◌/◌, max, eqb, leb}
+use Rattle.std.specs.Prelude.{Bool, true, false, not, cond, ◌&&◌, ◌||◌, List, [], ◌∷◌, ℕ, suc, ◌+◌, ◌*◌, ◌-◌, ◌/◌, max, eqb, leb, Option, Some, None}
 use Rattle.lists.specs.Lists.{head_or, keep, numbers_from, gathered}
 use Rattle.record.specs.declared.heap.Heap.{Heap}
 use Rattle.record.specs.declared.sources.Source.{Source}
-use Rattle.record.specs.declared.sources.Source.TheVariants.{FromBin, FromDonor, FromTop, Nowhere}
-use Rattle.record.specs.declared.table.Binned.{Binned}
-use Rattle.record.specs.declared.table.Binned.TheVariants.{Bin, NoBin}
+use Rattle.record.specs.declared.sources.Source.TheVariants.{FromBin, FromDonor, FromTop}
 use Rattle.record.specs.Heap.{at, table_of}
 use Rattle.record.specs.Table.{least, small, bin_of}
 use Rattle.rules.specs.Shape.{Entry}
@@ -36,52 +34,43 @@ serves table donor top n e =
     && cond (eqb e.place top || eqb e.place donor) (leb (n + least) e.size) (leb n e.size)
 
 -- the chunk at c as a source; 0 means that the list had none
-abbrev pub from_bin : ℕ → Source
-from_bin c = cond (eqb c 0) Nowhere (FromBin (at c))
+abbrev pub from_bin : ℕ → Option Source
+from_bin c = cond (eqb c 0) None (Some (FromBin (at c)))
 
 -- first fit: the first chunk of a list, in list order, that has at least n bytes
-abbrev pub first_fit : List Entry → ℕ → List ℕ → Source
+abbrev pub first_fit : List Entry → ℕ → List ℕ → Option Source
 first_fit es n cs = from_bin (head_or 0 (keep (λ c. leb n (size_on es c)) cs))
 
 -- first fit in the bin of n
-abbrev pub own_bin : List Entry → (ℕ → List ℕ) → ℕ → Binned → Source
-own_bin es lists n (Bin i) = first_fit es n (lists i)
-own_bin es lists n NoBin = Nowhere
+abbrev pub own_bin : List Entry → (ℕ → List ℕ) → ℕ → Option ℕ → Option Source
+own_bin es lists n (Some i) = first_fit es n (lists i)
+own_bin es lists n None = None
 
 -- the first chunk of the next larger bin that has one
-abbrev pub larger_bin : Heap → (ℕ → List ℕ) → Binned → Source
-larger_bin h lists (Bin i) = from_bin (head_or 0 (gathered lists (numbers_from (suc i) (h.bins - suc i))))
-larger_bin h lists NoBin = Nowhere
+abbrev pub larger_bin : Heap → (ℕ → List ℕ) → Option ℕ → Option Source
+larger_bin h lists (Some i) = from_bin (head_or 0 (gathered lists (numbers_from (suc i) (h.bins - suc i))))
+larger_bin h lists None = None
 
 -- the donor, if there is one and it has at least n + 24 bytes
-abbrev pub try_donor : Heap → List Entry → ℕ → Source
-try_donor h es n = cond (not (eqb h.donor.0 0) && leb (n + least) (size_on es h.donor.0)) FromDonor Nowhere
+abbrev pub try_donor : Heap → List Entry → ℕ → Option Source
+try_donor h es n = cond (not (eqb h.donor.0 0) && leb (n + least) (size_on es h.donor.0)) (Some FromDonor) None
 
 -- the top, if it has at least n + 24 bytes
-abbrev pub try_top : Heap → List Entry → ℕ → Source
-try_top h es n = cond (leb (n + least) (size_on es h.top.0)) FromTop Nowhere
+abbrev pub try_top : Heap → List Entry → ℕ → Option Source
+try_top h es n = cond (leb (n + least) (size_on es h.top.0)) (Some FromTop) None
 
 -- the order of the four tries: for small n the donor comes before the larger bins, for any other n after the top
-abbrev pub in_order : Bool → Source → Source → Source → Source → List Source
+abbrev pub in_order : Bool → Option Source → Option Source → Option Source → Option Source → List (Option Source)
 in_order little own larger donor top = own ∷ cond little (donor ∷ larger ∷ top ∷ []) (larger ∷ top ∷ donor ∷ [])
 
 -- the first try that finds something
-abbrev pub first_of : List Source → Source
-first_of [] = Nowhere
-first_of (FromBin c ∷ ss) = FromBin c
-first_of (FromDonor ∷ ss) = FromDonor
-first_of (FromTop ∷ ss) = FromTop
-first_of (Nowhere ∷ ss) = first_of ss
+abbrev pub first_of : List (Option Source) → Option Source
+first_of [] = None
+first_of (Some s ∷ ss) = Some s
+first_of (None ∷ ss) = first_of ss
 
 -- the source for n
-unfoldable pub chosen : Heap → List Entry → (ℕ → List ℕ) → ℕ → Source
+unfoldable pub chosen : Heap → List Entry → (ℕ → List ℕ) → ℕ → Option Source
 chosen h es lists n =
     let own = bin_of (table_of h) n in
     first_of (in_order (small (table_of h) n) (own_bin es lists n own) (larger_bin h lists own) (try_donor h es n) (try_top h es n))
-
--- no source was found
-abbrev pub nowhere : Source → Bool
-nowhere (FromBin c) = false
-nowhere FromDonor = false
-nowhere FromTop = false
-nowhere Nowhere = true

@@ -14,7 +14,7 @@ use Rattle.lists.proofs.CountLaws.{distinct_fits}
 use Rattle.record.specs.declared.heap.Heap.{Heap}
 use Rattle.record.specs.declared.kinds.Kind.{Kind}
 use Rattle.record.specs.declared.kinds.Kind.TheVariants.{Start, InUse, Ordinary, Donor, Top, End}
-use Rattle.record.specs.declared.table.Binned.TheVariants.{Bin}
+use Rattle.std.specs.Prelude.{Some}
 use Rattle.record.specs.Heap.{table_of, summary_of, with_summary, with_ends}
 use Rattle.record.specs.Table.{small_bins, bin_of}
 use Rattle.record.proofs.TableLaws.{bin_from}
@@ -85,7 +85,7 @@ pub record Settled (ws : List ℕ) (h : Heap) (b : Books) (k : Kind) (c s : ℕ)
   pub heap : after.heap ≡ with_ends (with_summary h (settled_m (summary_of h) k c)) after.heap.heads after.heap.tails
 
 module _ (ws : List ℕ) (h : Heap) (d : Draft) (f : Follows ws h d) where
-  module _ (e : Entry) (i : ℕ) (l : i < h.bins) (t : bin_of (table_of h) e.size ≡ Bin i) (m : Mem e.place (d.lists i)) where
+  module _ (e : Entry) (i : ℕ) (l : i < h.bins) (t : bin_of (table_of h) e.size ≡ Some i) (m : Mem e.place (d.lists i)) where
     leaves_is : leave_bin e d ≡ leave i e.place d
     unfolding leave_bin
     leaves_is = rw (f.table, t)

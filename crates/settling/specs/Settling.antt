@@ -1,13 +1,11 @@
 -- What the code writes where a free chunk leaves its place or takes it, and what becomes of the summary: these definitions mirror the code.
 -- That they do what the rules say is proved (`DraftLaws`).
-use Rattle.std.specs.Prelude.{Bool, cond, List, ℕ, ltb}
+use Rattle.std.specs.Prelude.{Bool, cond, List, ℕ, ltb, Option, Some, None}
 use Rattle.books.specs.Books.{Books, books}
 use Rattle.bins.specs.Bins.{leave_m, put_into_m}
 use Rattle.record.specs.declared.heap.Summary.{Summary}
 use Rattle.record.specs.declared.kinds.Kind.{Kind}
 use Rattle.record.specs.declared.kinds.Kind.TheVariants.{Start, InUse, Ordinary, Donor, Top, End}
-use Rattle.record.specs.declared.table.Binned.{Binned}
-use Rattle.record.specs.declared.table.Binned.TheVariants.{Bin, NoBin}
 use Rattle.record.specs.Heap.{at, donor_now, top_now}
 use Rattle.record.specs.Table.{small_bins, bin_of}
 use Rattle.region.specs.Words.{Store, written}
@@ -31,9 +29,9 @@ settled_m s End c = s
 unfoldable pub leave_bin_m : Books → Bool → ℕ → Books
 leave_bin_m b binned c = cond binned (leave_m b c) b
 
-unfoldable pub put_binned_m : Books → List ℕ → ℕ → ℕ → Binned → Books
-put_binned_m b table c size (Bin i) = put_into_m b (ltb i (small_bins table)) i c size
-put_binned_m b table c size NoBin = b
+unfoldable pub put_binned_m : Books → List ℕ → ℕ → ℕ → Option ℕ → Books
+put_binned_m b table c size (Some i) = put_into_m b (ltb i (small_bins table)) i c size
+put_binned_m b table c size None = b
 
 unfoldable pub put_in_bin_m : Books → List ℕ → ℕ → ℕ → Books
 put_in_bin_m b table c size = put_binned_m b table c size (bin_of table size)

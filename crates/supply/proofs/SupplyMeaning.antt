@@ -1,4 +1,5 @@
 -- On a heap that passes, a block is supplied or refused for room as the rules of the allocates say (`supply_is`). Assumes nothing.
+use Rattle.std.specs.Prelude.{is_none}
 use Rattle.std.proofs.Common.{◌≡◌, ℕ, ◌+◌, ◌%◌, ◌^◌, Bool, true, false, List, ◌++◌, sym, refl, ap, ◌∙◌, append-nil, arith}
 use Rattle.books.specs.Books.{Books, books}
 use Rattle.record.specs.declared.answers.Answer.TheVariants.{Granted}
@@ -13,7 +14,7 @@ use Rattle.rules.specs.Cut.{Grant}
 use Rattle.rules.specs.Draft.{as_read, also_writes}
 use Rattle.rules.specs.Kinds.{overhead, block_of, block_end}
 use Rattle.rules.specs.Outcome.{made, grants}
-use Rattle.rules.specs.Serve.{need, permitted, nowhere}
+use Rattle.rules.specs.Serve.{need, permitted}
 use Rattle.rules.specs.Shape.{Entry}
 use Rattle.rules.specs.Statements.{Left, left_by}
 use Rattle.rules.proofs.CheckLaws.{passes_iff}
@@ -47,7 +48,7 @@ module _ (ws : List ℕ) (h : Heap) (q : passes ws h ≡ true) (z : ℕ) (k : pe
   abbrev entry : Books
   entry = books ws h.heads h.tails
 
-  module _ (some : nowhere (source_of n (as_read ws h)) ≡ false) where
+  module _ (some : is_none (source_of n (as_read ws h)) ≡ false) where
     -- zeros, or nothing
     filled_is : (clears : Bool) → filled_m (written ws granted.draft.stores) clears granted.granted.place granted.granted.size
         ≡ written ws (granted.draft.stores ++ fill_stores clears granted.granted)
@@ -78,9 +79,9 @@ module _ (ws : List ℕ) (h : Heap) (q : passes ws h ≡ true) (z : ℕ) (k : pe
 
   pub supply_is : (clears : Bool) → recorded h (supply_m entry (table_of h) (summary_of h) (want n clears)) ≡ left_by ws (allocate_with (fill_stores clears) ws h z)
   unfolding supply_m
-  supply_is clears = by (nowhere (source_of n (as_read ws h))) refl
+  supply_is clears = by (is_none (source_of n (as_read ws h))) refl
     where
-      by : (t : Bool) → nowhere (source_of n (as_read ws h)) ≡ t
+      by : (t : Bool) → is_none (source_of n (as_read ws h)) ≡ t
           → recorded h (supply_m entry (table_of h) (summary_of h) (want n clears)) ≡ left_by ws (allocate_with (fill_stores clears) ws h z)
       by true e = rw (choose_is ws h well n, e, q, k)
       by false e = serves e clears ∙ sym (ap (left_by ws) (ruled_is e (fill_stores clears)))

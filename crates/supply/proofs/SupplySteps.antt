@@ -1,4 +1,5 @@
 -- Where a block is supplied, what the code's calls come to, over plain variables. Assumes nothing.
+use Rattle.std.specs.Prelude.{Option, Some, None, is_none}
 use Rattle.std.proofs.Common.{◌≡◌, ℕ, Bool, true, false, List, ℤ, sym, w32, to_z, of_z}
 use Rattle.books.specs.Books.{Books, books}
 use Rattle.grant.specs.declared.serve.Portion.{Portion}
@@ -12,7 +13,6 @@ use Rattle.region.specs.declared.Block.{Block}
 use Rattle.region.specs.Places.{block_at}
 use Rattle.replies.specs.Replies.{Concluded, answered, change_m, concluded}
 use Rattle.replies.proofs.ChangeLaws.{change_kept}
-use Rattle.rules.specs.Serve.{nowhere}
 use Rattle.supply.specs.declared.Want.{Want}
 use Rattle.supply.specs.Supply.{filled_m, supplied_m, supply_m}
 
@@ -24,7 +24,7 @@ pub supplies : {b : Books} {table : List ℕ} {s : Summary} {w : Want} {l : Conc
 supplies r = r.is
 
 module _ {b : Books} {table : List ℕ} {s : Summary} {w : Want}
-    {source : Source} (e : source ≡ choose_m b.words table b.heads s w.need) {t : Bool} (et : t ≡ nowhere source) where
+    {source : Option Source} (e : source ≡ choose_m b.words table b.heads s w.need) {t : Bool} (et : t ≡ is_none source) where
   pub supplied_not : t ≡ true → Supplies b table s w (concluded b (answered (Refused NoRoom) s))
   unfolding supply_m
   supplied_not q = record { is = rw (sym e, sym et, q) }

@@ -1,5 +1,5 @@
 -- What supplying a block leaves, as the code makes it: these definitions mirror the code. The rules say what a call leaves.
-use Rattle.std.specs.Prelude.{ℕ, ◌+◌, ◌%◌, ◌^◌, Bool, cond, List}
+use Rattle.std.specs.Prelude.{ℕ, ◌+◌, ◌%◌, ◌^◌, Bool, cond, List, Option, Some, None, is_none}
 use Rattle.books.specs.Books.{Books, books}
 use Rattle.blocks.specs.Blocks.{cleared_m}
 use Rattle.grant.specs.Choose.{choose_m}
@@ -13,7 +13,6 @@ use Rattle.record.specs.declared.sources.Source.{Source}
 use Rattle.region.specs.Places.{block_at}
 use Rattle.region.specs.Words.{Store}
 use Rattle.rules.specs.Allocate.{as_found, cleared}
-use Rattle.rules.specs.Serve.{nowhere}
 use Rattle.rules.specs.Shape.{Entry}
 use Rattle.supply.specs.declared.Want.{Want}
 
@@ -35,8 +34,8 @@ supplied_m clears s =
 -- what it makes of a want, on a heap that passes
 unfoldable pub supply_m : Books → List ℕ → Summary → Want → Concluded
 supply_m b table s w =
-    let source : Source = choose_m b.words table b.heads s w.need in
-    cond (nowhere source) (concluded b (answered (Refused NoRoom) s)) (supplied_m w.clears (serve_m b table s (order source w.need)))
+    let source : Option Source = choose_m b.words table b.heads s w.need in
+    cond (is_none source) (concluded b (answered (Refused NoRoom) s)) (supplied_m w.clears (serve_m b table s (order source w.need)))
 
 abbrev pub want : ℕ → Bool → Want
 want n clears = record { need = n; clears = clears }

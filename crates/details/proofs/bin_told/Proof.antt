@@ -9,7 +9,7 @@ returns : tie.Need-returns-in_default
 returns c = no_bin_lem _ _ c.bin_of-binned.ensures c.in_default.is
 
 returns-2 : tie.Need-returns
-returns-2 c = bin_told _ _ c.bin_of-binned.ensures c.in-Bin.is
+returns-2 c = bin_told _ _ c.bin_of-binned.ensures c.in-Some.is
 
 pub bin_told_spec : {M : Type 1} → statement M
 bin_told_spec =
@@ -19,5 +19,5 @@ bin_told_spec =
     (λ c. search rules)
     (λ c. search rules)
     returns
-    (λ c. omega (arith, bin_few _ _ c.bin_of-binned.ensures c.requires c.in-Bin.is))
+    (λ c. omega (arith, bin_few _ _ c.bin_of-binned.ensures c.requires c.in-Some.is))
     returns-2)

@@ -10,7 +10,7 @@ returns c = is_put (put_nowhere _ c.bin_of-binned.ensures c.in_default.is)
 returns-2 : tie.Need-returns
 returns-2 c =
     is_put
-    (put_binned _ c.bin_of-binned.ensures c.in-Bin.is c.in_small_array-small.ensures c.slot_for-slot.ensures
+    (put_binned _ c.bin_of-binned.ensures c.in-Some.is c.in_small_array-small.ensures c.slot_for-slot.ensures
     c.put_between.ensures)
 
 pub put_in_bin_spec : {M : Type 1} → statement M

@@ -1,4 +1,5 @@
 -- `flat::answer_words` lays each case of an answer out in five words. Assumes nothing.
+use Rattle.std.specs.Prelude.{Some, None}
 use mathlib.Core.Path.{◌∙◌}
 use borrow.Author.Rules.{rules}
 use Rattle.abi.proofs.ComplementLaws.{complement_held}
@@ -24,6 +25,6 @@ answer_words_spec =
     (λ c. granted_words_lem c.in-Granted.is (c.twos_complement.ensures ∙ complement_held c.in-Granted.change (search rules)))
     (λ c. returned_words c.in-Returned.is (c.twos_complement-in-Returned.ensures ∙ complement_held c.in-Returned.change (search rules)))
     (λ c. told_words c.in-Told.is)
-    (λ c. none_words c.in-ToldNone.is)
+    (λ c. none_words c.in-(Told None).is)
     (λ c. counted_words c.in-Counted.is)
     (λ c. refused_words c.in-Refused.is c.number.ensures))
