@@ -3,7 +3,8 @@ use mathlib.Core.Path.{◌≡◌, refl, sym, ◌∙◌, ap}
 use mathlib.Core.Bool.{Bool, true, false, not, cond, ◌&&◌, ◌||◌}
 use mathlib.Core.List.Memᴰ
 use mathlib.Core.List.{List, [], ◌∷◌}
-use Rattle.std.specs.Prelude.{Option, None, Some}
+use Rattle.std.specs.Prelude.{Option, None, Some, is_some}
+use Rattle.std.proofs.lemmas.Option.{none-some, same_Some}
 use Prim.Native.Nat.{ℕ, zero, suc, ◌+◌, ◌-◌, ◌≤◌, ◌<◌}
 use native.Mathlib.Decide.{ℕ_discrete, dec_lt}
 use native.Mathlib.Omega.{arith}
@@ -12,14 +13,17 @@ use lib.ListN.{get_or}
 use borrow.Author.Tests.{eq-eqb, ne_eqb, le-leb, lt-leb, lt-ltb, le-ltb}
 use Rattle.books.proofs.HeapBooks.{list_nodes}
 use Rattle.lists.specs.Lists.{Mem, head_or, last_or, any, up_to, past}
-use Rattle.lists.proofs.ListsLaws.{both, at_most}
 use Rattle.lists.proofs.MembersLaws.{last_member}
 use Rattle.lists.proofs.SplitLaws.{before_from, after_from}
 use Rattle.record.specs.declared.answers.Answer.{Answer}
 use Rattle.record.specs.declared.answers.Answer.TheVariants.{Told, Refused}
 use Rattle.record.specs.declared.answers.Refusal.TheVariants.{NotThere}
 use Rattle.record.specs.declared.heap.Heap.{Heap}
+use Rattle.record.specs.declared.questions.ChunkQuestion.{ChunkQuestion}
+use Rattle.record.specs.declared.questions.ChunkQuestion.TheVariants.{Bin, Block, Next, NextInBin, Previous, PreviousInBin, Size, «Type»}
+use Rattle.record.specs.Answers.{told}
 use Rattle.record.specs.Heap.{table_of, summary_of}
+use Rattle.record.specs.Questions.{chunk_question}
 use Rattle.record.specs.Table.{bin_of}
 use Rattle.region.specs.Places.{block_at}
 use Rattle.region.specs.Words.{word, next_in_bin, previous_in_bin}
@@ -36,8 +40,8 @@ use Rattle.rules.proofs.TiledLaws.{Tiled, tiled_up}
 use Rattle.rules.proofs.SpotLaws.{TiledAt, spot_member, spot_splits, tiled_at}
 use Rattle.seek.specs.Seek.{placed, sought_m, live_m, has_block_m}
 use Rattle.seek.proofs.SeekLaws.{live_is, sought_none, sought_spot, sought_block}
-use Rattle.details.specs.Details.{link_told_m, of_place_m, asks_of_bin_m, of_member_m, of_chunk_m}
-use Rattle.ask.specs.Questions.{told_of, holder_of, ask_chunk_m, ask_bin_m}
+use Rattle.details.specs.Details.{link_told_m, of_chunk_m}
+use Rattle.ask.specs.Questions.{told_of, holder_of, list_told, ask_chunk_m, ask_bin_m}
 
 -- the place of the last chunk is the last of the places
 last_place : (d : Entry) (es : List Entry) → (last_or d es).place ≡ last_or d.place (places_of es)
@@ -149,30 +153,29 @@ module _ (ws : List ℕ) (h : Heap) (k : Passes ws h) where
     split = tiled_at ws h k here.low here.here here.high (spot_splits p (shape ws h.bytes) found).0
 
     -- what the code tells of it
-    abbrev tells : ℕ → Option ℕ
-    tells q =
-        of_chunk_m ws (table_of h) (summary_of h) q
-        (placed (last_or (entry 0 0 0) here.low).place here.here)
+    abbrev tells : ChunkQuestion → Option ℕ
+    tells q = of_chunk_m ws (table_of h) (summary_of h) q (placed (last_or (entry 0 0 0) here.low).place here.here)
 
-    tells_is : (q : ℕ) → 1 ≤ q → q ≤ 9 → (q ≡ 3 → ⊥) → Told (tells q) ≡ answer_to q (chunk_answers (as_read ws h) here)
-    unfolding as_read of_chunk_m asks_of_bin_m of_place_m of_member_m
-    tells_is zero lo hi n = absurd (omega arith)
-    tells_is (suc zero) lo hi n = rw size_is
-    tells_is (suc (suc zero)) lo hi n = ap Told (block_is here.here member)
-    tells_is (suc (suc (suc zero))) lo hi n = absurd (n refl)
-    tells_is (suc (suc (suc (suc zero)))) lo hi n = ap Told (next_behind h.bytes here.here here.high split.above)
-    tells_is (suc (suc (suc (suc (suc zero))))) lo hi n =
-        rw size_is
+    tells_is : (q : ℕ) (r : ChunkQuestion) → chunk_question q ≡ Some r → Told (tells r) ≡ answer_to q (chunk_answers (as_read ws h) here)
+    unfolding as_read of_chunk_m
+    tells_is zero r e = absurd (none-some r e)
+    tells_is (suc zero) r e = rw (← same_Some Bin r e, size_is)
+    tells_is (suc (suc zero)) r e = rw (← same_Some Block r e) (ap Told (block_is here.here member))
+    tells_is (suc (suc (suc zero))) r e = absurd (none-some r e)
+    tells_is (suc (suc (suc (suc zero)))) r e = rw (← same_Some Next r e) (ap Told (next_behind h.bytes here.here here.high split.above))
+    tells_is (suc (suc (suc (suc (suc zero))))) r e =
+        rw (← same_Some NextInBin r e, size_is)
         (ap Told (neighbour_is here.here member next_in_bin (λ cs. first_in (past (eqb here.here.place) cs)) refl
         (λ cs l f j. next_told ws here.here.place cs l f j) (ordinary h here.here) refl))
-    tells_is (suc (suc (suc (suc (suc (suc zero)))))) lo hi n = ap Told (previous_below split.from here.here here.low split.below split.place)
-    tells_is (suc (suc (suc (suc (suc (suc (suc zero))))))) lo hi n =
-        rw size_is
+    tells_is (suc (suc (suc (suc (suc (suc zero)))))) r e =
+        rw (← same_Some Previous r e) (ap Told (previous_below split.from here.here here.low split.below split.place))
+    tells_is (suc (suc (suc (suc (suc (suc (suc zero))))))) r e =
+        rw (← same_Some PreviousInBin r e, size_is)
         (ap Told (neighbour_is here.here member previous_in_bin (λ cs. last_in (up_to (eqb here.here.place) cs)) refl
         (λ cs l f j. previous_told ws here.here.place cs l f j) (ordinary h here.here) refl))
-    tells_is (suc (suc (suc (suc (suc (suc (suc (suc zero)))))))) lo hi n = ap (λ s. Told (Some s)) size_is
-    tells_is (suc (suc (suc (suc (suc (suc (suc (suc (suc zero))))))))) lo hi n = refl
-    tells_is (suc (suc (suc (suc (suc (suc (suc (suc (suc (suc q)))))))))) lo hi n = absurd (omega arith)
+    tells_is (suc (suc (suc (suc (suc (suc (suc (suc zero)))))))) r e = rw (← same_Some Size r e) (ap (λ s. Told (Some s)) size_is)
+    tells_is (suc (suc (suc (suc (suc (suc (suc (suc (suc zero))))))))) r e = rw (← same_Some «Type» r e) refl
+    tells_is (suc (suc (suc (suc (suc (suc (suc (suc (suc (suc q)))))))))) r e = absurd (none-some r e)
 
   -- the rules' answers to all questions about the chunk that is asked for
   abbrev answers : ℕ → ℕ → List (Option ℕ)
@@ -189,7 +192,7 @@ module _ (ws : List ℕ) (h : Heap) (k : Passes ws h) where
 
   -- question 3, of a block
   holder_is : (place : ℕ) (t : Bool) → any (holds_block h place) (shape ws h.bytes) ≡ t
-      → holder_of (sought_m (has_block_m h.bytes place) 0 (shape ws h.bytes))
+      → told (holder_of (sought_m (has_block_m h.bytes place) 0 (shape ws h.bytes)))
       ≡ cond (not t) (Refused NotThere) (Told (Some (spot (holds_block h place) (shape ws h.bytes)).here.place))
   unfolding holder_of
   holder_is place true e =
@@ -197,47 +200,61 @@ module _ (ws : List ℕ) (h : Heap) (k : Passes ws h) where
   holder_is place false e =
       rw (sought_block h place 0 (shape ws h.bytes) ∙ sought_none (holds_block h place) 0 (shape ws h.bytes) e)
 
+  -- the numbers of the others
+  numbered : (q : ℕ) → (q ≡ 3 → ⊥) → (leb 1 q && leb q 9) ≡ is_some (chunk_question q)
+  numbered zero n = refl
+  numbered (suc zero) n = refl
+  numbered (suc (suc zero)) n = refl
+  numbered (suc (suc (suc zero))) n = absurd (n refl)
+  numbered (suc (suc (suc (suc zero)))) n = refl
+  numbered (suc (suc (suc (suc (suc zero))))) n = refl
+  numbered (suc (suc (suc (suc (suc (suc zero)))))) n = refl
+  numbered (suc (suc (suc (suc (suc (suc (suc zero))))))) n = refl
+  numbered (suc (suc (suc (suc (suc (suc (suc (suc zero)))))))) n = refl
+  numbered (suc (suc (suc (suc (suc (suc (suc (suc (suc zero))))))))) n = refl
+  numbered (suc (suc (suc (suc (suc (suc (suc (suc (suc (suc q)))))))))) n =
+      rw (le-leb 1 (suc (suc (suc (suc (suc (suc (suc (suc (suc (suc q)))))))))) (omega arith), lt-leb (suc (suc (suc (suc (suc (suc (suc (suc (suc (suc q)))))))))) 9 (omega arith))
+
   -- every other, of a chunk
-  told_is : (q place : ℕ) → (q ≡ 3 → ⊥) → (a t : Bool) → (leb 1 q && leb q 9) ≡ a → any (is_at place) (shape ws h.bytes) ≡ t
-      → cond a (told_of ws (table_of h) (summary_of h) q (sought_m (is_at place) 0 (shape ws h.bytes))) (Refused NotThere)
-      ≡ cond (not a || not t) (Refused NotThere) (answer_to q (chunk_answers (as_read ws h) (spot (is_at place) (shape ws h.bytes))))
+  told_is : (q place : ℕ) → (q ≡ 3 → ⊥) → (t : Bool) → any (is_at place) (shape ws h.bytes) ≡ t
+      → told (told_of ws (table_of h) (summary_of h) (chunk_question q) (sought_m (is_at place) 0 (shape ws h.bytes)))
+      ≡ cond (not (leb 1 q && leb q 9) || not t) (Refused NotThere) (answer_to q (chunk_answers (as_read ws h) (spot (is_at place) (shape ws h.bytes))))
   unfolding told_of
-  told_is q place n true true ea e =
-      let r = (both (at_most 1 q) (at_most q 9)).0 ea in
-      rw (sought_spot (is_at place) 0 (shape ws h.bytes) e)
-      (tells_is (is_at place) e q r.0 r.1 n)
-  told_is q place n true false ea e = rw (sought_none (is_at place) 0 (shape ws h.bytes) e)
-  told_is q place n false t ea e = refl
+  told_is q place n t e = rw (numbered q n) (go (chunk_question q) refl t e)
+    where
+      go : (o : Option ChunkQuestion) → chunk_question q ≡ o → (t : Bool) → any (is_at place) (shape ws h.bytes) ≡ t
+          → told (told_of ws (table_of h) (summary_of h) o (sought_m (is_at place) 0 (shape ws h.bytes)))
+          ≡ cond (not (is_some o) || not t) (Refused NotThere) (answer_to q (chunk_answers (as_read ws h) (spot (is_at place) (shape ws h.bytes))))
+      go None x t e = refl
+      go (Some r) x true e = rw (sought_spot (is_at place) 0 (shape ws h.bytes) e) (tells_is (is_at place) e q r x)
+      go (Some r) x false e = rw (sought_none (is_at place) 0 (shape ws h.bytes) e)
 
   pub ask_chunk_is : (q place : ℕ)
-      → ask_chunk_m ws (table_of h) (summary_of h) q place ≡ (ask_chunk ws h q place).answer
+      → told (ask_chunk_m ws (table_of h) (summary_of h) q place) ≡ (ask_chunk ws h q place).answer
   unfolding ask_chunk_m as_read
   ask_chunk_is q place = go (ℕ_discrete q 3) ∙ sym (rule_chunk q place)
     where
       go : Dec (q ≡ 3)
-          → ask_chunk_m ws (table_of h) (summary_of h) q place
+          → told (ask_chunk_m ws (table_of h) (summary_of h) q place)
           ≡ cond (not (is_asked q (answers q place)) || not (is_there (as_read ws h) q place)) (Refused NotThere) (answer_to q (answers q place))
       go (yes e) = rw e (holder_is place _ refl)
-      go (no n) = rw (ne_eqb q 3 n) (told_is q place n _ _ refl refl)
+      go (no n) = rw (ne_eqb q 3 n) (told_is q place n _ refl)
 
   -- the answers about the list of a bin below the bin count
   list_is : (q i : ℕ) → i < h.bins
-      → ask_bin_m ws h.heads h.tails (summary_of h) q i
+      → told (ask_bin_m ws h.heads h.tails (summary_of h) q i)
       ≡ cond (not (is_asked q (bin_answers (bin_list ws h i))) || false) (Refused NotThere) (answer_to q (bin_answers (bin_list ws h i)))
-  unfolding ask_bin_m members
+  unfolding ask_bin_m list_told members
   list_is zero i l = rw (lt-leb h.bins i l)
   list_is (suc zero) i l = rw (lt-leb h.bins i l)
   list_is (suc (suc zero)) i l =
       rw (lt-leb h.bins i l)
-      (ap link_told_m (read_head ws h.bytes (get_or h.heads i 0) some_bytes.0) ∙ first_told (bin_list ws h i) (members_above i l))
+      (ap Told (ap link_told_m (read_head ws h.bytes (get_or h.heads i 0) some_bytes.0) ∙ first_told (bin_list ws h i) (members_above i l)))
   list_is (suc (suc (suc zero))) i l =
-      rw (lt-leb h.bins i l) (ap link_told_m (k.bins i l).tail ∙ last_told (bin_list ws h i) (members_above i l))
+      rw (lt-leb h.bins i l) (ap Told (ap link_told_m (k.bins i l).tail ∙ last_told (bin_list ws h i) (members_above i l)))
   list_is (suc (suc (suc (suc q)))) i l =
       rw (
         lt-leb h.bins i l,
-        ne_eqb (suc (suc (suc (suc q)))) 1 (omega arith),
-        ne_eqb (suc (suc (suc (suc q)))) 2 (omega arith),
-        ne_eqb (suc (suc (suc (suc q)))) 3 (omega arith),
         le-leb 1 (suc (suc (suc (suc q)))) (omega arith),
         lt-leb (suc (suc (suc (suc q)))) 3 (omega arith),
       )
@@ -252,7 +269,7 @@ module _ (ws : List ℕ) (h : Heap) (k : Passes ws h) where
       question_answer h (passes ws h) (not (is_asked q (bin_answers (bin_list ws h i))) || not (ltb i h.bins)) (answer_to q (bin_answers (bin_list ws h i)))
       ((passes_iff ws h).1 k)
 
-  pub ask_bin_is : (q i : ℕ) → ask_bin_m ws h.heads h.tails (summary_of h) q i ≡ (ask_bin ws h q i).answer
+  pub ask_bin_is : (q i : ℕ) → told (ask_bin_m ws h.heads h.tails (summary_of h) q i) ≡ (ask_bin ws h q i).answer
   unfolding ask_bin_m
   ask_bin_is q i = go (dec_lt i h.bins) ∙ sym (rule_bin q i)
     where
@@ -261,7 +278,7 @@ module _ (ws : List ℕ) (h : Heap) (k : Passes ws h) where
       past_all false a = refl
 
       go : Dec (i < h.bins)
-          → ask_bin_m ws h.heads h.tails (summary_of h) q i
+          → told (ask_bin_m ws h.heads h.tails (summary_of h) q i)
           ≡ cond (not (is_asked q (bin_answers (bin_list ws h i))) || not (ltb i h.bins)) (Refused NotThere) (answer_to q (bin_answers (bin_list ws h i)))
       go (yes l) = rw (lt-ltb i h.bins l) (list_is q i l)
       go (no n) =

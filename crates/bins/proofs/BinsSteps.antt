@@ -1,10 +1,18 @@
 -- Leaving and putting call by call, over plain variables, and the two searches turn by turn, as the code's loops go. Assumes nothing.
-use Rattle.std.proofs.Common.{◌≡◌, ℕ, zero, suc, ◌+◌, ◌-◌, ◌*◌, ◌/◌, ◌%◌, ◌^◌, ◌<◌, ◌≤◌, true, false, List, get_or, refl, ap, add-one, sub-one, arith, eq-eqb, ne_eqb, le-leb}
+use Rattle.std.proofs.Common.{◌≡◌, ℕ, zero, suc, ◌+◌, ◌-◌, ◌*◌, ◌/◌, ◌%◌, ◌<◌, ◌≤◌, Some, None, List, get_or, refl, ap, add-one, arith, eq-eqb, ne_eqb, le-leb}
 use borrow.Author.Tests.{lt-leb}
 use Rattle.region.specs.Words.{word, store, size, next_in_bin, previous_in_bin, bin}
 use Rattle.books.specs.Books.{Books, books}
+use Rattle.record.specs.Heap.{at}
 use Rattle.bins.specs.declared.Slot.{Slot}
-use Rattle.bins.specs.Bins.{Side, side, link_m, leave_m, slot, put_m, steps, first_fit_m, member_before_m, slot_m, some_end}
+use Rattle.bins.specs.Bins.{Side, side, chunk_or_none, link_m, leave_m, put_m, first_fit_m, some_end}
+
+-- what a search answers
+pub no_chunk : {c : ℕ} → c ≡ 0 → None ≡ chunk_or_none c
+no_chunk {c} e = rw (eq-eqb c 0 e)
+
+pub a_chunk : {c : ℕ} → (c ≡ 0 → ⊥) → {d : ℕ} → c ≡ d → Some (at c) ≡ chunk_or_none d
+a_chunk {c} n e = rw (← e, ne_eqb c 0 n)
 
 words_of : {ws ends : List ℕ} {s : Side} → side ws ends ≡ s → ws ≡ s.words
 words_of e = ap (λ (s : Side). s.words) e
@@ -32,17 +40,6 @@ module _ (b : Books) {ws₁ heads₁ : List ℕ} where
   unfolding put_m
   put_steps s c front e₂ e₃ back en e₅ = rw (e₅, en, words_of back, ends_of back, e₃, e₂, words_of front, ends_of front)
 
--- the place of a chunk of s bytes: the head is read; outside the small array the first larger member is sought, and the one before it read
-module _ (b : Books) (i s : ℕ) {head : ℕ} (eh : head ≡ get_or b.heads i 0) where
-  pub slot_at_head : slot i 0 head ≡ slot_m b true i s
-  unfolding slot_m
-  slot_at_head = rw eh
-
-  pub slot_in_order : {need larger before : ℕ} → need ≡ (s + 1) % 2 ^ 32 → larger ≡ first_fit_m steps b.words need head
-      → before ≡ member_before_m b.words b.tails i larger → slot i before larger ≡ slot_m b false i s
-  unfolding slot_m
-  slot_in_order en el eb = rw (eb, el, en, eh)
-
 module _ (ws : List ℕ) (need c : ℕ) where
   pub fit_spent : (left : ℕ) → left ≤ 0 → first_fit_m left ws need c ≡ 0
   unfolding first_fit_m
@@ -59,11 +56,17 @@ module _ (ws : List ℕ) (need c : ℕ) where
   fit_here zero h ne le = absurd (omega arith)
   fit_here (suc left) h ne le = rw (ne_eqb c 0 ne, le-leb need (word ws c size) le, first_fit_m)
 
-  pub fit_goes : (left : ℕ) → 0 < left → (c ≡ 0 → ⊥) → word ws c size < need
-      → first_fit_m left ws need c ≡ first_fit_m (left - 1) ws need (word ws c next_in_bin)
+  fit_goes : (left : ℕ) → (c ≡ 0 → ⊥) → word ws c size < need
+      → first_fit_m (suc left) ws need c ≡ first_fit_m left ws need (word ws c next_in_bin)
   unfolding first_fit_m
-  fit_goes zero h ne lt = absurd (omega arith)
-  fit_goes (suc left) h ne lt = rw (ne_eqb c 0 ne, lt-leb need (word ws c size) lt, sub-one, first_fit_m)
+  fit_goes left ne lt = rw (ne_eqb c 0 ne, lt-leb need (word ws c size) lt, first_fit_m)
+
+  -- after i of `most` steps
+  pub fit_goes_from : (most i : ℕ) → i < most → (c ≡ 0 → ⊥) → word ws c size < need
+      → first_fit_m (most - i) ws need c ≡ first_fit_m (most - (i + 1)) ws need (word ws c next_in_bin)
+  fit_goes_from most i h ne lt =
+      let s : most - i ≡ suc (most - (i + 1)) = omega arith in
+      rw s (fit_goes (most - (i + 1)) ne lt)
 
 module _ (ends : List ℕ) (i : ℕ) where
   pub end_spent : (left : ℕ) → left ≤ 0 → some_end left ends i ≡ 0

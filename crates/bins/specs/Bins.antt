@@ -1,8 +1,10 @@
 -- What the code does to the words and to the bins' ends, call by call: these definitions mirror the code.
 -- Nobody needs to believe them: `proofs/` shows that on a heap's lists they do what the rules say.
-use Rattle.std.specs.Prelude.{ℕ, zero, suc, ◌+◌, ◌-◌, ◌*◌, ◌/◌, ◌%◌, ◌^◌, Bool, true, false, cond, List, ◌==◌, nat_le, slice_index, slice_index_or, slice_set}
+use Rattle.std.specs.Prelude.{ℕ, zero, suc, ◌+◌, ◌-◌, ◌*◌, ◌/◌, ◌%◌, ◌^◌, Bool, true, false, cond, List, Option, Some, None, ◌==◌, nat_le, slice_index, slice_index_or, slice_set}
 use Rattle.bins.specs.declared.Slot.{Slot}
 use Rattle.books.specs.Books.{Books, books}
+use Rattle.record.specs.Heap.{at}
+use Rattle.region.specs.declared.Chunk.{Chunk}
 use Rattle.region.specs.Words.{word, store, size, next_in_bin, previous_in_bin, bin}
 
 -- the words with one of the two arrays of ends
@@ -38,6 +40,10 @@ put_m b s c =
     let own : List ℕ = store (store front.words c previous_in_bin s.before) c next_in_bin s.after in
     let back : Side = link_m (side own b.tails) i s.after previous_in_bin c in
     books (store back.words c bin (i % 32 * 8)) front.ends back.ends
+
+-- the chunk that a link or an end names; 0 is none
+abbrev pub chunk_or_none : ℕ → Option Chunk
+chunk_or_none c = cond (c == 0) None (Some (at c))
 
 -- the steps that a search takes along a list at most
 abbrev pub steps : ℕ

@@ -1,13 +1,13 @@
 // The bins' free lists, which are doubly linked: leaving one, finding a place in one and putting a chunk there, first fit, the next bin that is
 // not empty.
-// Head and tail of a bin stand in two slices, the links in the region. Which bin a chunk belongs in is not known here.
+// Head and tail of a bin stand in the record's `Ends`, the links in the region. Which bin a chunk belongs in is not known here.
 #![tactic(auto)]
 
 ghost use Rattle.std.specs.Prelude.{◌≡◌, ◌*◌, ◌%◌, slice_index, slice_set};
 ghost use Rattle.books.specs.Books.{books};
-ghost use Rattle.bins.specs.Bins.{side, link_m, leave_m, put_m, first_fit_m, next_occupied_m, member_before_m, slot_m, steps};
+ghost use Rattle.bins.specs.Bins.{side, chunk_or_none, link_m, leave_m, put_m, first_fit_m, next_occupied_m, member_before_m, slot_m, steps};
 
-use record::heap::PLACES;
+use record::heap::{Ends, PLACES};
 use region::{BIN, BIN_FACTOR, Chunk, MOST_WORDS, NEXT_IN_BIN, PREVIOUS_IN_BIN, SIZE, store, word};
 
 // More steps along a list than the largest region has chunks, each of which has two words at least: damaged links might form a ring.
@@ -45,6 +45,7 @@ pub fn bin_word(bin: usize) -> u32
 }
 
 // The start chunk, at 0, is in no list: a link from 0 is the end of the list.
+#[tactic(auto, unfolding(crate::specs::Bins::link_m))]
 fn link(region: &mut [u32], ends: &mut [u32], bin: usize, from: u32, number: u32, to: u32)
     ensures { side region.new ends.new ≡ link_m (side region.old ends.old) bin from number to }
 {
@@ -56,53 +57,47 @@ fn link(region: &mut [u32], ends: &mut [u32], bin: usize, from: u32, number: u32
 }
 
 // The chunk's own words stay as they are: the caller clears them or puts it elsewhere.
-pub fn leave(region: &mut [u32], heads: &mut [u32], tails: &mut [u32], chunk: Chunk)
-    ensures { books region.new heads.new tails.new ≡ leave_m (books region.old heads.old tails.old) chunk.0 }
+pub fn leave(region: &mut [u32], ends: &mut Ends, chunk: Chunk)
+    ensures { books region.new ends.new.heads ends.new.tails ≡ leave_m (books region.old ends.old.heads ends.old.tails) chunk.0 }
 {
-    let next = word(region, chunk, NEXT_IN_BIN);
-    let previous = word(region, chunk, PREVIOUS_IN_BIN);
+    let after = word(region, chunk, NEXT_IN_BIN);
+    let before = word(region, chunk, PREVIOUS_IN_BIN);
     let bin = (word(region, chunk, BIN) / BIN_FACTOR) as usize;
-    link(region, heads, bin, previous, NEXT_IN_BIN, next);
-    link(region, tails, bin, next, PREVIOUS_IN_BIN, previous);
+    link(region, &mut ends.heads, bin, before, NEXT_IN_BIN, after);
+    link(region, &mut ends.tails, bin, after, PREVIOUS_IN_BIN, before);
 }
 
-pub fn put_between(
-    region: &mut [u32],
-    heads: &mut [u32],
-    tails: &mut [u32],
-    slot: Slot,
-    chunk: Chunk,
-)
-    ensures { books region.new heads.new tails.new ≡ put_m (books region.old heads.old tails.old) slot chunk.0 }
+pub fn put_between(region: &mut [u32], ends: &mut Ends, slot: Slot, chunk: Chunk)
+    ensures { books region.new ends.new.heads ends.new.tails ≡ put_m (books region.old ends.old.heads ends.old.tails) slot chunk.0 }
 {
-    let bin = slot.bin;
-    link(region, heads, bin, slot.before, NEXT_IN_BIN, chunk.0);
-    store(region, chunk, PREVIOUS_IN_BIN, slot.before);
-    store(region, chunk, NEXT_IN_BIN, slot.after);
-    link(region, tails, bin, slot.after, PREVIOUS_IN_BIN, chunk.0);
+    let Slot { bin, before, after } = slot;
+    let at = chunk.0;
+    link(region, &mut ends.heads, bin, before, NEXT_IN_BIN, at);
+    store(region, chunk, PREVIOUS_IN_BIN, before);
+    store(region, chunk, NEXT_IN_BIN, after);
+    link(region, &mut ends.tails, bin, after, PREVIOUS_IN_BIN, at);
     store(region, chunk, BIN, bin_word(bin));
 }
 
-// First fit: the first chunk of a list, in its order, that has the need. Chunk(0), the start chunk, says that there is none.
-pub fn first_fit(region: &[u32], first: Chunk, need: u32) -> Chunk
-    ensures { result.0 ≡ first_fit_m steps region.now need first.0 }
+// First fit: the first chunk of a list, in its order, that has the need.
+pub fn first_fit(region: &[u32], first: Chunk, need: u32) -> Option<Chunk>
+    ensures { result ≡ chunk_or_none (first_fit_m steps region.now need first.0) }
 {
     let mut at = first.0;
-    let mut left = STEPS;
-    while left > 0 {
+    for _ in 0..STEPS {
         if at == 0 {
-            return Chunk(0);
+            return None;
         }
         if word(region, Chunk(at), SIZE) >= need {
-            return Chunk(at);
+            return Some(Chunk(at));
         }
         at = word(region, Chunk(at), NEXT_IN_BIN);
-        left -= 1;
     }
-    Chunk(0)
+    None
 }
 
 // The member before the one at `at`; before the end of the list, at 0, stands the tail.
+#[tactic(auto, unfolding(crate::specs::Bins::member_before_m))]
 fn member_before(region: &[u32], tails: &[u32], bin: usize, at: u32) -> u32
     ensures { result ≡ member_before_m region.now tails.now bin at }
 {
@@ -114,46 +109,39 @@ fn member_before(region: &[u32], tails: &[u32], bin: usize, at: u32) -> u32
 
 // Where a chunk of this size goes in a bin: at the head of a bin of the small array, which is last in, first out; in any other before the first
 // larger member, and so behind those of equal size. `small` says which the bin is. The first larger member is the first fit for one byte more.
-pub fn slot_for(
-    region: &[u32],
-    heads: &[u32],
-    tails: &[u32],
-    small: bool,
-    bin: usize,
-    size: u32,
-) -> Slot
-    ensures { result ≡ slot_m (books region.now heads.now tails.now) small bin size }
+#[tactic(auto, unfolding(crate::specs::Bins::slot_m))]
+pub fn slot_for(region: &[u32], ends: &Ends, small: bool, bin: usize, size: u32) -> Slot
+    ensures { result ≡ slot_m (books region.now ends.now.heads ends.now.tails) small bin size }
 {
-    let head = list_end(heads, bin);
+    let head = list_end(&ends.heads, bin);
     if small {
         return Slot {
-            bin: bin,
+            bin,
             before: 0,
             after: head,
         };
     }
-    let larger = first_fit(region, Chunk(head), std::num::wrapping_add_u32(size, 1));
+    let larger = first_fit(region, Chunk(head), size.wrapping_add(1));
+    let after = larger.map_or(0, |chunk| chunk.0);
     Slot {
-        bin: bin,
-        before: member_before(region, tails, bin, larger.0),
-        after: larger.0,
+        bin,
+        before: member_before(region, &ends.tails, bin, after),
+        after,
     }
 }
 
 // The head of the next bin above this one that is not empty: each chunk of it is larger than every need of this bin.
-pub fn next_occupied(heads: &[u32], above: usize, bins: usize) -> Chunk
-    ensures { result.0 ≡ next_occupied_m heads.now above bins }
+pub fn next_occupied(heads: &[u32], above: usize, bins: usize) -> Option<Chunk>
+    ensures { result ≡ chunk_or_none (next_occupied_m heads.now above bins) }
 {
     if bins <= above {
-        return Chunk(0);
+        return None;
     }
-    let mut i = above + 1;
-    while i < bins {
-        let head = list_end(heads, i);
+    for bin in above + 1..bins {
+        let head = list_end(heads, bin);
         if head != 0 {
-            return Chunk(head);
+            return Some(Chunk(head));
         }
-        i += 1;
     }
-    Chunk(0)
+    None
 }

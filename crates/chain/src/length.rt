@@ -8,6 +8,7 @@ use region::{ALIGNMENT, FEWEST_WORDS, MOST_WORDS};
 const PAIR_BYTES: usize = ALIGNMENT as usize;
 
 // The region has a permitted number of words, and the heap bytes are all of them but an odd last one.
+#[tactic(auto, unfolding(crate::specs::Length::fits_length_m))]
 pub fn fits_length(words: usize, bytes: u32) -> bool
     ensures { result ≡ fits_length_m words bytes }
 {

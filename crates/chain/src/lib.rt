@@ -14,6 +14,7 @@ use region::{Chunk, END_SIZE};
 pub mod length;
 
 // A chunk's size says nothing of its kind, so that the answer is right for every size.
+#[tactic(auto, unfolding(rules::specs::Kinds::kind_at, rules::specs::Kinds::in_use))]
 pub fn kind_of(summary: Summary, chunk: Chunk, flags: u32) -> Kind
     ensures { (s : ℕ) → result ≡ kind_m summary (entry chunk.0 s flags) }
 {
@@ -26,10 +27,10 @@ pub fn kind_of(summary: Summary, chunk: Chunk, flags: u32) -> Kind
     if flags % 2 == 1 {
         return Kind::InUse;
     }
-    if chunk.0 == summary.top.0 {
+    if chunk == summary.top {
         return Kind::Top;
     }
-    if chunk.0 == summary.donor.0 {
+    if chunk == summary.donor {
         return Kind::Donor;
     }
     Kind::Ordinary
@@ -38,30 +39,17 @@ pub fn kind_of(summary: Summary, chunk: Chunk, flags: u32) -> Kind
 pub fn is_ordinary(kind: Kind) -> bool
     ensures { result ≡ ordinary_kind kind }
 {
-    match kind {
-        Kind::Start => false,
-        Kind::InUse => false,
-        Kind::Ordinary => true,
-        Kind::Donor => false,
-        Kind::Top => false,
-        Kind::End => false,
-    }
+    kind == Kind::Ordinary
 }
 
 pub fn is_free(kind: Kind) -> bool
     ensures { result ≡ free_kind kind }
 {
-    match kind {
-        Kind::Start => false,
-        Kind::InUse => false,
-        Kind::Ordinary => true,
-        Kind::Donor => true,
-        Kind::Top => true,
-        Kind::End => false,
-    }
+    matches!(kind, Kind::Ordinary | Kind::Donor | Kind::Top)
 }
 
 // Where a chunk ends: at the next one, or, if its forward link does not go up inside the heap, with the heap.
+#[tactic(auto, unfolding(crate::specs::Chain::end_m))]
 pub fn end_of(bytes: u32, chunk: Chunk, next: u32) -> u32
     ensures { result ≡ end_m bytes chunk.0 next }
 {

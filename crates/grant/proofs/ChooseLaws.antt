@@ -8,6 +8,10 @@ use Rattle.record.specs.Table.{small, TakenBy, bin_of}
 use Rattle.record.proofs.TableLaws.{bin_is}
 use Rattle.region.specs.declared.Chunk.{Chunk}
 use Rattle.rules.specs.Serve.{in_order, first_of}
+use Rattle.bins.specs.Bins.{chunk_or_none}
+use Rattle.record.specs.Heap.{at}
+use Rattle.std.proofs.lemmas.Option.{none-some, same_Some}
+use native.Mathlib.Decide.{ℕ_discrete}
 use Rattle.grant.specs.Choose.{own_m, larger_m, donor_m, top_m, top_or_donor_m, choose_m}
 
 -- the donor's turn does not come before the larger bins: it does not serve, or the need is not small
@@ -41,39 +45,57 @@ pub record Chooses (ws table heads : List ℕ) (s : Summary) (n : ℕ) (r : Opti
 pub chooses : {ws table heads : List ℕ} {s : Summary} {n : ℕ} {r : Option Source} → Chooses ws table heads s n r → r ≡ choose_m ws table heads s n
 chooses c = c.is
 
--- b is the need's bin, and `own` what it has
-pub record OwnBin (ws table heads : List ℕ) (n : ℕ) (b : Option ℕ) (own : Chunk) : Type 0 where
-  pub taken : TakenBy table n b
-  pub found : own.0 ≡ own_m ws heads n b
+-- a search of a bin found a chunk, or none
+found_chunk : {c : Chunk} {m : ℕ} {r : Option Chunk} → r ≡ chunk_or_none m → r ≡ Some c → (c.0 ≡ m) × (c.0 ≡ 0 → ⊥)
+found_chunk {c} {m} e s = go (ℕ_discrete m 0) (sym s ∙ e)
+  where
+    go : Dec (m ≡ 0) → Some c ≡ chunk_or_none m → (c.0 ≡ m) × (c.0 ≡ 0 → ⊥)
+    go (yes z) h = absurd (none-some c (sym (rw (eq-eqb m 0 z) at h)))
+    go (no n) h =
+        let same : c.0 ≡ m = ap (λ (d : Chunk). d.0) (same_Some c (at m) (rw (ne_eqb m 0 n) at h)) in
+        (same, λ z. n (sym same ∙ z))
 
-module _ {ws table heads : List ℕ} {n : ℕ} {b : Option ℕ} {own : Chunk} (o : OwnBin ws table heads n b own) where
+found_none : {m : ℕ} {r : Option Chunk} → r ≡ chunk_or_none m → r ≡ None → m ≡ 0
+found_none {m} e s = go (ℕ_discrete m 0) (sym s ∙ e)
+  where
+    go : Dec (m ≡ 0) → None ≡ chunk_or_none m → m ≡ 0
+    go (yes z) h = z
+    go (no n) h = absurd (none-some (at m) (rw (ne_eqb m 0 n) at h))
+
+-- b is the need's bin, and `own` what it has
+pub record OwnBin (ws table heads : List ℕ) (n : ℕ) (b : Option ℕ) (own : Option Chunk) : Type 0 where
+  pub taken : TakenBy table n b
+  pub found : own ≡ chunk_or_none (own_m ws heads n b)
+
+module _ {ws table heads : List ℕ} {n : ℕ} {b : Option ℕ} {own : Option Chunk} (o : OwnBin ws table heads n b own) where
   binned : b ≡ bin_of table n
   binned = bin_is table n b o.taken
 
-  own_is : own_m ws heads n (bin_of table n) ≡ own.0
-  own_is = sym (o.found ∙ ap (own_m ws heads n) binned)
+  own_is : own_m ws heads n (bin_of table n) ≡ own_m ws heads n b
+  own_is = ap (own_m ws heads n) (sym binned)
 
-  larger_is : {larger : Chunk} → larger.0 ≡ larger_m heads (length table) b → larger_m heads (length table) (bin_of table n) ≡ larger.0
-  larger_is e = sym (e ∙ ap (larger_m heads (length table)) binned)
+  larger_is : larger_m heads (length table) (bin_of table n) ≡ larger_m heads (length table) b
+  larger_is = ap (larger_m heads (length table)) (sym binned)
 
   -- each try is made where those before it have failed
   module _ {s : Summary} where
-    pub from_own : (own.0 ≡ 0 → ⊥) → Chooses ws table heads s n (Some (FromBin own))
+    pub from_own : {c : Chunk} → own ≡ Some c → Chooses ws table heads s n (Some (FromBin c))
     unfolding choose_m
-    from_own k = record { is = rw (own_is, ne_eqb own.0 0 k) }
+    from_own e = let (is, some) = found_chunk o.found e in record { is = rw (own_is, ← is, ne_eqb _ 0 some) }
 
-    module _ (ho : own.0 ≡ 0) {d : Bool} (ed : d ≡ donor_m ws s.donor.0 n) where
+    module _ (none : own ≡ None) {d : Bool} (ed : d ≡ donor_m ws s.donor.0 n) where
       pub from_donor_first : d ≡ true → small table n ≡ true → Chooses ws table heads s n (Some FromDonor)
       unfolding choose_m
-      from_donor_first h little = record { is = rw (own_is, eq-eqb own.0 0 ho, sym ed ∙ h, little) }
+      from_donor_first h little = record { is = rw (own_is, found_none o.found none, sym ed ∙ h, little) }
 
-      module _ {larger : Chunk} (el : larger.0 ≡ larger_m heads (length table) b) (later : Later d (small table n)) where
-        pub from_larger : (larger.0 ≡ 0 → ⊥) → Chooses ws table heads s n (Some (FromBin larger))
+      module _ {larger : Option Chunk} (el : larger ≡ chunk_or_none (larger_m heads (length table) b)) (later : Later d (small table n)) where
+        pub from_larger : {c : Chunk} → larger ≡ Some c → Chooses ws table heads s n (Some (FromBin c))
         unfolding choose_m
-        from_larger k =
-            record { is = rw (own_is, eq-eqb own.0 0 ho, ← ed, larger_is el, ne_eqb larger.0 0 k) (larger_next (small table n) d larger _ later) }
+        from_larger {c} e =
+            let (is, some) = found_chunk el e in
+            record { is = rw (own_is, found_none o.found none, ← ed, larger_is, ← is, ne_eqb c.0 0 some) (larger_next (small table n) d c _ later) }
 
-        pub from_rest : larger.0 ≡ 0 → {t : Bool} → t ≡ top_m ws s.top.0 n → {r : Option Source} → r ≡ top_or_donor_m t d → Chooses ws table heads s n r
+        pub from_rest : larger ≡ None → {t : Bool} → t ≡ top_m ws s.top.0 n → {r : Option Source} → r ≡ top_or_donor_m t d → Chooses ws table heads s n r
         unfolding choose_m
-        from_rest hl {t} et er =
-            record { is = rw (er, own_is, eq-eqb own.0 0 ho, ← ed, larger_is el, eq-eqb larger.0 0 hl, ← et) (rest_next (small table n) d t later) }
+        from_rest e {t} et er =
+            record { is = rw (er, own_is, found_none o.found none, ← ed, larger_is, found_none el e, ← et) (rest_next (small table n) d t later) }

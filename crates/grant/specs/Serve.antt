@@ -1,11 +1,10 @@
 -- What a request for room leaves behind, as the code makes it: these definitions mirror the code; the callers set the record.
 -- That on a heap that passes it is what the rules say is proved (`ServeMeaning`).
-use Rattle.std.specs.Prelude.{ℕ, ◌+◌, ◌-◌, ◌%◌, ◌^◌, List, Option, Some, None}
+use Rattle.std.specs.Prelude.{ℕ, ◌+◌, ◌-◌, ◌%◌, ◌^◌, List, Option}
 use Rattle.books.specs.Books.{Books, books}
 use Rattle.drafts.specs.Sources.{kind_in, place_in}
 use Rattle.grant.specs.declared.cut.Cut.{Cut}
 use Rattle.grant.specs.declared.serve.Portion.{Portion}
-use Rattle.grant.specs.declared.serve.Order.{Order}
 use Rattle.grant.specs.Cut.{cut_m, take_m}
 use Rattle.record.specs.declared.heap.Heap.{Heap}
 use Rattle.record.specs.declared.heap.Summary.{Summary}
@@ -23,9 +22,6 @@ pub record Served : Type 0 where
 abbrev pub served : Books → Portion → Served
 served b g = record { books = b; grant = g }
 
-abbrev pub order : Option Source → ℕ → Order
-order source n = record { source = source; need = n }
-
 -- the summary once m bytes of a chunk of this kind are granted, and the rest of it starts at c
 abbrev pub granted_in : Summary → Kind → ℕ → ℕ → Summary
 granted_in s kind c m = used_now (settled_m s kind c) ((s.used + m) % 2 ^ 32)
@@ -37,8 +33,8 @@ taken_m b table s kind c n =
     let size : ℕ = t.rest.0 - c in
     served (take_m b table kind t) (record { chunk = at c; size = size; summary = granted_in s kind t.rest.0 size })
 
-unfoldable pub serve_m : Books → List ℕ → Summary → Order → Served
-serve_m b table s o = taken_m b table s (kind_in o.source) (place_in s.donor.0 s.top.0 o.source) o.need
+unfoldable pub serve_m : Books → List ℕ → Summary → Option Source → ℕ → Served
+serve_m b table s source n = taken_m b table s (kind_in source) (place_in s.donor.0 s.top.0 source) n
 
 -- the words and the granted chunk, with the record that the callers make of it
 pub record AfterGrant : Type 0 where
@@ -58,4 +54,4 @@ after_grant h s =
     }
 
 unfoldable pub served_m : List ℕ → List ℕ → Heap → Option Source → ℕ → AfterGrant
-served_m ws table h source n = after_grant h (serve_m (books ws h.heads h.tails) table (summary_of h) (order source n))
+served_m ws table h source n = after_grant h (serve_m (books ws h.heads h.tails) table (summary_of h) source n)

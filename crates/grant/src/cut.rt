@@ -3,11 +3,12 @@
 ghost use Rattle.std.specs.Prelude.{◌≡◌};
 ghost use Rattle.books.specs.Books.{books};
 ghost use Rattle.grant.specs.Cut.{cut_m, granted_m, take_m};
-ghost use Rattle.record.specs.Table.{ValidTable};
 
 use chain::is_ordinary;
 use headers::{distance, write_above, write_free, write_used};
+use record::heap::Ends;
 use record::kinds::Kind;
+use record::table::Table;
 use region::{ALIGNMENT, BACKWARD, Chunk, FORWARD, LEAST, SIZE, word};
 use settling::{Arrival, leave_bin, settle};
 
@@ -22,6 +23,7 @@ pub struct Cut {
 }
 
 // What is left may be smaller than any chunk: then all of it is granted too.
+#[tactic(auto, unfolding(crate::specs::Cut::granted_m))]
 pub fn granted(need: u32, size: u32) -> u32
     ensures { result ≡ granted_m need size }
 {
@@ -33,6 +35,7 @@ pub fn granted(need: u32, size: u32) -> u32
 }
 
 // A free chunk has no flag set, so that its backward link is the place below it.
+#[tactic(auto, unfolding(crate::specs::Cut::cut_m))]
 pub fn cut_of(region: &[u32], chunk: Chunk, need: u32) -> Cut
     ensures { result ≡ cut_m region.now chunk.0 need }
 {
@@ -42,39 +45,29 @@ pub fn cut_of(region: &[u32], chunk: Chunk, need: u32) -> Cut
     let flags = word(region, Chunk(end), BACKWARD) % ALIGNMENT;
     Cut {
         below: Chunk(below),
-        chunk: chunk,
-        rest: Chunk(std::num::wrapping_add_u32(chunk.0, given)),
+        chunk,
+        rest: Chunk(chunk.0.wrapping_add(given)),
         end: Chunk(end),
-        flags: flags,
+        flags,
     }
 }
 
 // The writes. Only an ordinary chunk is in a bin, and leaves it.
-pub fn take(
-    region: &mut [u32],
-    heads: &mut [u32],
-    tails: &mut [u32],
-    table: &[u32],
-    kind: Kind,
-    cut: Cut,
-)
-    requires { ValidTable table.now }
-    ensures { books region.new heads.new tails.new ≡ take_m (books region.old heads.old tails.old) table.now kind cut }
+pub fn take(region: &mut [u32], ends: &mut Ends, table: Table<'_>, kind: Kind, cut: Cut)
+    ensures { books region.new ends.new.heads ends.new.tails ≡ take_m (books region.old ends.old.heads ends.old.tails) table.entry.sizes.now kind cut }
 {
-    leave_bin(region, heads, tails, is_ordinary(kind), cut.chunk);
+    leave_bin(region, ends, is_ordinary(kind), cut.chunk);
     write_used(region, cut.below, cut.chunk, cut.rest);
-    if cut.rest.0 == cut.end.0 {
+    if cut.rest == cut.end {
         write_above(region, cut.chunk, cut.end, cut.flags);
         return;
     }
     write_free(region, cut.chunk, cut.rest, cut.end);
     write_above(region, cut.rest, cut.end, cut.flags);
-    let rest = cut.rest;
-    let size = distance(rest.0, cut.end.0);
     let arrival = Arrival {
         becomes: kind,
-        chunk: rest,
-        size: size,
+        chunk: cut.rest,
+        size: distance(cut.rest.0, cut.end.0),
     };
-    settle(region, heads, tails, table, arrival);
+    settle(region, ends, table, arrival);
 }

@@ -14,13 +14,11 @@ const ROUNDING: u32 = OVERHEAD + ALIGNMENT - 1;
 pub fn is_permitted(z: u64) -> bool
     ensures { result ≡ permitted z }
 {
-    if z < 1 {
-        return false;
-    }
-    z <= MOST_BYTES as u64
+    (1..=MOST_BYTES as u64).contains(&z)
 }
 
 // Of a size that is not permitted the need is 0: callers have refused it before.
+#[tactic(auto, unfolding(crate::specs::Need::need_m))]
 pub fn need_of(z: u32) -> u32
     ensures { result ≡ need_m z }
 {
@@ -28,5 +26,5 @@ pub fn need_of(z: u32) -> u32
         return 0;
     }
     let n = (z + ROUNDING) / ALIGNMENT * ALIGNMENT;
-    if n < LEAST { LEAST } else { n }
+    n.max(LEAST)
 }

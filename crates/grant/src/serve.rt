@@ -1,17 +1,16 @@
 // A request for room, met from its source by a cut. The bins' ends are lent, and the summary is handed back: the caller sets the record.
 // Where nothing can serve, the caller has refused before.
-ghost use Rattle.std.specs.Prelude.{◌≡◌};
+ghost use Rattle.std.specs.Prelude.{◌≡◌, Some};
 ghost use Rattle.books.specs.Books.{books};
 ghost use Rattle.drafts.specs.Sources.{kind_in, place_in};
 ghost use Rattle.grant.specs.Serve.{served, serve_m};
-ghost use Rattle.record.specs.Table.{ValidTable};
-ghost use Rattle.rules.specs.Serve.{nowhere};
 
 use crate::cut::{cut_of, take};
 use headers::distance;
-use record::heap::Summary;
+use record::heap::{Ends, Summary};
 use record::kinds::Kind;
 use record::sources::Source;
+use record::table::Table;
 use region::Chunk;
 use settling::settled;
 
@@ -30,62 +29,46 @@ pub struct Portion {
     pub summary: Summary,
 }
 
-pub fn is_nowhere(source: Source) -> bool
-    ensures { result ≡ nowhere source }
-{
-    match source {
-        Source::FromBin(_) => false,
-        Source::FromDonor => false,
-        Source::FromTop => false,
-        Source::Nowhere => true,
-    }
-}
-
 fn kind_in(source: Source) -> Kind
-    ensures { result ≡ kind_in source }
+    ensures { result ≡ kind_in (Some source) }
 {
     match source {
         Source::FromBin(_) => Kind::Ordinary,
         Source::FromDonor => Kind::Donor,
         Source::FromTop => Kind::Top,
-        Source::Nowhere => Kind::Start,
     }
 }
 
 fn place_in(summary: Summary, source: Source) -> Chunk
-    ensures { result.0 ≡ place_in summary.donor.0 summary.top.0 source }
+    ensures { result.0 ≡ place_in summary.donor.0 summary.top.0 (Some source) }
 {
     match source {
         Source::FromBin(chunk) => chunk,
         Source::FromDonor => summary.donor,
         Source::FromTop => summary.top,
-        Source::Nowhere => Chunk(0),
     }
 }
 
 // The sum of used bytes never wraps: it is at most the heap bytes.
 pub fn serve(
     region: &mut [u32],
-    heads: &mut [u32],
-    tails: &mut [u32],
-    table: &[u32],
+    ends: &mut Ends,
+    table: Table<'_>,
     summary: Summary,
     order: Order,
 ) -> Portion
-    requires { ValidTable table.now }
-    ensures { served (books region.new heads.new tails.new) result ≡ serve_m (books region.old heads.old tails.old) table.now summary order }
+    ensures { served (books region.new ends.new.heads ends.new.tails) result ≡ serve_m (books region.old ends.old.heads ends.old.tails) table.entry.sizes.now summary (Some order.source) order.need }
 {
-    let source = order.source;
-    let kind = kind_in(source);
-    let chunk = place_in(summary, source);
+    let kind = kind_in(order.source);
+    let chunk = place_in(summary, order.source);
     let cut = cut_of(region, chunk, order.need);
     let rest = cut.rest;
     let size = distance(chunk.0, rest.0);
-    take(region, heads, tails, table, kind, cut);
-    let used = std::num::wrapping_add_u32(summary.used, size);
+    take(region, ends, table, kind, cut);
+    let used = summary.used.wrapping_add(size);
     Portion {
-        chunk: chunk,
-        size: size,
+        chunk,
+        size,
         summary: settled(summary, kind, rest).with_used(used),
     }
 }

@@ -19,8 +19,7 @@ use Rattle.rules.specs.Shape.{shape}
 use Rattle.rules.specs.Statements.{Meets}
 use Rattle.rules.proofs.CheckLaws.{passes_iff}
 use Rattle.seek.specs.declared.Place.{Place}
-use Rattle.seek.specs.declared.Sought.{Sought}
-use Rattle.seek.specs.declared.Sought.TheVariants.{Found, NotFound}
+use Rattle.std.specs.Prelude.{Option, Some, None}
 use Rattle.seek.specs.Seek.{sought_m, has_block_m}
 use Rattle.release.proofs.FindLaws.{not_live, live_at}
 use Rattle.reclaim.specs.Reclaim.{reclaim_m}
@@ -45,12 +44,12 @@ module _ {ws : List ℕ} {h : Heap} {b : ℕ} where
     unfolding free as_read
     free_none e = record { meets = rw (q, eq-eqb b 0 e) refl }
 
-    module _ (n : b ≡ 0 → ⊥) {s : Sought} (e : s ≡ sought_m (has_block_m h.bytes b) 0 (shape ws h.bytes)) where
-      pub free_refuses : s ≡ NotFound → Freed ws h b (refused_reply h NotLive) ws
+    module _ (n : b ≡ 0 → ⊥) {s : Option Place} (e : s ≡ sought_m (has_block_m h.bytes b) 0 (shape ws h.bytes)) where
+      pub free_refuses : s ≡ None → Freed ws h b (refused_reply h NotLive) ws
       unfolding free
       free_refuses z = record { meets = rw (q, ne_eqb b 0 n, not_live ws h ((passes_iff ws h).0 q) b s e z) refl }
 
-      pub free_reclaims : {x : Place} → s ≡ Found x → {s₀ : Summary} → s₀ ≡ summary_of h
+      pub free_reclaims : {x : Place} → s ≡ Some x → {s₀ : Summary} → s₀ ≡ summary_of h
           → {k : Books} {a : Answered} → concluded k a ≡ reclaim_m (books ws h.heads h.tails) (table_of h) s₀ x
           → {after : Heap} → after ≡ with_ends (with_summary h a.summary) k.heads k.tails
           → Freed ws h b (reply after a.answer) k.words

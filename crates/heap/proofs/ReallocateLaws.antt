@@ -17,8 +17,7 @@ use Rattle.rules.specs.Shape.{shape}
 use Rattle.rules.specs.Statements.{Meets, replied}
 use Rattle.rules.proofs.CheckLaws.{passes_iff}
 use Rattle.seek.specs.declared.Place.{Place}
-use Rattle.seek.specs.declared.Sought.{Sought}
-use Rattle.seek.specs.declared.Sought.TheVariants.{Found, NotFound}
+use Rattle.std.specs.Prelude.{Option, Some, None}
 use Rattle.seek.specs.Seek.{sought_m, has_block_m}
 use Rattle.grant.specs.Need.{need_m}
 use Rattle.grant.proofs.NeedMeaning.{permitted_need}
@@ -49,12 +48,12 @@ module _ {ws : List ℕ} {h : Heap} {b z : ℕ} where
       unfolding reallocate resize
       reallocate_refuses k = record { meets = rw (ne_eqb b 0 n, q, k) refl }
 
-      module _ (k : permitted z ≡ true) {s : Sought} (e : s ≡ sought_m (has_block_m h.bytes b) 0 (shape ws h.bytes)) where
-        pub reallocate_misses : s ≡ NotFound → Reallocated ws h b z (refused_reply h NotLive) ws
+      module _ (k : permitted z ≡ true) {s : Option Place} (e : s ≡ sought_m (has_block_m h.bytes b) 0 (shape ws h.bytes)) where
+        pub reallocate_misses : s ≡ None → Reallocated ws h b z (refused_reply h NotLive) ws
         unfolding reallocate resize
         reallocate_misses m = record { meets = rw (ne_eqb b 0 n, q, k, not_live ws h ((passes_iff ws h).0 q) b s e m) refl }
 
-        pub reallocate_resizes : {x : Place} → s ≡ Found x → {m : ℕ} → m ≡ need_m z → {r : Reply} {words : List ℕ}
+        pub reallocate_resizes : {x : Place} → s ≡ Some x → {m : ℕ} → m ≡ need_m z → {r : Reply} {words : List ℕ}
             → replied r words ≡ resize_m ws (table_of h) h x m → Reallocated ws h b z r words
         unfolding reallocate
         reallocate_resizes {x} f en g =

@@ -1,6 +1,6 @@
 -- The number of each refusal, and the figures that each answer stands for
 -- (manual 5, 6; document 01, "Numbers of refusal", "The calls", "The check"; document 02, request One: an answer of none).
-use Rattle.std.specs.Prelude.{Bool, true, false, ℕ, ℤ, pos, Some, None}
+use Rattle.std.specs.Prelude.{Bool, true, false, ℕ, ℤ, pos, Some, None, Option, Result, Ok, Err}
 use Rattle.record.specs.declared.answers.Answer.{Answer}
 use Rattle.record.specs.declared.answers.Answer.TheVariants.{Done, Granted, Returned, Told, Counted, Refused}
 use Rattle.record.specs.declared.answers.Counts.{Counts}
@@ -19,6 +19,11 @@ number_of NoRoom = 7
 number_of NotThere = 8
 number_of RunSize = 10
 number_of BeyondMending = 12
+
+-- the answer to a question: what was told, or why not
+abbrev pub told : Result (Option ℕ) Refusal → Answer
+told (Ok value) = Told value
+told (Err why) = Refused why
 
 -- the counts in every answer but the check's
 abbrev pub no_counts : Counts

@@ -1,31 +1,30 @@
--- The questions by their numbers (manual 5.8; document 01, "The calls": Questions). They mirror the code: the rules have the answers in the
+-- The questions by their numbers (manual 5.8; document 01, "The calls": Questions). They mirror the code: the rules list the answers in the
 -- order of the numbers (`chunk_answers`, `bin_answers`).
-use Rattle.std.specs.Prelude.{ℕ, ◌≡◌, ◌<◌, ◌≢◌, Bool, not, ◌&&◌, true, false, Result, MatchResult, eqb, leb}
+use Rattle.std.specs.Prelude.{ℕ, ◌≡◌, List, [], ◌∷◌, get_or, Option, Some, None, Result, MatchResult}
 use Rattle.record.specs.declared.questions.BinQuestion.{BinQuestion}
 use Rattle.record.specs.declared.questions.BinQuestion.TheVariants.{Count, First, Last}
 use Rattle.record.specs.declared.questions.ChunkQuestion.{ChunkQuestion}
 use Rattle.record.specs.declared.questions.ChunkQuestion.TheVariants.{Bin, Block, Next, NextInBin, Previous, PreviousInBin, Size, «Type»}
 use Rattle.record.specs.declared.questions.NoQuestion.{NoQuestion}
 
-abbrev pub chunk_question : ChunkQuestion → ℕ
-chunk_question Bin = 1
-chunk_question Block = 2
-chunk_question Next = 4
-chunk_question NextInBin = 5
-chunk_question Previous = 6
-chunk_question PreviousInBin = 7
-chunk_question Size = 8
-chunk_question «Type» = 9
+-- from 0 on; 3 is asked of a block
+abbrev pub chunk_questions : List (Option ChunkQuestion)
+chunk_questions =
+    None ∷ Some Bin ∷ Some Block ∷ None ∷ Some Next ∷ Some NextInBin ∷ Some Previous ∷ Some PreviousInBin ∷ Some Size ∷ Some «Type» ∷ []
 
-abbrev pub bin_question : BinQuestion → ℕ
-bin_question Count = 1
-bin_question First = 2
-bin_question Last = 3
+abbrev pub bin_questions : List (Option BinQuestion)
+bin_questions = None ∷ Some Count ∷ Some First ∷ Some Last ∷ []
 
--- 1 to 9 without 3, which is asked of a block
-abbrev pub AsksChunk : ℕ → Result ChunkQuestion NoQuestion → Type 0
-AsksChunk n r = MatchResult r (λ q. chunk_question q ≡ n) (λ e. n ≢ 3 → (leb 1 n && leb n 9) ≡ false)
+-- the question with a number
+abbrev pub chunk_question : ℕ → Option ChunkQuestion
+chunk_question n = get_or chunk_questions n None
 
--- 1 to 3
-abbrev pub AsksBin : ℕ → Result BinQuestion NoQuestion → Type 0
-AsksBin n r = MatchResult r (λ q. bin_question q ≡ n) (λ e. (leb 1 n && leb n 3) ≡ false)
+abbrev pub bin_question : ℕ → Option BinQuestion
+bin_question n = get_or bin_questions n None
+
+-- the answers of `try_from`
+abbrev pub IsChunkQuestion : ℕ → Result ChunkQuestion NoQuestion → Type 0
+IsChunkQuestion n r = MatchResult r (λ q. Some q ≡ chunk_question n) (λ e. None ≡ chunk_question n)
+
+abbrev pub IsBinQuestion : ℕ → Result BinQuestion NoQuestion → Type 0
+IsBinQuestion n r = MatchResult r (λ q. Some q ≡ bin_question n) (λ e. None ≡ bin_question n)

@@ -1,7 +1,7 @@
 // What calls answer: one enum for all of them, and the refusals by name.
 // When each is given is in the rules.
 ghost use Rattle.std.specs.Prelude.{◌≡◌};
-ghost use Rattle.record.specs.Answers.{number_of};
+ghost use Rattle.record.specs.Answers.{number_of, told};
 
 use crate::heap::Heap;
 use region::Block;
@@ -53,5 +53,17 @@ impl From<Refusal> for u32 {
 
     fn from(refusal: Refusal) -> u32 {
         refusal as u32
+    }
+}
+
+// The answer to a question.
+impl From<Result<Option<u32>, Refusal>> for Answer {
+    ghost from_gives = { λ asked answer. answer ≡ told asked };
+
+    fn from(asked: Result<Option<u32>, Refusal>) -> Answer {
+        match asked {
+            Ok(value) => Answer::Told(value),
+            Err(why) => Answer::Refused(why),
+        }
     }
 }

@@ -1,5 +1,9 @@
 // The questions by their numbers, which a caller gives. What is answered to each is in the rules.
-ghost use Rattle.record.specs.Questions.{AsksBin, AsksChunk};
+ghost use Rattle.std.specs.Prelude.{◌≡◌};
+ghost use Rattle.record.specs.declared.answers.Refusal.TheVariants.{NotThere};
+ghost use Rattle.record.specs.Questions.{IsBinQuestion, IsChunkQuestion};
+
+use crate::answers::Refusal;
 
 // The chunk of a live block: this one is asked of a block's place, every other question of a chunk's.
 pub const ASK_CHUNK: u32 = 3;
@@ -30,7 +34,7 @@ pub struct NoQuestion(pub u32);
 impl TryFrom<u32> for ChunkQuestion {
     type Error = NoQuestion;
 
-    ghost try_from_gives = { AsksChunk };
+    ghost try_from_gives = { IsChunkQuestion };
 
     fn try_from(number: u32) -> Result<Self, NoQuestion> {
         match number {
@@ -50,7 +54,7 @@ impl TryFrom<u32> for ChunkQuestion {
 impl TryFrom<u32> for BinQuestion {
     type Error = NoQuestion;
 
-    ghost try_from_gives = { AsksBin };
+    ghost try_from_gives = { IsBinQuestion };
 
     fn try_from(number: u32) -> Result<Self, NoQuestion> {
         match number {
@@ -59,5 +63,13 @@ impl TryFrom<u32> for BinQuestion {
             3 => Ok(Self::Last),
             _ => Err(NoQuestion(number)),
         }
+    }
+}
+
+impl From<NoQuestion> for Refusal {
+    ghost from_gives = { λ _ why. why ≡ NotThere };
+
+    fn from(_none: NoQuestion) -> Refusal {
+        Refusal::NotThere
     }
 }

@@ -14,7 +14,7 @@ use Rattle.rules.specs.Draft.{Draft, as_read, Spot}
 use Rattle.rules.specs.Join.{release}
 use Rattle.rules.specs.Free.{is_live, block_spot}
 use Rattle.books.specs.Books.{books}
-use Rattle.seek.specs.declared.Sought.TheVariants.{Found}
+use Rattle.std.specs.Prelude.{Some}
 use Rattle.seek.specs.Seek.{placed, sought_m, has_block_m}
 use Rattle.seek.proofs.SeekLaws.{sought_spot, sought_block}
 use Rattle.seek.specs.declared.Place.{Place}
@@ -57,11 +57,11 @@ module _ (ws : List ℕ) (h : Heap) (p : Passes ws h) (b : ℕ) (l : is_live (as
   free_after = release found.low found.here found.high (as_read ws h)
 
   -- it is what a search for the block finds
-  pub found_is : sought_m (has_block_m h.bytes b) 0 (shape ws h.bytes) ≡ Found found_at
+  pub found_is : sought_m (has_block_m h.bytes b) 0 (shape ws h.bytes) ≡ Some found_at
   unfolding as_read
   found_is =
       sought_block h b 0 (shape ws h.bytes) ∙ sought_spot (holds_block h b) 0 (shape ws h.bytes) l
-      ∙ ap (λ (c : ℕ). Found (placed c found.here)) (last_place found.low)
+      ∙ ap (λ (c : ℕ). Some (placed c found.here)) (last_place found.low)
 
   pub released : Released ws h (books ws h.heads h.tails) found_at joined free_after
   released = chunk_given_back (live_chunk ws h p b l)

@@ -20,8 +20,7 @@ use Rattle.rules.specs.Shape.{Entry, entry, shape}
 use Rattle.rules.proofs.ChainLaws.{Rising, shape_chain}
 use Rattle.rules.proofs.ShapeLaws.{chain_from, shape_is}
 use Rattle.seek.specs.declared.Place.{Place}
-use Rattle.seek.specs.declared.Sought.{Sought}
-use Rattle.seek.specs.declared.Sought.TheVariants.{Found, NotFound}
+use Rattle.std.specs.Prelude.{Option, Some, None}
 use Rattle.seek.specs.Seek.{placed, sought_m, live_m, has_block_m}
 
 -- where the walk stands, at c above a chunk at p: from there it finds what it finds from the start
@@ -42,19 +41,19 @@ module _ {ws : List ℕ} {bytes place : ℕ} where
     above = let l = end_above ws bytes c refl refl o.inside in omega arith
 
     module _ (q : c ≡ place) {w f : ℕ} (ew : w ≡ word ws c backward) (ef : f ≡ w % 8) where
-      pub seeking_found : Found (record { before = at p; chunk = at c; end = e; flags = f }) ≡ sought_m (is_at place) 0 (shape ws bytes)
+      pub seeking_found : Some (record { before = at p; chunk = at c; end = e; flags = f }) ≡ sought_m (is_at place) 0 (shape ws bytes)
       unfolding sought_m
       seeking_found = rw (shape_is ws bytes) (go (ℕ_discrete (end_at ws bytes c) bytes) ∙ o.same)
         where
-          this : Found (record { before = at p; chunk = at c; end = e; flags = f }) ≡ Found (placed p (here_at ws bytes c))
+          this : Some (record { before = at p; chunk = at c; end = e; flags = f }) ≡ Some (placed p (here_at ws bytes c))
           this = rw (end_is, ef, ew, above)
 
-          go : Dec (end_at ws bytes c ≡ bytes) → Found (record { before = at p; chunk = at c; end = e; flags = f }) ≡ sought_m (is_at place) p (chain_from ws bytes c)
+          go : Dec (end_at ws bytes c ≡ bytes) → Some (record { before = at p; chunk = at c; end = e; flags = f }) ≡ sought_m (is_at place) p (chain_from ws bytes c)
           go (yes r) = rw (chain_here ws bytes c r, eq-eqb c place q) this
           go (no m) = rw ((chain_next ws bytes c m).2, eq-eqb c place q) this
 
     module _ (q : c ≡ place → ⊥) where
-      pub seeking_ends : e ≡ bytes → NotFound ≡ sought_m (is_at place) 0 (shape ws bytes)
+      pub seeking_ends : e ≡ bytes → None ≡ sought_m (is_at place) 0 (shape ws bytes)
       unfolding sought_m
       seeking_ends r =
           let here = chain_here ws bytes c (sym end_is ∙ r) in
@@ -117,34 +116,34 @@ module _ (bytes b : ℕ) where
       go true = refl
       go false = refl
 
-  none_above : (c p : ℕ) (es : List Entry) → Rising c es → b < c + 8 → sought_m (has_block_m bytes b) p es ≡ NotFound
+  none_above : (c p : ℕ) (es : List Entry) → Rising c es → b < c + 8 → sought_m (has_block_m bytes b) p es ≡ None
   unfolding sought_m
   none_above c p [] r l = refl
   none_above c p (e ∷ es) r l =
       rw (holds_other e (λ q. omega (arith, r.0))) (none_above (suc e.place) e.place es r.1 (omega (arith, r.0)))
 
-  no_chunk : (p : ℕ) (es : List Entry) → sought_m (is_at (b - 8)) p es ≡ NotFound → sought_m (has_block_m bytes b) p es ≡ NotFound
+  no_chunk : (p : ℕ) (es : List Entry) → sought_m (is_at (b - 8)) p es ≡ None → sought_m (has_block_m bytes b) p es ≡ None
   unfolding sought_m
   no_chunk p [] h = refl
   no_chunk p (e ∷ es) h = go (ℕ_discrete e.place (b - 8)) (no_chunk e.place es)
     where
       go : Dec (e.place ≡ b - 8)
-          → (sought_m (is_at (b - 8)) e.place es ≡ NotFound → sought_m (has_block_m bytes b) e.place es ≡ NotFound)
-          → sought_m (has_block_m bytes b) p (e ∷ es) ≡ NotFound
+          → (sought_m (is_at (b - 8)) e.place es ≡ None → sought_m (has_block_m bytes b) e.place es ≡ None)
+          → sought_m (has_block_m bytes b) p (e ∷ es) ≡ None
       go (yes q) f =
-          let k : Found (placed p e) ≡ NotFound = rw (eq-eqb e.place (b - 8) q) at h in
+          let k : Some (placed p e) ≡ None = rw (eq-eqb e.place (b - 8) q) at h in
           let z : ◌≡◌ {A = ℕ} 0 1 = cc in absurd (omega arith)
       go (no n) f = rw (holds_other e (λ q. n (omega arith))) (f (rw (ne_eqb e.place (b - 8) n) at h))
 
-  found_chunk : (c p : ℕ) (es : List Entry) → Rising c es → (x : Place) → sought_m (is_at (b - 8)) p es ≡ Found x
-      → sought_m (has_block_m bytes b) p es ≡ cond (live_m bytes x.chunk.0 x.flags) (Found x) NotFound
+  found_chunk : (c p : ℕ) (es : List Entry) → Rising c es → (x : Place) → sought_m (is_at (b - 8)) p es ≡ Some x
+      → sought_m (has_block_m bytes b) p es ≡ cond (live_m bytes x.chunk.0 x.flags) (Some x) None
   unfolding sought_m has_block_m
   found_chunk c p [] r x h = let z : ◌≡◌ {A = ℕ} 0 1 = cc in absurd (omega arith)
   found_chunk c p (e ∷ es) r x h =
       go (ℕ_discrete e.place (b - 8)) (found_chunk (suc e.place) e.place es r.1 x)
     where
       here : e.place ≡ b - 8 → (t : Bool) → live_m bytes e.place e.flags ≡ t
-          → sought_m (has_block_m bytes b) p (e ∷ es) ≡ cond t (Found (placed p e)) NotFound
+          → sought_m (has_block_m bytes b) p (e ∷ es) ≡ cond t (Some (placed p e)) None
       here q true l = rw (l, eq-eqb (e.place + 8) b (omega (arith, some (ℕ_discrete e.place 0))))
         where
           some : Dec (e.place ≡ 0) → 0 < e.place
@@ -153,54 +152,54 @@ module _ (bytes b : ℕ) where
       here q false l = rw l (none_above (suc e.place) e.place es r.1 (omega arith))
 
       go : Dec (e.place ≡ b - 8)
-          → (sought_m (is_at (b - 8)) e.place es ≡ Found x → sought_m (has_block_m bytes b) e.place es ≡ cond (live_m bytes x.chunk.0 x.flags) (Found x) NotFound)
-          → sought_m (has_block_m bytes b) p (e ∷ es) ≡ cond (live_m bytes x.chunk.0 x.flags) (Found x) NotFound
+          → (sought_m (is_at (b - 8)) e.place es ≡ Some x → sought_m (has_block_m bytes b) e.place es ≡ cond (live_m bytes x.chunk.0 x.flags) (Some x) None)
+          → sought_m (has_block_m bytes b) p (e ∷ es) ≡ cond (live_m bytes x.chunk.0 x.flags) (Some x) None
       go (yes q) f =
-          let k : Found (placed p e) ≡ Found x = rw (eq-eqb e.place (b - 8) q) at h in
+          let k : Some (placed p e) ≡ Some x = rw (eq-eqb e.place (b - 8) q) at h in
           let y : placed p e ≡ x = cc in
           rw (← y) (here q (live_m bytes e.place e.flags) refl)
       go (no n) f = rw (holds_other e (λ q. n (omega arith))) (f (rw (ne_eqb e.place (b - 8) n) at h))
 
 -- what the code holds when it has sought the chunk k of the block at b
-module _ (ws : List ℕ) (bytes b : ℕ) {k : ℕ} {s : Sought} (ek : k ≡ b - 8) (es : s ≡ sought_m (is_at k) 0 (shape ws bytes)) where
+module _ (ws : List ℕ) (bytes b : ℕ) {k : ℕ} {s : Option Place} (ek : k ≡ b - 8) (es : s ≡ sought_m (is_at k) 0 (shape ws bytes)) where
   told : s ≡ sought_m (is_at (b - 8)) 0 (shape ws bytes)
   told = es ∙ ap (λ (c : ℕ). sought_m (is_at c) 0 (shape ws bytes)) ek
 
-  pub block_nowhere : s ≡ NotFound → NotFound ≡ sought_m (has_block_m bytes b) 0 (shape ws bytes)
+  pub block_nowhere : s ≡ None → None ≡ sought_m (has_block_m bytes b) 0 (shape ws bytes)
   block_nowhere e = sym (no_chunk bytes b 0 (shape ws bytes) (sym told ∙ e))
 
-  module _ {x : Place} (e : s ≡ Found x) {t : Bool} (et : t ≡ live_m bytes x.chunk.0 x.flags) where
-    of_chunk_lem : sought_m (has_block_m bytes b) 0 (shape ws bytes) ≡ cond t (Found x) NotFound
+  module _ {x : Place} (e : s ≡ Some x) {t : Bool} (et : t ≡ live_m bytes x.chunk.0 x.flags) where
+    of_chunk_lem : sought_m (has_block_m bytes b) 0 (shape ws bytes) ≡ cond t (Some x) None
     of_chunk_lem = rw et (found_chunk bytes b 0 0 (shape ws bytes) (shape_chain ws bytes).rising x (sym told ∙ e))
 
-    pub block_dead : not t ≡ true → NotFound ≡ sought_m (has_block_m bytes b) 0 (shape ws bytes)
+    pub block_dead : not t ≡ true → None ≡ sought_m (has_block_m bytes b) 0 (shape ws bytes)
     block_dead h = rw (of_chunk_lem, not-true t h)
 
-    pub block_found : not t ≡ false → Found x ≡ sought_m (has_block_m bytes b) 0 (shape ws bytes)
+    pub block_found : not t ≡ false → Some x ≡ sought_m (has_block_m bytes b) 0 (shape ws bytes)
     block_found h = rw (of_chunk_lem, not-false t h)
 
 -- what is sought is the spot of the rules, and it is found if any chunk meets the test
 module _ (q : Entry → Bool) where
-  pub sought_none : (p : ℕ) (es : List Entry) → any q es ≡ false → sought_m q p es ≡ NotFound
+  pub sought_none : (p : ℕ) (es : List Entry) → any q es ≡ false → sought_m q p es ≡ None
   unfolding sought_m
   sought_none p [] h = refl
   sought_none p (e ∷ es) h = go (q e) refl (sought_none e.place es)
     where
-      go : (t : Bool) → q e ≡ t → (any q es ≡ false → sought_m q e.place es ≡ NotFound) → sought_m q p (e ∷ es) ≡ NotFound
+      go : (t : Bool) → q e ≡ t → (any q es ≡ false → sought_m q e.place es ≡ None) → sought_m q p (e ∷ es) ≡ None
       go true k f = absurd (true≢false (rw k at h))
       go false k f = rw k (f (rw k at h))
 
   pub sought_spot : (p : ℕ) (es : List Entry) → any q es ≡ true
-      → sought_m q p es ≡ Found (placed (last_or (entry p 0 0) (spot q es).low).place (spot q es).here)
+      → sought_m q p es ≡ Some (placed (last_or (entry p 0 0) (spot q es).low).place (spot q es).here)
   unfolding sought_m
   sought_spot p [] h = absurd (false≢true h)
   sought_spot p (e ∷ es) h = go (q e) refl (sought_spot e.place es)
     where
       go : (t : Bool) → q e ≡ t
-          → (any q es ≡ true → sought_m q e.place es ≡ Found (placed (last_or (entry e.place 0 0) (spot q es).low).place (spot q es).here))
-          → sought_m q p (e ∷ es) ≡ Found (placed (last_or (entry p 0 0) (spot q (e ∷ es)).low).place (spot q (e ∷ es)).here)
+          → (any q es ≡ true → sought_m q e.place es ≡ Some (placed (last_or (entry e.place 0 0) (spot q es).low).place (spot q es).here))
+          → sought_m q p (e ∷ es) ≡ Some (placed (last_or (entry p 0 0) (spot q (e ∷ es)).low).place (spot q (e ∷ es)).here)
       go true k f = rw k
-      go false k f = rw k (f (rw k at h) ∙ ap (λ (c : ℕ). Found (placed c (spot q es).here)) (below (spot q es).low))
+      go false k f = rw k (f (rw k at h) ∙ ap (λ (c : ℕ). Some (placed c (spot q es).here)) (below (spot q es).low))
         where
           below : (low : List Entry) → (last_or (entry e.place 0 0) low).place ≡ (last_or e low).place
           below [] = refl

@@ -20,13 +20,7 @@ pub struct Place {
     pub flags: u32,
 }
 
-#[derive(Clone, Copy)]
-pub enum Sought {
-    Found(Place),
-    NotFound,
-}
-
-pub fn find_chunk(region: &[u32], bytes: u32, place: u32) -> Sought
+pub fn find_chunk(region: &[u32], bytes: u32, place: u32) -> Option<Place>
     ensures { result ≡ sought_m (is_at place) 0 (shape region.now bytes) }
 {
     let mut before = 0;
@@ -36,15 +30,15 @@ pub fn find_chunk(region: &[u32], bytes: u32, place: u32) -> Sought
         let end = end_of(bytes, Chunk(at), next);
         if at == place {
             let flags = word(region, Chunk(at), BACKWARD) % ALIGNMENT;
-            return Sought::Found(Place {
+            return Some(Place {
                 before: Chunk(before),
                 chunk: Chunk(at),
-                end: end,
-                flags: flags,
+                end,
+                flags,
             });
         }
         if end == bytes {
-            return Sought::NotFound;
+            return None;
         }
         before = at;
         at = end;
@@ -52,6 +46,7 @@ pub fn find_chunk(region: &[u32], bytes: u32, place: u32) -> Sought
 }
 
 // A chunk in use, and neither of the ends, which are in use too and have no block.
+#[tactic(auto, unfolding(crate::specs::Seek::live_m))]
 pub fn has_live_block(bytes: u32, chunk: Chunk, flags: u32) -> bool
     ensures { result ≡ live_m bytes chunk.0 flags }
 {
@@ -65,16 +60,11 @@ pub fn has_live_block(bytes: u32, chunk: Chunk, flags: u32) -> bool
 }
 
 // Places go up along the chain, so that the one chunk eight bytes below is the only one that can hold the block.
-pub fn find_block(region: &[u32], bytes: u32, block: Block) -> Sought
+#[tactic(auto, using(crate::proofs::SeekLaws::block_nowhere, crate::proofs::SeekLaws::block_dead, crate::proofs::SeekLaws::block_found))]
+pub fn find_block(region: &[u32], bytes: u32, block: Block) -> Option<Place>
     ensures { result ≡ sought_m (has_block_m bytes block.0) 0 (shape region.now bytes) }
 {
     let chunk = chunk_of(block);
-    let sought = find_chunk(region, bytes, chunk.0);
-    let Sought::Found(place) = sought else {
-        return Sought::NotFound;
-    };
-    if !has_live_block(bytes, place.chunk, place.flags) {
-        return Sought::NotFound;
-    }
-    Sought::Found(place)
+    let place = find_chunk(region, bytes, chunk.0)?;
+    has_live_block(bytes, place.chunk, place.flags).then_some(place)
 }

@@ -29,7 +29,7 @@ module _ {b : Books} {table : List ℕ} {s : Summary} {w : Want}
   unfolding supply_m
   supplied_not q = record { is = rw (sym e, sym et, q) }
 
-  pub supplied_by : t ≡ false → {after : Books} {g : Portion} → served after g ≡ serve_m b table s (order source w.need)
+  pub supplied_by : t ≡ false → {after : Books} {g : Portion} → served after g ≡ serve_m b table s source w.need
       → {filled : List ℕ} → filled ≡ filled_m after.words w.clears g.chunk.0 g.size
       → {block : Block} → block.0 ≡ block_at g.chunk.0 → {change : ℤ} → change ≡ change_m 0 g.size
       → Supplies b table s w

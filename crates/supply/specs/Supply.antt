@@ -4,7 +4,7 @@ use Rattle.books.specs.Books.{Books, books}
 use Rattle.blocks.specs.Blocks.{cleared_m}
 use Rattle.grant.specs.Choose.{choose_m}
 use Rattle.grant.specs.declared.serve.Portion.{Portion}
-use Rattle.grant.specs.Serve.{Served, order, serve_m}
+use Rattle.grant.specs.Serve.{Served, serve_m}
 use Rattle.replies.specs.Replies.{Concluded, answered, change_m, concluded}
 use Rattle.record.specs.declared.answers.Answer.TheVariants.{Granted, Refused}
 use Rattle.record.specs.declared.answers.Refusal.TheVariants.{NoRoom}
@@ -35,7 +35,7 @@ supplied_m clears s =
 unfoldable pub supply_m : Books → List ℕ → Summary → Want → Concluded
 supply_m b table s w =
     let source : Option Source = choose_m b.words table b.heads s w.need in
-    cond (is_none source) (concluded b (answered (Refused NoRoom) s)) (supplied_m w.clears (serve_m b table s (order source w.need)))
+    cond (is_none source) (concluded b (answered (Refused NoRoom) s)) (supplied_m w.clears (serve_m b table s source w.need))
 
 abbrev pub want : ℕ → Bool → Want
 want n clears = record { need = n; clears = clears }
