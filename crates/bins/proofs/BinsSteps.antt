@@ -1,11 +1,9 @@
--- Leaving and putting call by call, over plain variables, and the two searches turn by turn, as the code's loops go. Assumes nothing.
-use Rattle.std.proofs.Common.{◌≡◌, ℕ, zero, suc, ◌+◌, ◌-◌, ◌*◌, ◌/◌, ◌%◌, ◌<◌, ◌≤◌, Some, None, List, get_or, refl, ap, add-one, arith, eq-eqb, ne_eqb, le-leb}
+-- The two searches turn by turn, as the code's loops go. Assumes nothing.
+use Rattle.std.proofs.Common.{◌≡◌, ℕ, zero, suc, ◌+◌, ◌-◌, ◌<◌, ◌≤◌, Some, None, List, get_or, refl, add-one, arith, eq-eqb, ne_eqb, le-leb}
 use borrow.Author.Tests.{lt-leb}
-use Rattle.region.specs.Words.{word, store, size, next_in_bin, previous_in_bin, bin}
-use Rattle.books.specs.Books.{Books, books}
+use Rattle.region.specs.Words.{word, size, next_in_bin}
 use Rattle.record.specs.Heap.{at}
-use Rattle.bins.specs.declared.Slot.{Slot}
-use Rattle.bins.specs.Bins.{Side, side, chunk_or_none, link_m, leave_m, put_m, first_fit_m, some_end}
+use Rattle.bins.specs.Bins.{chunk_or_none, first_fit_m, some_end}
 
 -- what a search answers
 pub no_chunk : {c : ℕ} → c ≡ 0 → None ≡ chunk_or_none c
@@ -13,32 +11,6 @@ no_chunk {c} e = rw (eq-eqb c 0 e)
 
 pub a_chunk : {c : ℕ} → (c ≡ 0 → ⊥) → {d : ℕ} → c ≡ d → Some (at c) ≡ chunk_or_none d
 a_chunk {c} n e = rw (← e, ne_eqb c 0 n)
-
-words_of : {ws ends : List ℕ} {s : Side} → side ws ends ≡ s → ws ≡ s.words
-words_of e = ap (λ (s : Side). s.words) e
-
-ends_of : {ws ends : List ℕ} {s : Side} → side ws ends ≡ s → ends ≡ s.ends
-ends_of e = ap (λ (s : Side). s.ends) e
-
-module _ (b : Books) {ws₁ heads₁ : List ℕ} where
-  -- the chunk's three bin words are read, and two links close the gap
-  pub leave_steps : (c : ℕ) {next previous i : ℕ} {ws₂ tails₁ : List ℕ}
-      → next ≡ word b.words c next_in_bin → previous ≡ word b.words c previous_in_bin → i ≡ word b.words c bin
-      → side ws₁ heads₁ ≡ link_m (side b.words b.heads) (i / 8) previous next_in_bin next
-      → side ws₂ tails₁ ≡ link_m (side ws₁ b.tails) (i / 8) next previous_in_bin previous
-      → books ws₂ heads₁ tails₁ ≡ leave_m b c
-  unfolding leave_m
-  leave_steps c en ep ei front back = rw (words_of back, ends_of back, words_of front, ends_of front, ei, ep, en)
-
-  -- a link from below, the chunk's own links, a link from above, the bin word
-  pub put_steps : (s : Slot) (c : ℕ) {ws₂ ws₃ ws₄ ws₅ tails₁ : List ℕ} {number : ℕ}
-      → side ws₁ heads₁ ≡ link_m (side b.words b.heads) s.bin s.before next_in_bin c
-      → ws₂ ≡ store ws₁ c previous_in_bin s.before → ws₃ ≡ store ws₂ c next_in_bin s.after
-      → side ws₄ tails₁ ≡ link_m (side ws₃ b.tails) s.bin s.after previous_in_bin c
-      → number ≡ s.bin % 32 * 8 → ws₅ ≡ store ws₄ c bin number
-      → books ws₅ heads₁ tails₁ ≡ put_m b s c
-  unfolding put_m
-  put_steps s c front e₂ e₃ back en e₅ = rw (e₅, en, words_of back, ends_of back, e₃, e₂, words_of front, ends_of front)
 
 module _ (ws : List ℕ) (need c : ℕ) where
   pub fit_spent : (left : ℕ) → left ≤ 0 → first_fit_m left ws need c ≡ 0

@@ -57,6 +57,7 @@ fn link(region: &mut [u32], ends: &mut [u32], bin: usize, from: u32, number: u32
 }
 
 // The chunk's own words stay as they are: the caller clears them or puts it elsewhere.
+#[tactic(auto, unfolding(crate::specs::Bins::leave_m))]
 pub fn leave(region: &mut [u32], ends: &mut Ends, chunk: Chunk)
     ensures { books region.new ends.new.heads ends.new.tails ≡ leave_m (books region.old ends.old.heads ends.old.tails) chunk.0 }
 {
@@ -67,6 +68,7 @@ pub fn leave(region: &mut [u32], ends: &mut Ends, chunk: Chunk)
     link(region, &mut ends.tails, bin, after, PREVIOUS_IN_BIN, before);
 }
 
+#[tactic(auto, unfolding(crate::specs::Bins::put_m))]
 pub fn put_between(region: &mut [u32], ends: &mut Ends, slot: Slot, chunk: Chunk)
     ensures { books region.new ends.new.heads ends.new.tails ≡ put_m (books region.old ends.old.heads ends.old.tails) slot chunk.0 }
 {

@@ -53,6 +53,7 @@ pub fn cut_of(region: &[u32], chunk: Chunk, need: u32) -> Cut
 }
 
 // The writes. Only an ordinary chunk is in a bin, and leaves it.
+#[tactic(auto, unfolding(crate::specs::Cut::take_m))]
 pub fn take(region: &mut [u32], ends: &mut Ends, table: Table<'_>, kind: Kind, cut: Cut)
     ensures { books region.new ends.new.heads ends.new.tails ≡ take_m (books region.old ends.old.heads ends.old.tails) table.entry.sizes.now kind cut }
 {

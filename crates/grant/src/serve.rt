@@ -50,6 +50,7 @@ fn place_in(summary: Summary, source: Source) -> Chunk
 }
 
 // The sum of used bytes never wraps: it is at most the heap bytes.
+#[tactic(auto, unfolding(crate::specs::Serve::serve_m, crate::specs::Serve::taken_m))]
 pub fn serve(
     region: &mut [u32],
     ends: &mut Ends,

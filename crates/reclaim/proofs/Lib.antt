@@ -1,2 +1,1 @@
-pub mod ReclaimSteps
 pub mod ReclaimMeaning

@@ -1,5 +1,3 @@
-pub mod ReleaseSteps
-pub mod GiveSteps
 pub mod JoinMeaning
 pub mod GivingMeaning
 pub mod ReleaseMeaning

@@ -2,34 +2,31 @@
 // handed back: the caller sets the record.
 ghost use Rattle.std.specs.Prelude.{◌≡◌};
 ghost use Rattle.books.specs.Books.{books};
-ghost use Rattle.record.specs.Table.{ValidTable};
 ghost use Rattle.release.specs.Give.{given_up, give_up_m};
 
 use crate::{give_back, join, moved_down};
 use headers::distance;
-use record::heap::Summary;
+use record::heap::{Ends, Summary};
+use record::table::Table;
 use seek::Place;
 use settling::settled;
 
+#[tactic(auto, unfolding(crate::specs::Give::give_up_m))]
 pub fn give_up(
     region: &mut [u32],
-    heads: &mut [u32],
-    tails: &mut [u32],
-    table: &[u32],
+    ends: &mut Ends,
+    table: Table<'_>,
     summary: Summary,
     place: Place,
 ) -> Summary
-    requires { ValidTable table.now }
-    ensures { given_up (books region.new heads.new tails.new) result ≡ give_up_m (books region.old heads.old tails.old) table.now summary place }
+    ensures { given_up (books region.new ends.new.heads ends.new.tails) result ≡ give_up_m (books region.old ends.old.heads ends.old.tails) table.entry.sizes.now summary place }
 {
     let joined = join(region, summary, place);
-    let becomes = joined.becomes;
-    let chunk = joined.chunk;
     let patrol = moved_down(joined, summary.patrol);
-    give_back(region, heads, tails, table, place, joined);
+    give_back(region, ends, table, place, joined);
     let size = distance(place.chunk.0, place.end);
     let used = distance(size, summary.used);
-    settled(summary, becomes, chunk)
+    settled(summary, joined.becomes, joined.chunk)
         .with_patrol(patrol)
         .with_used(used)
 }

@@ -4,7 +4,6 @@
 
 ghost use Rattle.std.specs.Prelude.{◌≡◌, cond};
 ghost use Rattle.books.specs.Books.{books};
-ghost use Rattle.record.specs.Table.{ValidTable};
 ghost use Rattle.region.specs.Words.{word, backward, forward};
 ghost use Rattle.release.specs.Release.{give_back_m, join_m, moved_m, neighbour_m};
 ghost use Rattle.rules.specs.Join.{joined_as};
@@ -12,8 +11,9 @@ ghost use Rattle.rules.specs.Kinds.{free_kind};
 
 use chain::{is_free, is_ordinary, kind_of};
 use headers::{distance, write_above, write_free};
-use record::heap::Summary;
+use record::heap::{Ends, Summary};
 use record::kinds::Kind;
+use record::table::Table;
 use region::{ALIGNMENT, BACKWARD, Chunk, FORWARD, word};
 use seek::Place;
 use settling::{Arrival, leave_bin, settle};
@@ -34,6 +34,7 @@ pub struct Union {
 }
 
 // With merging off a neighbour counts as in use, so that nothing joins it.
+#[tactic(auto, unfolding(crate::specs::Release::neighbour_m))]
 pub fn neighbour(region: &[u32], summary: Summary, chunk: Chunk) -> Kind
     ensures { result ≡ neighbour_m region.now summary chunk.0 }
 {
@@ -49,12 +50,9 @@ pub fn joined_as(above: Kind) -> Kind
     ensures { result ≡ joined_as above }
 {
     match above {
-        Kind::Start => Kind::Ordinary,
-        Kind::InUse => Kind::Ordinary,
-        Kind::Ordinary => Kind::Ordinary,
         Kind::Donor => Kind::Donor,
         Kind::Top => Kind::Top,
-        Kind::End => Kind::Ordinary,
+        _ => Kind::Ordinary,
     }
 }
 
@@ -62,20 +60,22 @@ pub fn joined_as(above: Kind) -> Kind
 fn below_of(region: &[u32], joins: bool, before: Chunk) -> Chunk
     ensures { result.0 ≡ cond joins (word region.now before.0 backward) before.0 }
 {
-    if !joins {
-        return before;
+    if joins {
+        Chunk(word(region, before, BACKWARD))
+    } else {
+        before
     }
-    Chunk(word(region, before, BACKWARD))
 }
 
 // Where the result ends: a free chunk above joins, and its forward link is where it ends.
 fn reach(region: &[u32], above: Kind, end: u32) -> u32
     ensures { result ≡ cond (free_kind above) (word region.now end forward) end }
 {
-    if !is_free(above) {
-        return end;
+    if is_free(above) {
+        word(region, Chunk(end), FORWARD)
+    } else {
+        end
     }
-    word(region, Chunk(end), FORWARD)
 }
 
 // Where the result starts.
@@ -86,6 +86,7 @@ fn lower_of(joins: bool, before: Chunk, chunk: Chunk) -> Chunk
 }
 
 // What the chunk at a place joins: with merging on an ordinary chunk just below it, then any free one just above.
+#[tactic(auto, unfolding(crate::specs::Release::join_m, crate::specs::Release::joined_m))]
 pub fn join(region: &[u32], summary: Summary, place: Place) -> Union
     ensures { result ≡ join_m region.now summary place }
 {
@@ -98,49 +99,38 @@ pub fn join(region: &[u32], summary: Summary, place: Place) -> Union
         below: below_of(region, lower, before),
         chunk: lower_of(lower, before, place.chunk),
         end: to,
-        flags: flags,
+        flags,
         becomes: joined_as(above),
-        lower: lower,
+        lower,
         upper: is_ordinary(above),
     }
 }
 
 // Where the patrol goes on: a place inside the result was swallowed, and moves down to it.
+#[tactic(auto, unfolding(crate::specs::Release::moved_m))]
 pub fn moved_down(joined: Union, patrol: Chunk) -> Chunk
     ensures { result.0 ≡ moved_m joined patrol.0 }
 {
-    if patrol.0 <= joined.chunk.0 {
-        return patrol;
+    if joined.chunk.0 < patrol.0 && patrol.0 < joined.end {
+        joined.chunk
+    } else {
+        patrol
     }
-    if joined.end <= patrol.0 {
-        return patrol;
-    }
-    Chunk(joined.chunk.0)
 }
 
 // The writes. The neighbours of the place that joined leave their bins, the lower one first.
-pub fn give_back(
-    region: &mut [u32],
-    heads: &mut [u32],
-    tails: &mut [u32],
-    table: &[u32],
-    place: Place,
-    joined: Union,
-)
-    requires { ValidTable table.now }
-    ensures { books region.new heads.new tails.new ≡ give_back_m (books region.old heads.old tails.old) table.now place joined }
+#[tactic(auto, unfolding(crate::specs::Release::give_back_m))]
+pub fn give_back(region: &mut [u32], ends: &mut Ends, table: Table<'_>, place: Place, joined: Union)
+    ensures { books region.new ends.new.heads ends.new.tails ≡ give_back_m (books region.old ends.old.heads ends.old.tails) table.entry.sizes.now place joined }
 {
-    leave_bin(region, heads, tails, joined.lower, place.before);
-    leave_bin(region, heads, tails, joined.upper, Chunk(place.end));
+    leave_bin(region, ends, joined.lower, place.before);
+    leave_bin(region, ends, joined.upper, Chunk(place.end));
     write_free(region, joined.below, joined.chunk, Chunk(joined.end));
     write_above(region, joined.chunk, Chunk(joined.end), joined.flags);
-    let becomes = joined.becomes;
-    let chunk = joined.chunk;
-    let size = distance(chunk.0, joined.end);
     let arrival = Arrival {
-        becomes: becomes,
-        chunk: chunk,
-        size: size,
+        becomes: joined.becomes,
+        chunk: joined.chunk,
+        size: distance(joined.chunk.0, joined.end),
     };
-    settle(region, heads, tails, table, arrival);
+    settle(region, ends, table, arrival);
 }

@@ -1,5 +1,5 @@
 -- What a call returns, as the code builds it. It mirrors the code; the rules say what a call leaves.
-use Rattle.std.specs.Prelude.{cond, List, ℕ, ltb, ℤ, pos, ◌-ℤ◌}
+use Rattle.std.specs.Prelude.{cond, List, Result, Ok, Err, ℕ, ltb, ℤ, pos, ◌-ℤ◌}
 use Rattle.books.specs.Books.{Books}
 use Rattle.record.specs.declared.answers.Answer.{Answer}
 use Rattle.record.specs.declared.answers.Answer.TheVariants.{Refused}
@@ -24,12 +24,12 @@ change_m before after = cond (ltb 65536 before) (pos 0) (cond (ltb 65536 after) 
 abbrev pub left : Answer → Heap → List ℕ → Left
 left a h ws = record { answer = a; heap = h; words = ws }
 
--- the books, with what a function that was lent them hands back
+-- the books, with what a function that was lent them hands back: what it answers, or why it refuses
 pub record Concluded : Type 0 where
   pub books : Books
-  pub answered : Answered
+  pub answered : Result Answered Refusal
 
-abbrev pub concluded : Books → Answered → Concluded
+abbrev pub concluded : Books → Result Answered Refusal → Concluded
 concluded b a = record { books = b; answered = a }
 
 abbrev pub answered : Answer → Summary → Answered
@@ -38,4 +38,7 @@ answered a s = record { answer = a; summary = s }
 -- what a call leaves that sets its record so
 abbrev pub recorded : Heap → Concluded → Left
 recorded h c =
-    left c.answered.answer (with_ends (with_summary h c.answered.summary) c.books.heads c.books.tails) c.books.words
+    elim c.answered [
+      | Ok a ↦ left a.answer (with_ends (with_summary h a.summary) c.books.heads c.books.tails) c.books.words
+      | Err why ↦ left (Refused why) h c.books.words
+    ]

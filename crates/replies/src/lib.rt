@@ -1,5 +1,5 @@
 // What a call hands back: a refusal with the record as it came, and the change in used bytes, a signed difference of two sizes.
-// A function below the calls that is lent the bins' ends hands back an answer and a summary, and the call sets the record.
+// A function below the calls that is lent the bins' ends hands back an answer and a summary, or a refusal, and the call sets the record.
 #![tactic(auto)]
 
 ghost use Rattle.std.specs.Prelude.{◌≡◌};
@@ -9,6 +9,7 @@ use record::answers::{Answer, Refusal, Reply};
 use record::heap::{Heap, Summary};
 use region::LARGEST_HEAP;
 
+// What an accepted call comes to.
 #[derive(Clone, Copy)]
 pub struct Answered {
     pub answer: Answer,
@@ -20,11 +21,12 @@ pub fn refused(heap: Heap, why: Refusal) -> Reply
 {
     Reply {
         answer: Answer::Refused(why),
-        heap: heap,
+        heap,
     }
 }
 
 // No chunk is larger than the largest heap, so that the difference fits; of larger numbers, which no caller hands in, it is 0.
+#[tactic(auto, unfolding(crate::specs::Replies::change_m))]
 pub fn change(before: u32, after: u32) -> i32
     ensures { result ≡ change_m before after }
 {

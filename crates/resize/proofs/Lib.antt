@@ -1,3 +1,2 @@
-pub mod ResizeSteps
 pub mod MoveMeaning
 pub mod ResizeMeaning

@@ -1,5 +1,5 @@
 -- What giving a live block another size leaves, as the code makes it: these definitions mirror the code. The rules say what a call leaves.
-use Rattle.std.specs.Prelude.{ℕ, ◌+◌, ◌-◌, ◌/◌, ◌%◌, ◌^◌, cond, List, nat_le, nat_lt, Option, Some, None, is_none}
+use Rattle.std.specs.Prelude.{ℕ, ◌+◌, ◌-◌, ◌/◌, ◌%◌, ◌^◌, cond, List, nat_le, nat_lt, Option, is_none}
 use Rattle.blocks.specs.Blocks.{copied_m}
 use Rattle.grant.specs.Choose.{choose_m}
 use Rattle.grant.specs.Serve.{AfterGrant, served_m}

@@ -3,89 +3,79 @@
 #![tactic(auto)]
 
 ghost use Rattle.std.specs.Prelude.{◌≡◌};
-ghost use Rattle.record.specs.Table.{ValidTable};
 ghost use Rattle.resize.specs.Resize.{move_m, reread_m, resize_m, shrink_m};
 ghost use Rattle.rules.specs.Statements.{replied};
 
 use blocks::copy_block;
 use grant::choose::choose;
-use grant::serve::{Order, is_nowhere, serve};
+use grant::serve::{Order, serve};
 use headers::distance;
 use record::answers::{Answer, Refusal, Reply};
 use record::heap::Heap;
+use record::table::Table;
 use region::{ALIGNMENT, BACKWARD, Chunk, FORWARD, LEAST, block_of, store, word};
 use release::give::give_up;
 use replies::{change, refused};
 use seek::Place;
 
 // The chunk keeps its lowest bytes and gives the tail back. Of what is kept the forward link alone is written.
-fn shrink(region: &mut [u32], table: &[u32], heap: Heap, place: Place, need: u32) -> Reply
-    requires { ValidTable table.now }
-    ensures { replied result region.new ≡ shrink_m region.old table.now heap place need }
+#[tactic(auto, using(replies::proofs::ChangeLaws::change_kept), unfolding(crate::specs::Resize::shrink_m, release::specs::Give::given_up_m))]
+fn shrink(region: &mut [u32], table: Table<'_>, heap: Heap, place: Place, need: u32) -> Reply
+    ensures { replied result region.new ≡ shrink_m region.old table.entry.sizes.now heap place need }
 {
     let chunk = place.chunk;
-    let rest = std::num::wrapping_add_u32(chunk.0, need);
+    let rest = chunk.0.wrapping_add(need);
     store(region, chunk, FORWARD, rest);
     let tail = Place {
         before: chunk,
         chunk: Chunk(rest),
-        end: place.end,
-        flags: place.flags,
+        ..place
     };
-    let mut heads = heap.heads;
-    let mut tails = heap.tails;
-    let summary = give_up(region, &mut heads, &mut tails, table, heap.summary(), tail);
+    let mut ends = heap.ends();
+    let summary = give_up(region, &mut ends, table, heap.summary(), tail);
     let size = distance(chunk.0, place.end);
     Reply {
         answer: Answer::Granted(block_of(chunk), change(size, need)),
-        heap: heap.with_books(heads, tails, summary),
+        heap: heap.with_books(ends, summary),
     }
 }
 
 // The place of the old chunk after a grant: the chunk below it may have been cut, so that its backward link is read again.
+#[tactic(auto, unfolding(crate::specs::Resize::reread_m))]
 fn with_link_reread(region: &[u32], place: Place) -> Place
     ensures { result ≡ reread_m region.now place }
 {
-    let chunk = place.chunk;
-    let link = word(region, chunk, BACKWARD);
+    let link = word(region, place.chunk, BACKWARD);
     Place {
         before: Chunk(link - link % ALIGNMENT),
-        chunk: chunk,
-        end: place.end,
-        flags: place.flags,
+        ..place
     }
 }
 
 // A block is allocated, the whole old block is copied to it, and the old one is freed.
-fn move_block(region: &mut [u32], table: &[u32], heap: Heap, place: Place, need: u32) -> Reply
-    requires { ValidTable table.now }
-    ensures { replied result region.new ≡ move_m region.old table.now heap place need }
+#[tactic(auto, using(replies::proofs::ChangeLaws::change_kept), unfolding(crate::specs::Resize::move_m, crate::specs::Resize::moved_m, grant::specs::Serve::served_m, release::specs::Give::given_up_m))]
+fn move_block(region: &mut [u32], table: Table<'_>, heap: Heap, place: Place, need: u32) -> Reply
+    ensures { replied result region.new ≡ move_m region.old table.entry.sizes.now heap place need }
 {
     let summary = heap.summary();
-    let mut heads = heap.heads;
-    let mut tails = heap.tails;
-    let source = choose(region, table, &heads, summary, need);
-    if is_nowhere(source) {
+    let mut ends = heap.ends();
+    let Some(source) = choose(region, table, &ends.heads, summary, need) else {
         return refused(heap, Refusal::NoRoom);
-    }
-    let order = Order {
-        source: source,
-        need: need,
     };
-    let grant = serve(region, &mut heads, &mut tails, table, summary, order);
+    let grant = serve(region, &mut ends, table, summary, Order { source, need });
     let size = distance(place.chunk.0, place.end);
     copy_block(region, place.chunk, grant.chunk, size / 4);
     let old = with_link_reread(region, place);
-    let freed = give_up(region, &mut heads, &mut tails, table, grant.summary, old);
+    let freed = give_up(region, &mut ends, table, grant.summary, old);
     Reply {
         answer: Answer::Granted(block_of(grant.chunk), change(size, grant.size)),
-        heap: heap.with_books(heads, tails, freed),
+        heap: heap.with_books(ends, freed),
     }
 }
 
-pub fn resize(region: &mut [u32], table: &[u32], heap: Heap, place: Place, need: u32) -> Reply
-    requires { ValidTable table.now }
-    ensures { replied result region.new ≡ resize_m region.old table.now heap place need }
+#[tactic(auto, using(replies::proofs::ChangeLaws::change_kept), unfolding(crate::specs::Resize::resize_m))]
+pub fn resize(region: &mut [u32], table: Table<'_>, heap: Heap, place: Place, need: u32) -> Reply
+    ensures { replied result region.new ≡ resize_m region.old table.entry.sizes.now heap place need }
 {
     let size = distance(place.chunk.0, place.end);
     if size < need {
@@ -96,6 +86,6 @@ pub fn resize(region: &mut [u32], table: &[u32], heap: Heap, place: Place, need:
     }
     Reply {
         answer: Answer::Granted(block_of(place.chunk), change(size, size)),
-        heap: heap,
+        heap,
     }
 }

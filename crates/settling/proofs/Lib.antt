@@ -1,3 +1,2 @@
-pub mod SettlingSteps
 pub mod SettledLaws
 pub mod DraftLaws

@@ -33,6 +33,7 @@ pub fn leave_bin(region: &mut [u32], ends: &mut Ends, binned: bool, chunk: Chunk
 }
 
 // Into the bin of its size. A chunk smaller than the first bin, which no heap that passes has, is put nowhere.
+#[tactic(auto, using(record::proofs::TableLaws::bin_is), unfolding(crate::specs::Settling::put_in_bin_m, crate::specs::Settling::put_binned_m, bins::specs::Bins::put_into_m))]
 pub fn put_in_bin(region: &mut [u32], ends: &mut Ends, table: Table<'_>, chunk: Chunk, size: u32)
     ensures { books region.new ends.new.heads ends.new.tails ≡ put_in_bin_m (books region.old ends.old.heads ends.old.tails) table.entry.sizes.now chunk.0 size }
 {

@@ -1,2 +1,1 @@
-pub mod SupplySteps
 pub mod SupplyMeaning

@@ -4,15 +4,15 @@
 
 ghost use Rattle.std.specs.Prelude.{◌≡◌};
 ghost use Rattle.books.specs.Books.{books};
-ghost use Rattle.record.specs.Table.{ValidTable};
 ghost use Rattle.replies.specs.Replies.{concluded};
 ghost use Rattle.supply.specs.Supply.{filled_m, supply_m};
 
 use blocks::clear_block;
 use grant::choose::choose;
-use grant::serve::{Order, is_nowhere, serve};
+use grant::serve::{Order, serve};
 use record::answers::{Answer, Refusal};
-use record::heap::Summary;
+use record::heap::{Ends, Summary};
+use record::table::Table;
 use region::{Chunk, block_of};
 use replies::{Answered, change};
 
@@ -24,43 +24,32 @@ pub struct Want {
 }
 
 // The block of a chunk of so many bytes.
+#[tactic(auto, unfolding(crate::specs::Supply::filled_m))]
 fn fill(region: &mut [u32], clears: bool, chunk: Chunk, size: u32)
     ensures { region.new ≡ filled_m region.old clears chunk.0 size }
 {
-    if !clears {
-        return;
+    if clears {
+        let end = chunk.0.wrapping_add(size);
+        clear_block(region, block_of(chunk), end);
     }
-    let end = std::num::wrapping_add_u32(chunk.0, size);
-    clear_block(region, block_of(chunk), end);
 }
 
+#[tactic(auto, using(replies::proofs::ChangeLaws::change_kept), unfolding(crate::specs::Supply::supply_m, crate::specs::Supply::supplied_m))]
 pub fn supply(
     region: &mut [u32],
-    heads: &mut [u32],
-    tails: &mut [u32],
-    table: &[u32],
+    ends: &mut Ends,
+    table: Table<'_>,
     summary: Summary,
     want: Want,
-) -> Answered
-    requires { ValidTable table.now }
-    ensures { concluded (books region.new heads.new tails.new) result ≡ supply_m (books region.old heads.old tails.old) table.now summary want }
+) -> Result<Answered, Refusal>
+    ensures { concluded (books region.new ends.new.heads ends.new.tails) result ≡ supply_m (books region.old ends.old.heads ends.old.tails) table.entry.sizes.now summary want }
 {
-    let source = choose(region, table, heads, summary, want.need);
-    if is_nowhere(source) {
-        return Answered {
-            answer: Answer::Refused(Refusal::NoRoom),
-            summary: summary,
-        };
-    }
-    let order = Order {
-        source: source,
-        need: want.need,
-    };
-    let grant = serve(region, heads, tails, table, summary, order);
+    let need = want.need;
+    let source = choose(region, table, &ends.heads, summary, need).ok_or(Refusal::NoRoom)?;
+    let grant = serve(region, ends, table, summary, Order { source, need });
     fill(region, want.clears, grant.chunk, grant.size);
-    let after = grant.summary;
-    Answered {
+    Ok(Answered {
         answer: Answer::Granted(block_of(grant.chunk), change(0, grant.size)),
-        summary: after,
-    }
+        summary: grant.summary,
+    })
 }
