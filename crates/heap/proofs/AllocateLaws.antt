@@ -1,5 +1,5 @@
 -- The two allocates: what the code leaves is what the rule says, refused or not. Assumes nothing.
-use mathlib.Core.Path.{◌≡◌, refl, ap, ◌∙◌}
+use mathlib.Core.Path.{◌≡◌, refl, sym, ap, ◌∙◌}
 use mathlib.Core.Bool.{Bool, true, false}
 use mathlib.Core.List.{List}
 use Prim.Native.Nat.{ℕ, ◌*◌, ◌≤◌, ◌<◌}
@@ -9,7 +9,9 @@ use mir.Syntax.{w32, w64}
 use mir.Val.{Fits}
 use Rattle.books.specs.Books.{Books, books}
 use Rattle.lists.proofs.ListsLaws.{at_most, both}
+use Rattle.record.specs.declared.answers.Refusal.{Refusal}
 use Rattle.record.specs.declared.answers.Refusal.TheVariants.{HeapFails, BlockSize}
+use Rattle.std.specs.Prelude.{Result, Ok, Err}
 use Rattle.record.specs.declared.answers.Reply.{Reply}
 use Rattle.record.specs.declared.heap.Heap.{Heap}
 use Rattle.record.specs.declared.heap.Summary.{Summary}
@@ -54,8 +56,14 @@ module _ {ws : List ℕ} {h : Heap} {z : ℕ} {clears : Bool} where
     allocate_refuses k = record { meets = rw (q, k) refl }
 
     pub allocate_supplies : permitted z ≡ true → {n : ℕ} → n ≡ need_m z → {s : Summary} → s ≡ summary_of h
-        → {b : Books} {a : Answered} → concluded b a ≡ supply_m (books ws h.heads h.tails) (table_of h) s (want n clears)
-        → {after : Heap} → after ≡ with_ends (with_summary h a.summary) b.heads b.tails
+        → {b : Books} {r : Result Answered Refusal} → concluded b r ≡ supply_m (books ws h.heads h.tails) (table_of h) s (want n clears)
+        → {a : Answered} → r ≡ Ok a → {after : Heap} → after ≡ with_ends (with_summary h a.summary) b.heads b.tails
         → Allocated ws h z clears (reply after a.answer) b.words
-    allocate_supplies k en es g ea =
-        record { meets = rw ea (ap (recorded h) (rw (es, en, permitted_need z k) at g) ∙ supply_is ws h q z k clears) }
+    allocate_supplies k en es {b} g eo ea =
+        record { meets = rw ea (ap (λ r. recorded h (concluded b r)) (sym eo) ∙ ap (recorded h) (rw (es, en, permitted_need z k) at g) ∙ supply_is ws h q z k clears) }
+
+    pub allocate_no_room : permitted z ≡ true → {n : ℕ} → n ≡ need_m z → {s : Summary} → s ≡ summary_of h
+        → {b : Books} {r : Result Answered Refusal} → concluded b r ≡ supply_m (books ws h.heads h.tails) (table_of h) s (want n clears)
+        → {why : Refusal} → r ≡ Err why → Allocated ws h z clears (refused_reply h why) b.words
+    allocate_no_room k en es {b} g er =
+        record { meets = ap (λ r. recorded h (concluded b r)) (sym er) ∙ ap (recorded h) (rw (es, en, permitted_need z k) at g) ∙ supply_is ws h q z k clears }

@@ -1,6 +1,6 @@
 -- What a call's reply must be, by what the check says: the refusal for a heap that fails, and the questions' answers
 -- found on the even part of the region. Assumes nothing.
-use mathlib.Core.Path.{◌≡◌, refl, ◌∙◌}
+use mathlib.Core.Path.{◌≡◌, refl, ap, ◌∙◌}
 use mathlib.Core.Bool.{Bool, true, false, not, ◌||◌}
 use mathlib.Core.List.{List, [], ◌∷◌}
 use Prim.Native.Nat.{ℕ, ◌*◌, ◌/◌, ◌≤◌}
@@ -9,13 +9,15 @@ use lib.Dec.{ltb}
 use lib.ListN.{length, take}
 use Rattle.record.specs.declared.answers.Answer.{Answer}
 use Rattle.record.specs.declared.answers.Answer.TheVariants.{Done}
+use Rattle.record.specs.declared.answers.Refusal.{Refusal}
 use Rattle.record.specs.declared.answers.Refusal.TheVariants.{HeapFails, NotThere}
 use Rattle.record.specs.declared.answers.Reply.{Reply}
 use Rattle.record.specs.declared.heap.Heap.{Heap}
 use Rattle.record.specs.declared.heap.Summary.{Summary}
 use Rattle.record.specs.Heap.{table_of, summary_of, with_merge}
-use Rattle.record.specs.Table.{ValidTable}
-use Rattle.rules.specs.Check.{Passes, passes}
+use Rattle.record.specs.Answers.{told}
+use Rattle.std.specs.Prelude.{Option, Result}
+use Rattle.rules.specs.Check.{Passes, Tabled, passes}
 use Rattle.rules.specs.Draft.{as_read}
 use Rattle.rules.specs.Outcome.{Outcome, judged, unchanged}
 use Rattle.rules.specs.Statements.{Meets}
@@ -47,13 +49,10 @@ module _ (ws : List ℕ) (h : Heap) (q : passes ws h ≡ true) where
   pub lent : h.bytes / 4 ≤ length ws
   lent = omega (arith, well.fits.bytes)
 
-  pub bins_there : h.bins ≤ length h.sizes
-  bins_there = omega (arith, well.table.bins, well.table.size_places)
+  pub well_tabled : Tabled h
+  well_tabled = well.table
 
-  pub table_valid : ValidTable (table_of h)
-  table_valid = well.table.valid
-
-  lent_even : take (h.bytes / 4) ws ≡ even_part ws
+  pub lent_even : take (h.bytes / 4) ws ≡ even_part ws
   lent_even =
       let n : h.bytes / 4 ≡ length ws / 2 * 2 = omega (arith, well.fits.bytes) in
       rw n refl
@@ -83,17 +82,17 @@ module _ {ws : List ℕ} {h : Heap} {question place : ℕ} where
   fails_chunk q = record { meets = rw q refl }
 
   pub asks_chunk_lem : passes ws h ≡ true → {s : Summary} → s ≡ summary_of h
-      → {a : Answer} → a ≡ ask_chunk_m (take (h.bytes / 4) ws) (table_of h) s question place
+      → {t : Result (Option ℕ) Refusal} → t ≡ ask_chunk_m (take (h.bytes / 4) ws) (table_of h) s question place → {a : Answer} → a ≡ told t
       → AskedChunk ws h question place (reply h a) ws
   unfolding ask_chunk
-  asks_chunk_lem q e {a} r =
+  asks_chunk_lem q e {t} r {a} g =
       let d = as_read ws h in
       let answers = chunk_answers d (asked_spot d question place) in
       record {
         meets =
             tells ws h (ask_chunk ws h question place) a
             (question_keeps h (not (passes ws h)) (not (is_asked question answers) || not (is_there d question place)) (answer_to question answers))
-            (r ∙ rw (e, lent_even ws h q) (ask_chunk_is (even_part ws) h (even_well ws h q) question place) ∙ same_answer);
+            (g ∙ ap told r ∙ rw (e, lent_even ws h q) (ask_chunk_is (even_part ws) h (even_well ws h q) question place) ∙ same_answer);
       }
     where
       same_answer : (ask_chunk (even_part ws) h question place).answer ≡ (ask_chunk ws h question place).answer
@@ -105,16 +104,16 @@ module _ {ws : List ℕ} {h : Heap} {question bin : ℕ} where
   fails_bin q = record { meets = rw q refl }
 
   pub asks_bin_lem : passes ws h ≡ true → {s : Summary} → s ≡ summary_of h
-      → {a : Answer} → a ≡ ask_bin_m (take (h.bytes / 4) ws) h.heads h.tails s question bin
+      → {t : Result (Option ℕ) Refusal} → t ≡ ask_bin_m (take (h.bytes / 4) ws) h.heads h.tails s question bin → {a : Answer} → a ≡ told t
       → AskedBin ws h question bin (reply h a) ws
   unfolding ask_bin
-  asks_bin_lem q e {a} r =
+  asks_bin_lem q e {t} r {a} g =
       let answers = bin_answers ((as_read ws h).lists bin) in
       record {
         meets =
             tells ws h (ask_bin ws h question bin) a
             (question_keeps h (not (passes ws h)) (not (is_asked question answers) || not (ltb bin h.bins)) (answer_to question answers))
-            (r ∙ rw (e, lent_even ws h q) (ask_bin_is (even_part ws) h (even_well ws h q) question bin) ∙ same_answer);
+            (g ∙ ap told r ∙ rw (e, lent_even ws h q) (ask_bin_is (even_part ws) h (even_well ws h q) question bin) ∙ same_answer);
       }
     where
       same_answer : (ask_bin (even_part ws) h question bin).answer ≡ (ask_bin ws h question bin).answer

@@ -19,7 +19,7 @@ use Rattle.rules.specs.Shape.{shape}
 use Rattle.rules.specs.Statements.{Meets}
 use Rattle.rules.proofs.CheckLaws.{passes_iff}
 use Rattle.seek.specs.declared.Place.{Place}
-use Rattle.std.specs.Prelude.{Option, Some, None}
+use Rattle.std.specs.Prelude.{Option, Some, None, Ok}
 use Rattle.seek.specs.Seek.{sought_m, has_block_m}
 use Rattle.release.proofs.FindLaws.{not_live, live_at}
 use Rattle.reclaim.specs.Reclaim.{reclaim_m}
@@ -50,7 +50,7 @@ module _ {ws : List ℕ} {h : Heap} {b : ℕ} where
       free_refuses z = record { meets = rw (q, ne_eqb b 0 n, not_live ws h ((passes_iff ws h).0 q) b s e z) refl }
 
       pub free_reclaims : {x : Place} → s ≡ Some x → {s₀ : Summary} → s₀ ≡ summary_of h
-          → {k : Books} {a : Answered} → concluded k a ≡ reclaim_m (books ws h.heads h.tails) (table_of h) s₀ x
+          → {k : Books} {a : Answered} → concluded k (Ok a) ≡ reclaim_m (books ws h.heads h.tails) (table_of h) s₀ x
           → {after : Heap} → after ≡ with_ends (with_summary h a.summary) k.heads k.tails
           → Freed ws h b (reply after a.answer) k.words
       free_reclaims {x} z es g ea =

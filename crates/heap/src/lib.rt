@@ -2,7 +2,10 @@
 // Each asks the check first; setup and the patrol do not. How chunks are found, joined and written is in the layers below.
 #![tactic(auto)]
 
+ghost use Rattle.std.specs.Prelude.{◌≡◌};
+ghost use Rattle.record.specs.Heap.{table_of};
 ghost use Rattle.rules.specs.Allocate.{allocate_with};
+ghost use Rattle.rules.specs.Check.{Tabled};
 ghost use Rattle.rules.specs.Statements.{Allocates, AllocatesCleared, AsksBin, AsksChunk, Checks, Frees, Meets, Patrols, Reallocates, SetsMerge, SetsUp};
 ghost use Rattle.supply.specs.Supply.{fill_stores};
 
@@ -12,10 +15,11 @@ use patrol::tour;
 use reclaim::reclaim;
 use record::answers::{Answer, Refusal, Reply};
 use record::heap::Heap;
+use record::table::Table;
 use region::Block;
 use replies::refused;
 use resize::resize;
-use seek::{Sought, find_block};
+use seek::find_block;
 use supply::{Want, supply};
 
 pub fn setup(region: &mut [u32], table: &[u32], donor: u32, merge: bool) -> Reply
@@ -24,16 +28,28 @@ pub fn setup(region: &mut [u32], table: &[u32], donor: u32, merge: bool) -> Repl
     opening::setup(region, table, donor, merge)
 }
 
+#[tactic(auto, unfolding(rules::specs::Merge::check))]
 pub fn check(region: &mut [u32], heap: Heap) -> Reply
     ensures { Checks region.old heap result region.new }
 {
-    let answer = verdict(region, heap);
     Reply {
-        answer: answer,
-        heap: heap,
+        answer: verdict(region, heap),
+        heap,
     }
 }
 
+// The table of a heap that passes.
+fn table_of(heap: &Heap) -> Table<'_>
+    requires { Tabled heap.now }
+    ensures { result.sizes.now ≡ table_of heap.now }
+{
+    let bins = heap.bins as usize;
+    Table {
+        sizes: &heap.sizes[..bins],
+    }
+}
+
+#[tactic(auto, unfolding(rules::specs::Merge::set_merge))]
 pub fn set_merge(region: &mut [u32], heap: Heap, on: bool) -> Reply
     ensures { SetsMerge region.old heap on result region.new }
 {
@@ -53,13 +69,11 @@ pub fn ask_chunk(region: &mut [u32], heap: Heap, question: u32, place: u32) -> R
         return refused(heap, Refusal::HeapFails);
     }
     let even = (heap.bytes / 4) as usize;
-    let bins = heap.bins as usize;
-    let sizes = heap.sizes;
-    let summary = heap.summary();
-    let answer = ask::ask_chunk(&region[..even], &sizes[..bins], summary, question, place);
+    let table = table_of(&heap);
+    let told = ask::ask_chunk(&region[..even], table, heap.summary(), question, place);
     Reply {
-        answer: answer,
-        heap: heap,
+        answer: Answer::from(told),
+        heap,
     }
 }
 
@@ -70,13 +84,11 @@ pub fn ask_bin(region: &mut [u32], heap: Heap, question: u32, bin: u32) -> Reply
         return refused(heap, Refusal::HeapFails);
     }
     let even = (heap.bytes / 4) as usize;
-    let heads = heap.heads;
-    let tails = heap.tails;
-    let summary = heap.summary();
-    let answer = ask::ask_bin(&region[..even], &heads, &tails, summary, question, bin);
+    let ends = heap.ends();
+    let told = ask::ask_bin(&region[..even], &ends, heap.summary(), question, bin);
     Reply {
-        answer: answer,
-        heap: heap,
+        answer: Answer::from(told),
+        heap,
     }
 }
 
@@ -91,29 +103,18 @@ fn allocate_with(region: &mut [u32], heap: Heap, z: u64, clears: bool) -> Reply
         return refused(heap, Refusal::BlockSize);
     }
     let need = need_of(z as u32);
-    let bins = heap.bins as usize;
-    let sizes = heap.sizes;
-    let want = Want {
-        need: need,
-        clears: clears,
-    };
-    let mut heads = heap.heads;
-    let mut tails = heap.tails;
-    let supplied = supply(
-        region,
-        &mut heads,
-        &mut tails,
-        &sizes[..bins],
-        heap.summary(),
-        want,
-    );
-    let answer = supplied.answer;
-    Reply {
-        answer: answer,
-        heap: heap.with_books(heads, tails, supplied.summary),
+    let mut ends = heap.ends();
+    let want = Want { need, clears };
+    match supply(region, &mut ends, table_of(&heap), heap.summary(), want) {
+        Ok(supplied) => Reply {
+            answer: supplied.answer,
+            heap: heap.with_books(ends, supplied.summary),
+        },
+        Err(why) => refused(heap, why),
     }
 }
 
+#[tactic(auto, unfolding(rules::specs::Allocate::allocate))]
 pub fn allocate(region: &mut [u32], heap: Heap, z: u32) -> Reply
     ensures { Allocates region.old heap z result region.new }
 {
@@ -121,6 +122,7 @@ pub fn allocate(region: &mut [u32], heap: Heap, z: u32) -> Reply
 }
 
 // The product of two 32-bit numbers always fits 64 bits.
+#[tactic(auto, using(crate::proofs::AllocateLaws::product_fits), unfolding(rules::specs::Allocate::allocate_cleared))]
 pub fn allocate_cleared(region: &mut [u32], heap: Heap, count: u32, size: u32) -> Reply
     ensures { AllocatesCleared region.old heap count size result region.new }
 {
@@ -137,29 +139,17 @@ pub fn free(region: &mut [u32], heap: Heap, block: Block) -> Reply
     if block.0 == 0 {
         return Reply {
             answer: Answer::Returned(0),
-            heap: heap,
+            heap,
         };
     }
-    let sought = find_block(region, heap.bytes, block);
-    let Sought::Found(place) = sought else {
+    let Some(place) = find_block(region, heap.bytes, block) else {
         return refused(heap, Refusal::NotLive);
     };
-    let bins = heap.bins as usize;
-    let sizes = heap.sizes;
-    let mut heads = heap.heads;
-    let mut tails = heap.tails;
-    let freed = reclaim(
-        region,
-        &mut heads,
-        &mut tails,
-        &sizes[..bins],
-        heap.summary(),
-        place,
-    );
-    let answer = freed.answer;
+    let mut ends = heap.ends();
+    let freed = reclaim(region, &mut ends, table_of(&heap), heap.summary(), place);
     Reply {
-        answer: answer,
-        heap: heap.with_books(heads, tails, freed.summary),
+        answer: freed.answer,
+        heap: heap.with_books(ends, freed.summary),
     }
 }
 
@@ -175,14 +165,10 @@ pub fn reallocate(region: &mut [u32], heap: Heap, block: Block, z: u32) -> Reply
     if !is_permitted(z as u64) {
         return refused(heap, Refusal::BlockSize);
     }
-    let sought = find_block(region, heap.bytes, block);
-    let Sought::Found(place) = sought else {
+    let Some(place) = find_block(region, heap.bytes, block) else {
         return refused(heap, Refusal::NotLive);
     };
-    let bins = heap.bins as usize;
-    let sizes = heap.sizes;
-    let need = need_of(z);
-    resize(region, &sizes[..bins], heap, place, need)
+    resize(region, table_of(&heap), heap, place, need_of(z))
 }
 
 // The check is not asked: the patrol is for heaps that fail it.
@@ -190,9 +176,8 @@ pub fn patrol(region: &mut [u32], heap: Heap, chunks: u32) -> Reply
     ensures { Patrols region.old heap chunks result region.new }
 {
     let toured = tour(region, heap.bytes, heap.patrol, chunks);
-    let answer = toured.answer;
     Reply {
-        answer: answer,
+        answer: toured.answer,
         heap: heap.with_patrol(toured.place),
     }
 }

@@ -80,11 +80,11 @@ pub fn tour(region: &mut [u32], bytes: u32, place: Chunk, chunks: u32) -> Toured
     let verdict = run(region, bytes - END_SIZE, place, chunks);
     match verdict {
         Verdict::Paused(next) => Toured {
-            answer: Answer::Told(0),
+            answer: Answer::Told(Some(0)),
             place: next,
         },
         Verdict::Ended => Toured {
-            answer: Answer::Told(1),
+            answer: Answer::Told(Some(1)),
             place: Chunk(0),
         },
         Verdict::Lost => refused(Refusal::BeyondMending, place),
