@@ -2,83 +2,80 @@
 // What is printed is asked of the heap by its public calls alone.
 #![tactic(auto)]
 
+use crate::lines::{Kind, Line};
 use record::answers::Answer;
 use record::heap::Heap;
 use record::questions::{ASK_BIN, ASK_NEXT, ASK_SIZE, ASK_TYPE};
 use region::Block;
 use std::io;
 
-// Asked where there is a value.
-fn ask(region: &mut [u32], heap: Heap, question: u32, chunk: u32) -> u32 {
-    let reply = heap::ask_chunk(region, heap, question, chunk);
-    let answer = reply.answer;
-    let Answer::Told(value) = answer else {
-        return 0;
-    };
-    value
-}
-
-// Whether a chunk is above this one: at the end there is none.
-fn has_next(region: &mut [u32], heap: Heap, chunk: u32) -> bool {
-    let reply = heap::ask_chunk(region, heap, ASK_NEXT, chunk);
-    let answer = reply.answer;
-    let Answer::Told(_) = answer else {
-        return false;
-    };
-    true
-}
-
-fn print_number(rt: &impl Print, n: u32) -> io::Result<()> {
-    print!(rt; "{n} ")
-}
-
-// Free chunks by what the record says of them; an ordinary one with its bin.
-fn print_free(rt: &impl Print, region: &mut [u32], heap: Heap, chunk: u32) -> io::Result<()> {
-    if chunk == heap.donor.0 {
-        return println!(rt; "donor");
-    }
-    if chunk == heap.top.0 {
-        return println!(rt; "top");
-    }
-    let bin = ask(region, heap, ASK_BIN, chunk);
-    println!(rt; "free {bin}")
-}
-
-fn print_kind(rt: &impl Print, region: &mut [u32], heap: Heap, chunk: u32) -> io::Result<()> {
-    if chunk == 0 {
-        return println!(rt; "start");
-    }
-    if !has_next(region, heap, chunk) {
-        return println!(rt; "end");
-    }
-    if ask(region, heap, ASK_TYPE, chunk) == 1 {
-        return println!(rt; "inuse");
-    }
-    print_free(rt, region, heap, chunk)
-}
-
-fn print_chunk(rt: &impl Print, region: &mut [u32], heap: Heap, chunk: u32) -> io::Result<()> {
-    print_number(rt, chunk)?;
-    print_number(rt, ask(region, heap, ASK_SIZE, chunk))?;
-    print_kind(rt, region, heap, chunk)
-}
+mod lines;
 
 // The words of the demonstration's region.
 const REGION_WORDS: usize = 64;
 
 // Every chunk has two words at least.
-const MOST_CHUNKS: u32 = REGION_WORDS as u32 / 2;
+const MOST_CHUNKS: usize = REGION_WORDS / 2;
 
-fn print_chunks(rt: &impl Print, region: &mut [u32], heap: Heap) -> io::Result<()> {
-    let mut chunk = 0;
-    let mut left = MOST_CHUNKS;
-    while left != 0 {
-        print_chunk(rt, region, heap, chunk)?;
-        if !has_next(region, heap, chunk) {
-            return Ok(());
+// A heap that is asked: the words of its region, and its record.
+#[derive(Drop)]
+struct Asked<'a> {
+    region: &'a mut [u32],
+    heap: Heap,
+}
+
+impl Asked<'_> {
+    // None where there is no such chunk or no value, and where the heap fails.
+    fn ask(&mut self, question: u32, chunk: u32) -> Option<u32> {
+        let answer = heap::ask_chunk(self.region, self.heap, question, chunk).answer;
+        match answer {
+            Answer::Told(value) => Some(value),
+            _ => None,
         }
-        chunk = ask(region, heap, ASK_NEXT, chunk);
-        left -= 1;
+    }
+
+    // Free chunks by what the record says of them; an ordinary one with its bin.
+    fn free_kind(&mut self, chunk: u32) -> Option<Kind> {
+        if chunk == self.heap.donor.0 {
+            return Some(Kind::Donor);
+        }
+        if chunk == self.heap.top.0 {
+            return Some(Kind::Top);
+        }
+        Some(Kind::Free(self.ask(ASK_BIN, chunk)?))
+    }
+
+    // Above the end there is no chunk.
+    fn kind(&mut self, chunk: u32) -> Option<Kind> {
+        if chunk == 0 {
+            return Some(Kind::Start);
+        }
+        if self.ask(ASK_NEXT, chunk).is_none() {
+            return Some(Kind::End);
+        }
+        if self.ask(ASK_TYPE, chunk)? == 1 {
+            return Some(Kind::InUse);
+        }
+        self.free_kind(chunk)
+    }
+
+    fn line(&mut self, chunk: u32) -> Option<Line> {
+        let size = self.ask(ASK_SIZE, chunk)?;
+        let kind = self.kind(chunk)?;
+        Some(Line { chunk, size, kind })
+    }
+}
+
+fn print_chunks(rt: &impl Print, mut asked: Asked) -> io::Result<()> {
+    let mut next = Some(0);
+    for _ in 0..MOST_CHUNKS {
+        let Some(chunk) = next else {
+            break;
+        };
+        if let Some(line) = asked.line(chunk) {
+            println!(rt; "{line}")?;
+        }
+        next = asked.ask(ASK_NEXT, chunk);
     }
     Ok(())
 }
@@ -107,9 +104,16 @@ fn main(rt: HostRuntime) -> io::Result<()> {
     // Call 5: nothing can serve it.
     let refused = heap::allocate(&mut region, full, 16).heap;
     let heap = churn(&mut region, refused);
-    print_number(&rt, heap.bytes)?;
-    print_number(&rt, heap.bins)?;
-    let used = heap.used;
-    println!(rt; "{used}")?;
-    print_chunks(&rt, &mut region, heap)
+    let Heap {
+        bytes,
+        bins,
+        used,
+        ..
+    } = heap;
+    println!(rt; "{bytes} {bins} {used}")?;
+    let asked = Asked {
+        region: &mut region,
+        heap,
+    };
+    print_chunks(&rt, asked)
 }
