@@ -2,45 +2,76 @@
 // A second library that plays the same script is compared with this one line by line.
 #![tactic(auto)]
 
-ghost use Rattle.std.specs.Prelude.{◌≡◌, ◌≤◌, IfOk, length};
+ghost use Rattle.std.specs.Prelude.{◌≡◌, IfOk, IfSome, take};
 
 use crate::play::play;
+use crate::script::numbers;
+use std::alloc::Global;
 use std::io;
 use std::io::Read;
 
 mod calls;
 mod digest;
+mod memory;
 mod play;
 mod script;
-mod words;
 
-// The bytes of the longest script.
-const SCRIPT_BYTES: usize = 2097152;
+// What is behind so many bytes of a script is not played.
+const SCRIPT_BYTES: u64 = 2097152;
 
-fn space() -> [u8; SCRIPT_BYTES]
-    ensures { SCRIPT_BYTES ≡ length result }
+fn read_script<R: Read + Drop>(alloc: Global, from: R) -> io::Result<Vec<u8>>
+    ensures { IfOk result (λ script. IfSome (R.remaining from) (λ bytes. script.items ≡ take SCRIPT_BYTES bytes)) }
 {
-    [0; SCRIPT_BYTES]
+    let mut script = Vec::new(alloc);
+    from.take(SCRIPT_BYTES).read_to_end(&mut script)?;
+    Ok(script)
 }
 
-// Reads until the input ends or the space is full.
-fn read_full<R: Read>(from: &mut R, script: &mut [u8]) -> io::Result<usize>
-    ensures { IfOk result (λ n. n ≤ length script.new) }
-{
-    let mut n = 0;
-    while n < script.len() {
-        let got = from.read(&mut script[n..])?;
-        if got == 0 {
-            return Ok(n);
-        }
-        n += got;
-    }
-    Ok(n)
-}
-
-// What the space does not hold of a script is not played.
 fn main(rt: HostRuntime) -> io::Result<()> {
-    let mut script = space();
-    let n = read_full(&mut rt.stdin(), &mut script)?;
-    play(&rt, &script[..n])
+    let script = read_script(rt.alloc(), rt.stdin())?;
+    let numbers = numbers(rt.alloc(), &script)?;
+    play(&rt, &numbers)
+}
+
+#[cfg(test)]
+mod tests {
+    use super::*;
+    use crate::calls::Call;
+    use crate::memory::Memory;
+    use crate::script::Actions;
+    use std::test::Fail;
+
+    #[test]
+    fn reads_as_much_as_a_script_may_have(rt: HostRuntime) -> Result<(), Fail> {
+        let input = vec![in rt.alloc(); b'7'; 2097153]?;
+        let script = read_script(rt.alloc(), input.as_slice())?;
+        assert_eq!(rt; script.len(), 2097152);
+        Ok(())
+    }
+
+    #[test]
+    fn finds_the_numbers(rt: HostRuntime) -> Result<(), Fail> {
+        let found = numbers(rt.alloc(), b"# 1\n-2 03x4294967299#5#6\n\n7")?;
+        assert_eq!(rt; found.as_slice(), [2, 3, 3, 7].as_slice());
+        Ok(())
+    }
+
+    #[test]
+    fn has_as_many_words_as_it_may(rt: HostRuntime) -> Result<(), Fail> {
+        for (words, want) in [(0, 0), (64, 64), (16401, 16400)] {
+            let memory = Memory::new(rt.alloc(), words, 1)?;
+            assert_eq!(rt; memory.region.len(), want);
+        }
+        Ok(())
+    }
+
+    #[test]
+    fn makes_the_table_of_a_setup(rt: HostRuntime) -> Result<(), Fail> {
+        let mut memory = Memory::new(rt.alloc(), 64, 64)?;
+        for action in Actions(&[1, 7, 64, 1, 4, 24, 32, 40, 128]) {
+            let answer = Call::Setup.answer(rt.alloc(), action.args, &mut memory)?;
+            assert_eq!(rt; answer, [0; 5]);
+        }
+        Ok(())
+    }
 }

@@ -1,93 +1,68 @@
-// The script played: the region and the record, an action applied to them, and the digest after a call.
-// The region is the first `words` words of the space that is lent for it.
-ghost use Rattle.std.specs.Prelude.{◌≡◌, ◌≤◌, length};
-
-use crate::calls::call;
-use crate::digest::{START, digest};
-use crate::script::{MOST_ARGS, action_at};
-use crate::words::{fill, set_word, smaller};
-use abi::{ANSWER_WORDS, RECORD_WORDS};
+// The script played: action after action, and a line after each call.
+use crate::calls::Call;
+use crate::memory::{Memory, set_word};
+use crate::script::{Action, Actions, Args};
 use std::io;
 
-// What an action asks for; any other number is a call's.
-const REGION: u32 = 0;
-
-const WRITE: u32 = 10;
-
-const RECORD: u32 = 11;
-
-const PATROL: u32 = 12;
-
-// More words than the largest region has, so that regions that are too large are played too.
-const SPACE_WORDS: usize = 16400;
-
-fn space() -> [u32; SPACE_WORDS]
-    ensures { SPACE_WORDS ≡ length result }
-{
-    [0; SPACE_WORDS]
+// What an action asks for.
+#[derive(Clone, Copy)]
+enum Op {
+    Region,
+    Call(Call),
+    Write,
+    Record,
 }
 
-// A region larger than the space is as large as the space.
-fn new_region(words: u32, seed: u32, space: &mut [u32], state: &mut [u32; RECORD_WORDS]) -> usize
-    ensures { result ≤ length space.new }
-{
-    *state = [0; RECORD_WORDS];
-    let count = smaller(words as usize, space.len());
-    fill(&mut space[..count], seed);
-    count
-}
+// A number that asks for nothing.
+#[derive(Clone, Copy, Debug)]
+struct UnknownOp;
 
-fn print_digest(
-    rt: &impl Print,
-    answer: [u32; ANSWER_WORDS],
-    state: &[u32; RECORD_WORDS],
-    region: &[u32],
-) -> io::Result<()> {
-    let said = digest(START, &answer);
-    let all = digest(digest(said, state), region);
-    println!(rt; "{all}")
-}
+impl TryFrom<u32> for Op {
+    type Error = UnknownOp;
 
-// Every action but a new region.
-fn apply(
-    rt: &impl Print,
-    op: u32,
-    args: [u32; MOST_ARGS],
-    region: &mut [u32],
-    state: &mut [u32; RECORD_WORDS],
-) -> io::Result<()> {
-    if op == WRITE {
-        set_word(region, args[0], args[1]);
-        return Ok(());
+    fn try_from(number: u32) -> Result<Self, UnknownOp> {
+        match number {
+            0 => Ok(Op::Region),
+            1 => Ok(Op::Call(Call::Setup)),
+            2 => Ok(Op::Call(Call::Allocate)),
+            3 => Ok(Op::Call(Call::AllocateCleared)),
+            4 => Ok(Op::Call(Call::Free)),
+            5 => Ok(Op::Call(Call::Reallocate)),
+            6 => Ok(Op::Call(Call::SetMerge)),
+            7 => Ok(Op::Call(Call::Check)),
+            8 => Ok(Op::Call(Call::AskChunk)),
+            9 => Ok(Op::Call(Call::AskBin)),
+            10 => Ok(Op::Write),
+            11 => Ok(Op::Record),
+            12 => Ok(Op::Call(Call::Patrol)),
+            _ => Err(UnknownOp),
+        }
     }
-    if op == RECORD {
-        set_word(state, args[0], args[1]);
-        return Ok(());
-    }
-    if op > PATROL {
+}
+
+fn apply(rt: &(impl Print + AllocGlobal), action: Action, memory: &mut Memory) -> io::Result<()> {
+    let args = action.args;
+    let Ok(op) = Op::try_from(action.number) else {
         return println!(rt; "unknown");
+    };
+    match op {
+        Op::Region => *memory = Memory::new(rt.alloc(), args.at(0), args.at(1))?,
+        Op::Write => set_word(&mut memory.region, args.at(0), args.at(1)),
+        Op::Record => set_word(&mut memory.state, args.at(0), args.at(1)),
+        Op::Call(call) => {
+            let answer = call.answer(rt.alloc(), args, memory)?;
+            let digest = memory.digest(&answer);
+            println!(rt; "{digest}")?;
+        }
     }
-    let answer = call(op, args, region, state);
-    print_digest(rt, answer, state, region)
+    Ok(())
 }
 
-pub fn play(rt: &impl Print, script: &[u8]) -> io::Result<()> {
-    let mut space = space();
-    let mut state = [0; RECORD_WORDS];
-    let mut words = 0;
-    let mut at = 0;
-    while at < script.len() {
-        let action = action_at(script, at);
-        if !action.found {
-            return Ok(());
-        }
-        let args = action.args;
-        if action.op == REGION {
-            words = new_region(args[0], args[1], &mut space, &mut state);
-        } else {
-            apply(rt, action.op, args, &mut space[..words], &mut state)?;
-        }
-        at = action.after;
+pub fn play(rt: &(impl Print + AllocGlobal), numbers: &[u32]) -> io::Result<()> {
+    // Until the script asks for a region there is one of no words.
+    let mut memory = Memory::new(rt.alloc(), 0, 0)?;
+    for action in Actions(numbers) {
+        apply(rt, action, &mut memory)?;
     }
     Ok(())
 }

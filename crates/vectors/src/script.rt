@@ -1,127 +1,76 @@
 // The script as numbers, and the numbers as actions: what is to be done, how many arguments follow, and those.
 // Every byte that is no digit separates two numbers, and a comment goes from '#' to the end of its line.
-ghost use Rattle.std.specs.Prelude.{◌≡◌, true, ◌<◌, ◌≤◌};
+ghost use Rattle.std.specs.Prelude.{length};
+ghost use Rattle.std.specs.Iterator.{at_most};
 
-use crate::words::{TWO_TO_32, set_word};
-
-// An action has places for this many arguments.
-pub const MOST_ARGS: usize = 64;
-
-// `after` is where the number ends. Where none was found, the value is 0.
-#[derive(Clone, Copy)]
-pub struct Number {
-    pub value: u32,
-    pub after: usize,
-    pub found: bool,
-}
-
-#[derive(Clone, Copy)]
-pub struct Action {
-    pub op: u32,
-    pub args: [u32; MOST_ARGS],
-    pub after: usize,
-    pub found: bool,
-}
-
-// 10 for a byte that is no digit.
-fn digit(byte: u8) -> u32 {
-    if byte < b'0' {
-        return 10;
-    }
-    if byte > b'9' {
-        return 10;
-    }
-    (byte - b'0') as u32
-}
-
-fn line_end(script: &[u8], at: usize) -> usize
-    ensures { at ≤ result }
-{
-    let mut i = at;
-    while i < script.len() {
-        if script[i] == b'\n' {
-            return i;
-        }
-        i += 1;
-    }
-    i
-}
-
-fn first_digit(script: &[u8], at: usize) -> usize
-    ensures { at ≤ result }
-{
-    let mut i = at;
-    while i < script.len() {
-        let byte = script[i];
-        if digit(byte) < 10 {
-            return i;
-        }
-        i = if byte == b'#' {
-            line_end(script, i + 1)
-        } else {
-            i + 1
-        };
-    }
-    i
-}
+use std::alloc::{AllocError, Global};
 
 // Modulo 2^32, so that a number of any length is one.
-fn with_digit(value: u32, next: u32) -> u32 {
-    ((value as u64 * 10 + next as u64) % TWO_TO_32) as u32
+fn number(digits: &[u8]) -> u32 {
+    digits.iter().fold(0u32, |value, digit| {
+        value
+            .wrapping_mul(10)
+            .wrapping_add(u32::from(digit.wrapping_sub(b'0')))
+    })
 }
 
-pub fn number_at(script: &[u8], at: usize) -> Number
-    ensures at_le_after { at ≤ result.after }
-    ensures at_lt_after { result.found ≡ true → at < result.after }
-{
-    let start = first_digit(script, at);
-    let mut value = 0;
-    let mut i = start;
-    while i < script.len() {
-        let next = digit(script[i]);
-        if next > 9 {
-            break;
+// The line up to its comment.
+fn without_comment(line: &[u8]) -> &[u8] {
+    line.split(|byte| *byte == b'#').next().unwrap_or(line)
+}
+
+fn add_numbers(numbers: &mut Vec<u32>, line: &[u8]) -> Result<(), AllocError> {
+    for digits in line.split(|byte| !byte.is_ascii_digit()) {
+        if !digits.is_empty() {
+            numbers.push(number(digits))?;
         }
-        value = with_digit(value, next);
-        i += 1;
     }
-    Number {
-        value: value,
-        after: i,
-        found: start < i,
+    Ok(())
+}
+
+pub fn numbers(alloc: Global, script: &[u8]) -> Result<Vec<u32>, AllocError> {
+    let mut numbers = Vec::new(alloc);
+    for line in script.split(|byte| *byte == b'\n') {
+        add_numbers(&mut numbers, without_comment(line))?;
+    }
+    Ok(numbers)
+}
+
+// The arguments of an action, as many as are there. An action may have more than its reader knows.
+#[derive(Clone, Copy)]
+pub struct Args<'a>(&'a [u32]);
+
+impl Args<'_> {
+    // An argument that is not given is 0.
+    pub fn at(self, index: usize) -> u32 {
+        self.0.get(index).copied().unwrap_or(0)
     }
 }
 
-// Arguments that `args` has no place for are read and dropped, so an action may have more than its reader knows.
-fn read_args(script: &[u8], at: usize, count: u32, args: &mut [u32; MOST_ARGS]) -> usize
-    ensures { at ≤ result }
-{
-    let mut i = 0;
-    let mut place = at;
-    while i < count {
-        let number = number_at(script, place);
-        if !number.found {
-            return place;
-        }
-        place = number.after;
-        set_word(args, i, number.value);
-        i += 1;
-    }
-    place
+#[derive(Clone, Copy)]
+pub struct Action<'a> {
+    pub number: u32,
+    pub args: Args<'a>,
 }
 
-// Arguments that are not given are 0.
-pub fn action_at(script: &[u8], at: usize) -> Action
-    ensures { result.found ≡ true → at < result.after }
-{
-    let op = number_at(script, at);
-    let count = number_at(script, op.after);
-    let mut args = [0u32; MOST_ARGS];
-    let after = read_args(script, count.after, count.value, &mut args);
-    Action {
-        op: op.value,
-        args: args,
-        after: after,
-        found: op.found,
+// The actions of the numbers that are left.
+#[derive(Drop)]
+pub struct Actions<'a>(pub &'a [u32]);
+
+impl<'a> Iterator for Actions<'a> {
+    type Item = Action<'a>;
+
+    ghost remaining = { λ s. at_most (length s.0.now) };
+
+    fn next(&mut self) -> Option<Action<'a>> {
+        let (number, behind) = self.0.split_first()?;
+        // Where no count is given it is 0.
+        let (count, given) = behind.split_first().unwrap_or((&0, behind));
+        let (args, rest) = given.split_at(given.len().min(*count as usize));
+        self.0 = rest;
+        Some(Action {
+            number: *number,
+            args: Args(args),
+        })
     }
 }
