@@ -8,8 +8,7 @@ pub enum Kind {
     InUse,
     Donor,
     Top,
-    // Of an ordinary chunk, with the number of its bin.
-    Free(u32),
+    Free { bin: u32 },
 }
 
 #[derive(Clone, Copy)]
@@ -27,7 +26,7 @@ impl fmt::Display for Kind {
             Kind::InUse => f.write_str("inuse"),
             Kind::Donor => f.write_str("donor"),
             Kind::Top => f.write_str("top"),
-            Kind::Free(bin) => write!(f, "free {bin}"),
+            Kind::Free { bin } => write!(f, "free {bin}"),
         }
     }
 }

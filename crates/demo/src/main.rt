@@ -42,7 +42,8 @@ impl Asked<'_> {
         if chunk == self.heap.top.0 {
             return Some(Kind::Top);
         }
-        Some(Kind::Free(self.ask(ASK_BIN, chunk)?))
+        let bin = self.ask(ASK_BIN, chunk)?;
+        Some(Kind::Free { bin })
     }
 
     // Above the end there is no chunk.

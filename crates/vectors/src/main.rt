@@ -68,10 +68,11 @@ mod tests {
     #[test]
     fn makes_the_table_of_a_setup(rt: HostRuntime) -> Result<(), Fail> {
         let mut memory = Memory::new(rt.alloc(), 64, 64)?;
-        for action in Actions(&[1, 7, 64, 1, 4, 24, 32, 40, 128]) {
-            let answer = Call::Setup.answer(rt.alloc(), action.args, &mut memory)?;
-            assert_eq!(rt; answer, [0; 5]);
-        }
+        let action = Actions(&[1, 7, 64, 1, 4, 24, 32, 40, 128])
+            .next()
+            .ok_or("no action")?;
+        let answer = Call::Setup.answer(rt.alloc(), action.args, &mut memory)?;
+        assert_eq!(rt; answer, [0; 5]);
         Ok(())
     }
 }

@@ -17,6 +17,7 @@ enum Op {
 #[derive(Clone, Copy, Debug)]
 struct UnknownOp;
 
+// The patrol came after two actions that are no calls.
 impl TryFrom<u32> for Op {
     type Error = UnknownOp;
 

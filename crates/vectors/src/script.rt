@@ -47,6 +47,7 @@ impl Args<'_> {
     }
 }
 
+// What is to be done, by its number.
 #[derive(Clone, Copy)]
 pub struct Action<'a> {
     pub number: u32,
