@@ -2,8 +2,8 @@
 // What a mark means is not known here.
 #![tactic(auto)]
 
-ghost use Rattle.std.specs.Prelude.{◌*◌, ◌/◌, ◌<◌, length, ◌≡◌};
-ghost use Rattle.marks.specs.Marks.{marked, flipped, number_m};
+ghost use Rattle.std.specs.Prelude.{◌*◌, ◌/◌, ◌<◌, ◌≡◌};
+ghost use Rattle.marks.specs.Marks.{clear, marked, flipped, number_m};
 
 use region::{ALIGNMENT, Chunk, LARGEST_HEAP};
 
@@ -18,13 +18,40 @@ const TOP_BITS: u32 = 1 << (BITS - 3);
 // A bitmap of this many words has a mark for every chunk of the largest heap.
 pub const MARK_WORDS: usize = (LARGEST_HEAP / SPAN) as usize;
 
-// Turns the mark over: sets it where it is clear, clears it where it is set.
-pub fn flip(marks: &mut [u32], chunk: Chunk)
-    requires { chunk.0 / 256 < length marks.old }
-    ensures { marks.new ≡ flipped marks.old chunk.0 }
-{
-    let i = (chunk.0 / SPAN) as usize;
-    marks[i] ^= 1 << (chunk.0 / ALIGNMENT % BITS);
+// The bitmap of a heap, however large the heap is.
+#[derive(Drop)]
+pub struct Marks {
+    pub words: [u32; MARK_WORDS],
+}
+
+impl Marks {
+    // No chunk is marked.
+    pub fn clear() -> Self
+        ensures { result.words ≡ clear }
+    {
+        Self {
+            words: [0; MARK_WORDS],
+        }
+    }
+
+    // Turns the mark over: sets it where it is clear, clears it where it is set.
+    pub fn flip(&mut self, chunk: Chunk)
+        requires { chunk.0 < LARGEST_HEAP }
+        ensures { self.new.words ≡ flipped self.old.words chunk.0 }
+    {
+        let i = (chunk.0 / SPAN) as usize;
+        self.words[i] ^= 1 << (chunk.0 / ALIGNMENT % BITS);
+    }
+
+    // The mark with this number.
+    pub fn is_marked(&self, number: u32) -> bool
+        requires { 8 * number < LARGEST_HEAP }
+        ensures { result ≡ marked self.now.words (8 * number) }
+    {
+        let i = (number / BITS) as usize;
+        let bit = 1 << (number % BITS);
+        self.words[i] & bit != 0
+    }
 }
 
 // The number of a place's mark: multiples of 8 are counted from 0. Of any other place the low three bits, which are not all 0, come to the
@@ -34,14 +61,4 @@ pub fn number_of(chunk: Chunk) -> u32
     ensures { result ≡ number_m chunk.0 }
 {
     chunk.0 / ALIGNMENT + chunk.0 % ALIGNMENT * TOP_BITS
-}
-
-// The mark with this number.
-pub fn is_marked(marks: &[u32], number: u32) -> bool
-    requires { number / 32 < length marks.now }
-    ensures { result ≡ marked marks.now (8 * number) }
-{
-    let i = (number / BITS) as usize;
-    let bit = 1 << (number % BITS);
-    marks[i] & bit != 0
 }
