@@ -1,5 +1,5 @@
 -- The walk of the chain, step by step: what is left to do and what is done always come to the whole. Assumes nothing.
-use Rattle.std.proofs.Common.{◌≡◌, ℕ, suc, ◌+◌, ◌-◌, ◌%◌, ◌^◌, ◌<◌, ◌≤◌, max, true, false, List, [], ◌∷◌, length, sym, refl, ap, ◌∙◌, add-zero, add_assoc, zero-add, arith}
+use Rattle.std.proofs.Common.{◌≡◌, ℕ, suc, ◌+◌, ◌-◌, ◌%◌, ◌^◌, ◌<◌, ◌≤◌, max, true, false, List, [], ◌∷◌, Some, length, sym, refl, ap, ◌∙◌, add-zero, add_assoc, zero-add, arith}
 use mathlib.Core.Bool.{false≢true}
 use native.Mathlib.Decide.{ℕ_discrete}
 use Rattle.lists.specs.Lists.{last_or, total}
@@ -15,7 +15,6 @@ use Rattle.rules.specs.Kinds.{outside}
 use Rattle.rules.specs.Shape.{Entry, shape}
 use Rattle.rules.proofs.ShapeLaws.{chain_from, shape_is, chain_by}
 use Rattle.survey.specs.declared.Share.{Share}
-use Rattle.survey.specs.declared.Survey.TheVariants.{Surveyed}
 use Rattle.survey.specs.declared.Tally.{Tally}
 use Rattle.survey.specs.Chunks.{sound_at}
 use Rattle.survey.specs.Survey.{share_of, nothing, added_m, mark_m, share_at, all_sound, whole_chain, mark_all, tally_of, SurveyIs}
@@ -187,7 +186,7 @@ module _ (ws : List ℕ) (s : Summary) where
     -- the ways on from a sound chunk: it is the last, and the end chunk; the walk goes on behind it
     module _ (fits : s.bytes < 2 ^ 32) (k : Kind) (kind : k ≡ kind_m s (chunk c)) (h : sound_at ws s p (chunk c) ≡ true) where
       pub ends : end c ≡ s.bytes → c + 8 ≡ s.bytes → is_chunk (chain 0) s.patrol.0 ≡ true
-          → SurveyIs ws s ms₀ (mark_m ms k c) (Surveyed (added_m t (share_of k (end c - c))))
+          → SurveyIs ws s ms₀ (mark_m ms k c) (Some (added_m t (share_of k (end c - c))))
       ends e last seen =
           let here = chain_here ws s.bytes c e in
           let all = shape_is ws s.bytes in
@@ -217,7 +216,3 @@ module _ (ws : List ℕ) (s : Summary) where
 pub survey_begins : {ws : List ℕ} {s : Summary} {ms : List ℕ}
     → Onward ws s ms ms nothing 0 0
 survey_begins = record { inside = omega arith; sound = refl; marks = refl; tally = simp zero-add; last = refl }
-
--- a share is added, whatever it is called
-pub tallies : (t : Tally) {s s' : Share} {t' : Tally} → s ≡ s' → t' ≡ added_m t s → t' ≡ added_m t s'
-tallies t q e = e ∙ ap (λ (x : Share). added_m t x) q

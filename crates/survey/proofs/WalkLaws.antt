@@ -1,6 +1,7 @@
 -- The walk as the code makes it: the start by its two words, chunk after chunk while the chain goes on, then the end chunk.
 -- That fewer tests suffice than the definitions make is shown here. Assumes nothing.
-use Rattle.std.proofs.Common.{◌≡◌, ℕ, ◌+◌, ◌-◌, ◌/◌, ◌%◌, ◌^◌, ◌<◌, ◌≤◌, Bool, true, false, cond, ◌&&◌, ◌⊎◌, List, [], length, sym, refl, ap, ◌∙◌, subst, inl, inr, arith, eq-eqb, ne_eqb}
+use Rattle.std.proofs.Common.{◌≡◌, ℕ, ◌+◌, ◌-◌, ◌/◌, ◌%◌, ◌^◌, ◌<◌, ◌≤◌, Bool, true, false, ◌&&◌, ◌⊎◌, List, [], Option, Some, None, length, sym, refl, ap, ◌∙◌, subst, inl, inr, arith, eq-eqb, ne_eqb}
+use Rattle.std.specs.Bool.{then_some}
 use mathlib.Core.Bool.{false≢true}
 use native.Mathlib.Decide.{ℕ_discrete, dec_lt}
 use borrow.Author.Tests.{lt-leb}
@@ -18,12 +19,9 @@ use Rattle.rules.specs.Kinds.{outside}
 use Rattle.rules.specs.Shape.{Entry}
 use Rattle.rules.proofs.ShapeLaws.{up_entry, chain_by, shape_is}
 use Rattle.rules.proofs.KindsLaws.{Being, being, kind_start, kind_end}
-use Rattle.survey.specs.declared.chunks.Seen.{Seen}
-use Rattle.survey.specs.declared.chunks.Seen.TheVariants.{Sound, Unsound}
-use Rattle.survey.specs.declared.Survey.{Survey}
-use Rattle.survey.specs.declared.Survey.TheVariants.{Surveyed, Broken}
+use Rattle.survey.specs.declared.visit.Visit.{Visit}
 use Rattle.survey.specs.declared.Tally.{Tally}
-use Rattle.survey.specs.Chunks.{WellPlaced, Followed, visited, visited_in, is_first_m, goes_on_m, is_last_m, is_backed_m, is_sized_m, is_start_m, is_end_m, is_sound_m, sound_at, examine_m}
+use Rattle.survey.specs.Chunks.{HasRead, Followed, is_first_m, goes_on_m, is_last_m, is_backed_m, is_sized_m, is_start_m, is_end_m, is_sound_m, sound_at, examine_m}
 use Rattle.survey.specs.Survey.{nothing, share_of, added_m, first_limit_m, finish_m, mark_m, all_sound, whole_chain, SurveyIs}
 use Rattle.survey.proofs.ChunkLaws.{backed_iff}
 use Rattle.survey.proofs.SurveyLaws.{chain, chunk, end, Onward, survey_begins, whole_iff, unseen_fails, unsound_fails, short_fails, breaks, ends, goes_on_lem}
@@ -177,53 +175,61 @@ module _ (ws : List ℕ) (s : Summary) (lent : Lent ws s.bytes) where
 
   -- what a look at the chunk at c finds
   module _ (p c : ℕ) where
-    told_unsound : examine_m ws s (visited p c (end ws s c) (word ws c backward)) ≡ Unsound → sound_at ws s p (chunk ws s c) ≡ false
-    unfolding examine_m sound_at
-    told_unsound u = by (sound_at ws s p (chunk ws s c)) u
+    abbrev found : Option Kind
+    found = then_some (sound_at ws s p (chunk ws s c)) (kind_m s (chunk ws s c))
+
+    told_unsound : found ≡ None → sound_at ws s p (chunk ws s c) ≡ false
+    told_unsound = by (sound_at ws s p (chunk ws s c))
       where
-        by : (t : Bool) → cond t (Sound (kind_m s (chunk ws s c))) Unsound ≡ Unsound → t ≡ false
-        by true r = let z : ◌≡◌ {A = ℕ} 0 1 = cc in absurd (omega arith)
+        by : (t : Bool) → then_some t (kind_m s (chunk ws s c)) ≡ None → t ≡ false
+        by true r = cc
         by false r = refl
 
-    told_sound : (k : Kind) → examine_m ws s (visited p c (end ws s c) (word ws c backward)) ≡ Sound k
+    told_sound : (k : Kind) → found ≡ Some k
         → (k ≡ kind_m s (chunk ws s c)) × (sound_at ws s p (chunk ws s c) ≡ true)
-    unfolding examine_m sound_at
-    told_sound k u = by (sound_at ws s p (chunk ws s c)) u
+    told_sound k = by (sound_at ws s p (chunk ws s c))
       where
-        by : (t : Bool) → cond t (Sound (kind_m s (chunk ws s c))) Unsound ≡ Sound k → (k ≡ kind_m s (chunk ws s c)) × (t ≡ true)
+        by : (t : Bool) → then_some t (kind_m s (chunk ws s c)) ≡ Some k → (k ≡ kind_m s (chunk ws s c)) × (t ≡ true)
         by true r = ((cc), refl)
-        by false r = let z : ◌≡◌ {A = ℕ} 0 1 = cc in absurd (omega arith)
+        by false r = cc
 
+  -- a place where the walk stands is inside the heap
   module _ {ms₀ ms : List ℕ} {t : Tally} {p c limit : ℕ} (o : Walking ws s ms₀ ms t p c limit) where
-    -- its two links
-    abbrev n : ℕ
-    n = word ws c forward
-
-    abbrev link : ℕ
-    link = word ws c backward
-
-    pub walk_placed : WellPlaced (visited_in ws p c)
-    walk_placed =
-        record { eight = o.eight; eight_before = o.eight_before; behind = o.behind; within = omega (arith, o.room, lent.not_too_many) }
-
     pub walk_inside : c / 4 + 1 < length ws
     walk_inside = omega (arith, o.room, lent.words, o.eight)
 
-    goes_iff : (m : ℕ) → Decides (goes_on_m (visited_in ws p c) m) (((n % 8 ≡ 0) × (c + 24 ≤ n)) × (n ≤ m))
+    pub walk_within : c < 65536
+    walk_within = omega (arith, o.room, lent.not_too_many)
+
+  module _ {ms₀ ms : List ℕ} {t : Tally} {v : Visit} {limit : ℕ} (read : HasRead ws v)
+      (o : Walking ws s ms₀ ms t v.before.0 v.chunk.0 limit) where
+    abbrev p : ℕ
+    p = v.before.0
+
+    abbrev c : ℕ
+    c = v.chunk.0
+
+    -- its two links
+    abbrev n : ℕ
+    n = v.next
+
+    abbrev link : ℕ
+    link = v.link
+
+    goes_iff : (m : ℕ) → Decides (goes_on_m v m) (((n % 8 ≡ 0) × (c + 24 ≤ n)) × (n ≤ m))
     unfolding goes_on_m
     goes_iff m = both (both (number_is (n % 8) 0) (at_most (c + 24) n)) (at_most n m)
 
-    last_iff : (m : ℕ) → Decides (is_last_m (visited_in ws p c) m) (((c ≡ m) × (n ≡ 0)) × (link ≡ p + 1))
+    last_iff : (m : ℕ) → Decides (is_last_m v m) (((c ≡ m) × (n ≡ 0)) × (link ≡ p + 1))
     unfolding is_last_m
     last_iff m = both (both (number_is c m) (number_is n 0)) (number_is link (p + 1))
 
     -- the chain goes on behind it
-    module _ (h : goes_on_m (visited_in ws p c) limit ≡ true) where
-      pub walk_followed : Followed ws s (visited_in ws p c)
+    module _ (h : goes_on_m v limit ≡ true) where
+      pub walk_followed : Followed ws s v
       walk_followed =
           let ((eight, room), below) = (goes_iff limit).0 h in
           record {
-            placed = walk_placed;
             header = omega (arith, lent.words, o.eight, o.below);
             room = room;
             below = omega (arith, o.below);
@@ -232,7 +238,7 @@ module _ (ws : List ℕ) (s : Summary) (lent : Lent ws s.bytes) where
       end_is : end ws s c ≡ n
       end_is =
           let ((eight, room), below) = (goes_iff limit).0 h in
-          end_up ws s.bytes c (omega arith, omega (arith, o.below))
+          end_up ws s.bytes c (omega (arith, read.next), omega (arith, o.below, read.next)) ∙ sym read.next
 
       not_end_lem : end ws s c ≡ s.bytes → ⊥
       not_end_lem q = let ((eight, room), below) = (goes_iff limit).0 h in omega (arith, end_is, o.below)
@@ -246,16 +252,17 @@ module _ (ws : List ℕ) (s : Summary) (lent : Lent ws s.bytes) where
           inr (l, ap (seen_from ws s) (sym end_is) ∙ sym later ∙ left)
 
       -- what was seen of the chunk is told of the chain's
-      module _ {seen : Seen} (es : seen ≡ examine_m ws s (visited_in ws p c)) where
-        told : seen ≡ examine_m ws s (visited p c (end ws s c) link)
-        told = es ∙ rw end_is
+      module _ {seen : Option Kind} (es : seen ≡ examine_m ws s v) where
+        told : seen ≡ found p c
+        unfolding examine_m sound_at
+        told = es ∙ rw (end_is, read.link)
 
-        pub walk_breaks : seen ≡ Unsound → whole_chain ws s ≡ false
+        pub walk_breaks : seen ≡ None → whole_chain ws s ≡ false
         walk_breaks u = breaks ws s ms₀ ms t p c o.onward (told_unsound p c (sym told ∙ u))
 
-        goes_next : {k : Kind} → seen ≡ Sound k → {t' : Tally} → t' ≡ added_m t (share_of k (n - c))
+        pub walk_goes : {k : Kind} → seen ≡ Some k → {t' : Tally} → t' ≡ added_m t (share_of k (n - c))
             → {ms' : List ℕ} → ms' ≡ mark_m ms k c → Walking ws s ms₀ ms' t' c n limit
-        goes_next {k} u et em =
+        walk_goes {k} u et em =
             let ((eight, room), below) = (goes_iff limit).0 h in
             let (kind, sound) = told_sound p c k (sym told ∙ u) in
             rw (et, em)
@@ -269,18 +276,11 @@ module _ (ws : List ℕ) (s : Summary) (lent : Lent ws s.bytes) where
               sought = still_sought o.sought;
             })
 
-        -- with the link as the code holds it
-        pub walk_goes : {k : Kind} → seen ≡ Sound k → {m : ℕ} → m ≡ n → {t' : Tally} → t' ≡ added_m t (share_of k (m - c))
-            → {ms' : List ℕ} → ms' ≡ mark_m ms k c → Walking ws s ms₀ ms' t' c m limit
-        walk_goes {k} u e {t'} et {ms'} em =
-            subst (λ (x : ℕ). Walking ws s ms₀ ms' t' c x limit) (sym e)
-            (goes_next u (et ∙ ap (λ (x : ℕ). added_m t (share_of k (x - c))) e) em)
-
     -- the end chunk is sound exactly if its two words are right
     end_iff : c + 8 ≡ s.bytes → Decides (sound_at ws s p (chunk ws s c)) ((n ≡ 0) × (link ≡ p + 1))
     unfolding sound_at is_end_m
     end_iff e =
-        rw (← kind_end s.bytes s.donor.0 s.top.0 (chunk ws s c) (λ z. omega (arith, o.behind)) e)
+        rw (← kind_end s.bytes s.donor.0 s.top.0 (chunk ws s c) (λ z. omega (arith, o.behind)) e, ← read.link, ← read.next)
         (meaning
         (both (backed_iff link p c) (both (number_is (link % 8) 1) (number_is n 0)))
         (λ ((_, back), (flags, none)). (none, omega arith))
@@ -295,7 +295,7 @@ module _ (ws : List ℕ) (s : Summary) (lent : Lent ws s.bytes) where
       sought_last l e (inl (_, seen)) = seen
       sought_last l e (inr (q, left)) = sym left ∙ seen_here ws s c (e ∙ sym l ∙ q)
 
-      walk_ends : limit ≡ last → is_last_m (visited_in ws p c) last ≡ true → SurveyIs ws s ms₀ ms (Surveyed (added_m t (share_of End 8)))
+      walk_ends : limit ≡ last → is_last_m v last ≡ true → SurveyIs ws s ms₀ ms (Some (added_m t (share_of End 8)))
       unfolding mark_m
       walk_ends l h =
           let ((here, none), back) = (last_iff last).0 h in
@@ -307,7 +307,7 @@ module _ (ws : List ℕ) (s : Summary) (lent : Lent ws s.bytes) where
 
       -- where the chain neither goes on nor has come to its end, it is not whole: it stops too early, or what comes next is too near,
       -- too far up or off the eights
-      module _ (more : goes_on_m (visited_in ws p c) last ≡ false) (done : is_last_m (visited_in ws p c) last ≡ false) where
+      module _ (more : goes_on_m v last ≡ false) (done : is_last_m v last ≡ false) where
         not_last : c + 8 ≡ s.bytes → sound_at ws s p (chunk ws s c) ≡ false
         not_last e =
             not_so (end_iff e) (λ (none, back). false≢true (sym done ∙ (last_iff last).1 ((omega arith, none), back)))
@@ -324,7 +324,7 @@ module _ (ws : List ℕ) (s : Summary) (lent : Lent ws s.bytes) where
                 let (up, inside, further) = chain_next ws s.bytes (end ws s c) k in
                 rw (further, off_eights ws s c (chunk ws s (end ws s c)) off)
 
-        near : word ws c forward ≡ end ws s c → end ws s c < s.bytes → end ws s c % 8 ≡ 0 → end ws s c - c < 24
+        near : n ≡ end ws s c → end ws s c < s.bytes → end ws s c % 8 ≡ 0 → end ws s c - c < 24
         near up inside eight = go (dec_lt (end ws s c - c) 24)
           where
             go : Dec (end ws s c - c < 24) → end ws s c - c < 24
@@ -338,7 +338,7 @@ module _ (ws : List ℕ) (s : Summary) (lent : Lent ws s.bytes) where
         stuck (no m) _ (no off) = unsound_fails ws s ms₀ ms t p c o.onward (next_off m off)
         stuck (no m) _ (yes eight) =
             let (up, inside, further) = chain_next ws s.bytes c m in
-            let small = near (end_link ws s.bytes c m) inside eight in
+            let small = near (read.next ∙ end_link ws s.bytes c m) inside eight in
             breaks ws s ms₀ ms t p c o.onward
             (too_small ws s (chunk ws s c) small p (omega (arith, o.behind)) (λ q. omega (arith, lent.eights, o.eight)))
 
@@ -346,14 +346,14 @@ module _ (ws : List ℕ) (s : Summary) (lent : Lent ws s.bytes) where
         walk_stuck = stuck (ℕ_discrete (end ws s c) s.bytes) (ℕ_discrete (c + 8) s.bytes) (ℕ_discrete (end ws s c % 8) 0)
 
       -- the walk has come to its limit
-      module _ (more : goes_on_m (visited_in ws p c) limit ≡ false) where
+      module _ (more : goes_on_m v limit ≡ false) where
         -- which is the end
-        pub walk_finish : limit ≡ last → {r : Survey} → r ≡ finish_m (visited_in ws p c) last t → SurveyIs ws s ms₀ ms r
+        pub walk_finish : limit ≡ last → {r : Option Tally} → r ≡ finish_m v last t → SurveyIs ws s ms₀ ms r
         unfolding finish_m
-        walk_finish l er = rw er (go (is_last_m (visited_in ws p c) last) refl)
+        walk_finish l er = rw er (go (is_last_m v last) refl)
           where
-            go : (u : Bool) → is_last_m (visited_in ws p c) last ≡ u
-                → SurveyIs ws s ms₀ ms (cond u (Surveyed (added_m t (share_of End 8))) Broken)
+            go : (u : Bool) → is_last_m v last ≡ u
+                → SurveyIs ws s ms₀ ms (then_some u (added_m t (share_of End 8)))
             go true e = walk_ends l e
             go false e = walk_stuck (rw l at more) e
 

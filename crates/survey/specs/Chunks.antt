@@ -1,40 +1,24 @@
 -- The tests of one chunk, kind by kind. That together they are the check's facts is proved, and that the code's fewer comparisons
 -- come to the same; nobody need believe them.
-use Rattle.std.specs.Prelude.{◌≡◌, ℕ, ◌+◌, ◌-◌, ◌/◌, ◌%◌, ◌<◌, ◌≤◌, Bool, cond, ◌&&◌, List, length, ◌==◌, nat_le, nat_lt}
+use Rattle.std.specs.Prelude.{◌≡◌, ℕ, ◌+◌, ◌-◌, ◌/◌, ◌%◌, ◌<◌, ◌≤◌, Bool, ◌&&◌, List, Option, length, ◌==◌, nat_le, nat_lt}
+use Rattle.std.specs.Bool.{then_some}
 use Rattle.chain.specs.Chain.{kind_m}
 use Rattle.record.specs.declared.heap.Summary.{Summary}
 use Rattle.record.specs.declared.kinds.Kind.{Kind}
 use Rattle.record.specs.declared.kinds.Kind.TheVariants.{Start, InUse, Ordinary, Donor, Top, End}
-use Rattle.record.specs.Heap.{at}
 use Rattle.region.specs.Words.{word, forward, backward, size, bin}
 use Rattle.rules.specs.Check.{unbinned}
 use Rattle.rules.specs.Shape.{Entry, entry}
-use Rattle.survey.specs.declared.chunks.Seen.{Seen}
-use Rattle.survey.specs.declared.chunks.Seen.TheVariants.{Sound, Unsound}
-use Rattle.survey.specs.declared.chunks.Visit.{Visit}
+use Rattle.survey.specs.declared.visit.Visit.{Visit}
 
--- the chunk at c behind one at p, with this forward link and this second word
-abbrev pub visited : ℕ → ℕ → ℕ → ℕ → Visit
-visited p c next link = record { before = at p; chunk = at c; next = next; link = link }
+-- the visit has the two words of its chunk as they stand
+pub record HasRead (ws : List ℕ) (v : Visit) : Type 0 where
+  pub next : v.next ≡ word ws v.chunk.0 forward
+  pub link : v.link ≡ word ws v.chunk.0 backward
 
--- the same with its two words as they stand
-abbrev pub visited_in : List ℕ → ℕ → ℕ → Visit
-visited_in ws p c = visited p c (word ws c forward) (word ws c backward)
-
--- the same as an entry of the chain, which ends at its forward link
+-- the chunk as an entry of the chain, which ends at its forward link
 abbrev pub entry_of : Visit → Entry
 entry_of v = entry v.chunk.0 (v.next - v.chunk.0) (v.link % 8)
-
--- the chunk and the one before it are where chunks can be, one behind the other
-pub record WellPlaced (v : Visit) : Type 0 where
-  pub eight : v.chunk.0 % 8 ≡ 0
-  pub eight_before : v.before.0 % 8 ≡ 0
-  pub behind : v.before.0 < v.chunk.0
-  pub within : v.chunk.0 < 65536
-
--- the six words of a header at c are inside the region
-abbrev pub HeaderInside : List ℕ → ℕ → Type 0
-HeaderInside ws c = c / 4 + bin < length ws
 
 -- the chain goes on behind the chunk, and not past the limit
 unfoldable pub goes_on_m : Visit → ℕ → Bool
@@ -50,8 +34,8 @@ is_last_m v last = v.chunk.0 == last && v.next == 0 && v.link == v.before.0 + 1
 
 -- a chunk behind which the chain goes on
 pub record Followed (ws : List ℕ) (s : Summary) (v : Visit) : Type 0 where
-  pub placed : WellPlaced v
-  pub header : HeaderInside ws v.chunk.0
+  -- the six words of its header are inside the region
+  pub header : v.chunk.0 / 4 + bin < length ws
   pub room : v.chunk.0 + 24 ≤ v.next
   pub below : v.next + 8 ≤ s.bytes
 
@@ -88,8 +72,8 @@ is_sound_m ws s e End = is_end_m ws e.place e.flags
 unfoldable pub sound_at : List ℕ → Summary → ℕ → Entry → Bool
 sound_at ws s p e = is_backed_m (word ws e.place backward) p e.place && is_sound_m ws s e (kind_m s e)
 
--- what a look at a chunk finds
-unfoldable pub examine_m : List ℕ → Summary → Visit → Seen
+-- what a look at a chunk finds: its kind, or that something is wrong
+unfoldable pub examine_m : List ℕ → Summary → Visit → Option Kind
 examine_m ws s v =
     let kind = kind_m s (entry_of v) in
-    cond (is_backed_m v.link v.before.0 v.chunk.0 && is_sound_m ws s (entry_of v) kind) (Sound kind) Unsound
+    then_some (is_backed_m v.link v.before.0 v.chunk.0 && is_sound_m ws s (entry_of v) kind) kind

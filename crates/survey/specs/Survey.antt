@@ -1,6 +1,7 @@
 -- What the walk of the chain counts and marks, as sums over the chain that the rules read (`shape`).
 -- It mirrors the code; that it is what the check asks is proved.
-use Rattle.std.specs.Prelude.{◌≡◌, ℕ, ◌+◌, ◌%◌, ◌^◌, Bool, true, false, cond, ◌&&◌, List, [], ◌∷◌, length, ◌==◌}
+use Rattle.std.specs.Prelude.{◌≡◌, ℕ, ◌+◌, ◌%◌, ◌^◌, Bool, true, false, cond, ◌&&◌, List, [], ◌∷◌, Option, Some, None, length, ◌==◌}
+use Rattle.std.specs.Bool.{then_some}
 use Rattle.lists.specs.Lists.{last_or, total}
 use Rattle.marks.specs.Marks.{flipped}
 use Rattle.chain.specs.Chain.{kind_m}
@@ -10,10 +11,8 @@ use Rattle.record.specs.declared.kinds.Kind.TheVariants.{Start, InUse, Ordinary,
 use Rattle.rules.specs.Check.{is_chunk}
 use Rattle.rules.specs.Kinds.{ordinary_kind, outside}
 use Rattle.rules.specs.Shape.{Entry, shape}
-use Rattle.survey.specs.declared.chunks.Visit.{Visit}
+use Rattle.survey.specs.declared.visit.Visit.{Visit}
 use Rattle.survey.specs.declared.Share.{Share}
-use Rattle.survey.specs.declared.Survey.{Survey}
-use Rattle.survey.specs.declared.Survey.TheVariants.{Surveyed, Broken}
 use Rattle.survey.specs.declared.Tally.{Tally}
 use Rattle.survey.specs.Chunks.{is_last_m, sound_at}
 
@@ -53,8 +52,8 @@ abbrev pub first_limit_m : ℕ → ℕ → ℕ
 first_limit_m patrol last = cond (patrol == 0) last patrol
 
 -- where the chain does not go on any more
-unfoldable pub finish_m : Visit → ℕ → Tally → Survey
-finish_m v last t = cond (is_last_m v last) (Surveyed (added_m t (share_of End 8))) Broken
+unfoldable pub finish_m : Visit → ℕ → Tally → Option Tally
+finish_m v last t = then_some (is_last_m v last) (added_m t (share_of End 8))
 
 module _ (s : Summary) where
   abbrev pub share_at : Entry → Share
@@ -92,7 +91,7 @@ module _ (ws : List ℕ) (s : Summary) where
     pub tally : t ≡ tally_of s (shape ws s.bytes)
     pub marks : after ≡ mark_all s before (shape ws s.bytes)
 
-  -- what the walk found
-  abbrev pub SurveyIs : List ℕ → List ℕ → Survey → Type 0
-  SurveyIs before after Broken = whole_chain ≡ false
-  SurveyIs before after (Surveyed t) = SurveyedIs before after t
+  -- what the walk found: the counts of a whole chain, or that it is broken
+  abbrev pub SurveyIs : List ℕ → List ℕ → Option Tally → Type 0
+  SurveyIs before after None = whole_chain ≡ false
+  SurveyIs before after (Some t) = SurveyedIs before after t
