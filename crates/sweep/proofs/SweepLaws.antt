@@ -1,5 +1,5 @@
 -- The walk of the bins' lists, step by step: what is left and what is done always come to the whole. Assumes nothing.
-use Rattle.std.proofs.Common.{◌≡◌, ℕ, zero, suc, ◌+◌, ◌-◌, ◌*◌, ◌/◌, ◌%◌, ◌^◌, ◌<◌, ◌≤◌, Bool, true, false, cond, not, ◌&&◌, ◌||◌, ltb, leb, List, [], ◌∷◌, length, get_or, sym, refl, ap, ◌∙◌, subst, add-zero, zero-add, add-one, arith, lt-ltb, eq-eqb, ne_eqb, le-leb}
+use Rattle.std.proofs.Common.{◌≡◌, ℕ, zero, suc, ◌+◌, ◌-◌, ◌*◌, ◌/◌, ◌%◌, ◌^◌, ◌<◌, ◌≤◌, Bool, true, false, cond, not, ◌&&◌, ◌||◌, ltb, leb, List, [], ◌∷◌, Option, Some, None, length, get_or, sym, refl, ap, ◌∙◌, subst, add-zero, zero-add, add-one, arith, lt-ltb, eq-eqb, ne_eqb, le-leb}
 use mathlib.Core.Bool.{and-true, and-false}
 use native.Mathlib.Decide.{ℕ_discrete, dec_lt, dec_le}
 use lib.Bits.{bit_or, or_add_and, and_le_l, and_le_r}
@@ -12,11 +12,9 @@ use Rattle.record.specs.Table.{ValidTable, size_at, takes_bin}
 use Rattle.region.specs.Words.{word, size, next_in_bin, previous_in_bin, bin}
 use Rattle.rules.specs.Shape.{members_from}
 use Rattle.rules.proofs.ShapeLaws.{read_none, read_spent, read_more}
+use Rattle.sweep.specs.declared.Members.{Members}
 use Rattle.sweep.specs.declared.Sizes.{Sizes}
-use Rattle.sweep.specs.declared.Sweep.TheVariants.{Clean, Dirty}
-use Rattle.sweep.specs.declared.Swept.{Swept}
-use Rattle.sweep.specs.declared.Swept.TheVariants.{Whole, Torn}
-use Rattle.sweep.specs.Sweep.{sizes_m, says_listed_m, is_placed_m, stands_m, is_listed_m, combed, beyond, whole_list, WholeIs, SweptIs, NextListed, list_at, all_whole, SweepIs}
+use Rattle.sweep.specs.Sweep.{sizes_m, says_listed_m, is_placed_m, stands_m, is_listed_m, combed, beyond, whole_list, WholeIs, SweptIs, list_at, all_whole, SweepIs}
 
 -- a size is below a bound exactly if it is at most one less
 below_most : (above s : ℕ) → 0 < above → ltb s above ≡ leb s (above - 1)
@@ -53,11 +51,11 @@ asks_begin e =
     }
 
 -- a member that passed is not smaller than the one before
-pub rises : (ws : List ℕ) (sizes : Sizes) (p c : ℕ) {t : Bool} → t ≡ says_listed_m ws sizes p c → not t ≡ false → sizes.least ≤ word ws c size
+pub rises : (ws : List ℕ) (sizes : Sizes) (p c : ℕ) {t : Bool} → t ≡ says_listed_m ws sizes p c → t ≡ true → sizes.least ≤ word ws c size
 unfolding says_listed_m
 rises ws sizes p c {t} et ht =
     ((both (both (number_is (word ws c bin) sizes.word) (number_is (word ws c previous_in_bin) p)) (at_most sizes.least (word ws c size))
-    ).0 (sym et ∙ not-false t ht)).1
+    ).0 (sym et ∙ ht)).1
 
 -- behind it its size is the least
 pub asks_on : {table : List ℕ} {i : ℕ} {sizes : Sizes} → Asks table i sizes → (s : ℕ) → sizes.least ≤ s
@@ -73,22 +71,6 @@ takes_most table i s valid inside small low = rw (takes_sizes table i s valid in
 pub record Tested (ws table : List ℕ) (i bytes : ℕ) (ms : List ℕ) (p s c : ℕ) (t : Bool) : Type 0 where
   pub is : t ≡ stands_m ws table i bytes ms p s c
 
--- the tests of a member, in the code's order: its place, its mark, its words
-module _ {ws table : List ℕ} {i bytes : ℕ} {ms : List ℕ} {p c : ℕ} {t : Bool} (et : t ≡ is_placed_m bytes c) where
-  pub not_placed : {s : ℕ} → not t ≡ true → Tested ws table i bytes ms p s c false
-  unfolding stands_m
-  not_placed h = record { is = rw (sym et ∙ not-true t h) }
-
-  module _ (ht : not t ≡ false) {m : Bool} (em : m ≡ marked ms c) where
-    pub not_marked : {s : ℕ} → not m ≡ true → Tested ws table i bytes ms p s c false
-    unfolding stands_m
-    not_marked h = record { is = rw (sym et ∙ not-false t ht, sym em ∙ not-true m h) }
-
-    pub by_words : not m ≡ false → {sizes : Sizes} → Asks table i sizes → {w : Bool} → w ≡ says_listed_m ws sizes p c
-        → Tested ws table i bytes ms p sizes.least c w
-    unfolding stands_m says_listed_m
-    by_words hm asks ew = record { is = rw (sym et ∙ not-false t ht, sym em ∙ not-false m hm) (rw asks.word at ew) }
-
 -- one comparison of its number tests the place of a member
 module _ {ws : List ℕ} {bytes : ℕ} (lent : Lent ws bytes) (c : ℕ) where
   number_placed : ltb (number_m c) (bytes / 8 - 2) ≡ is_placed_m bytes c
@@ -97,27 +79,31 @@ module _ {ws : List ℕ} {bytes : ℕ} (lent : Lent ws bytes) (c : ℕ) where
       (λ l. (omega (arith, lent.not_too_many), omega (arith, lent.eights, lent.not_too_many)))
       (λ (eight, below). omega (arith, lent.eights))
 
-  pub by_number : {k : ℕ} → k ≡ number_m c → {t : Bool} → t ≡ ltb k (bytes / 8 - 2) → t ≡ is_placed_m bytes c
-  by_number ek et = et ∙ ap (λ (n : ℕ). ltb n (bytes / 8 - 2)) ek ∙ number_placed
+  -- the tests of a member, in the code's order: its place by its number, its mark, its words
+  module _ {k : ℕ} (ek : k ≡ number_m c) {t : Bool} (et : t ≡ ltb k (bytes / 8 - 2)) where
+    placed : t ≡ is_placed_m bytes c
+    placed = et ∙ ap (λ (n : ℕ). ltb n (bytes / 8 - 2)) ek ∙ number_placed
 
--- a chunk that passes the test of its place has its header among the words, and its mark in the bitmap
-module _ {ws : List ℕ} {bytes : ℕ} (lent : Lent ws bytes) (c : ℕ) {t : Bool} (et : t ≡ is_placed_m bytes c) (ht : not t ≡ false) where
-  placed : (c % 8 ≡ 0) × (c + 16 < bytes)
-  placed = (both (number_is (c % 8) 0) (less (c + 16) bytes)).0 (sym et ∙ not-false t ht)
+    pub not_placed : {table : List ℕ} {i : ℕ} {ms : List ℕ} {p s : ℕ} → t ≡ false → Tested ws table i bytes ms p s c false
+    unfolding stands_m
+    not_placed h = record { is = rw (sym placed ∙ h) }
 
-  pub header_inside : c / 4 + bin < length ws
-  header_inside = let (eight, below) = placed in omega (arith, lent.words, lent.eights)
+    module _ (ht : t ≡ true) (ms : List ℕ) {m : Bool} (em : m ≡ marked ms (8 * k)) where
+      -- the mark with its number is its own
+      own_mark : m ≡ marked ms c
+      own_mark =
+          let (eight, below) = (both (number_is (c % 8) 0) (less (c + 16) bytes)).0 (sym placed ∙ ht) in
+          let same : 8 * k ≡ c = omega arith in
+          em ∙ ap (marked ms) same
 
-  pub mark_inside : c / 256 < 256
-  mark_inside = let (eight, below) = placed in omega (arith, lent.not_too_many)
+      pub not_marked : {table : List ℕ} {i p s : ℕ} → m ≡ false → Tested ws table i bytes ms p s c false
+      unfolding stands_m
+      not_marked h = record { is = rw (sym placed ∙ ht, sym own_mark ∙ h) }
 
-  -- its number is that of its mark
-  module _ {k : ℕ} (ek : k ≡ number_m c) where
-    pub number_inside : k / 32 < 256
-    number_inside = let (eight, below) = placed in omega (arith, lent.not_too_many)
-
-    pub own_mark : (ms : List ℕ) {m : Bool} → m ≡ marked ms (8 * k) → m ≡ marked ms c
-    own_mark ms em = let (eight, below) = placed in let same : 8 * k ≡ c = omega arith in em ∙ ap (marked ms) same
+      pub by_words : m ≡ true → {table : List ℕ} {i p : ℕ} {sizes : Sizes} → Asks table i sizes → {w : Bool} → w ≡ says_listed_m ws sizes p c
+          → Tested ws table i bytes ms p sizes.least c w
+      unfolding stands_m says_listed_m
+      by_words hm asks ew = record { is = rw (sym placed ∙ ht, sym own_mark ∙ hm) (rw asks.word at ew) }
 
 -- where the walk of one list stands, at c behind p of size s, with `left` steps left. Sizes do not go down along a list, so s is the greatest so
 -- far: if it is not too large for the bin, none before it is
@@ -146,7 +132,7 @@ module _ {ws table : List ℕ} {i bytes : ℕ} {ms : List ℕ} {first : ℕ} whe
 
   module _ {c p s left : ℕ} (o : Combing ws table i bytes ms first c p s left) where
     -- no list is longer than its steps
-    pub torn_long : left ≡ 0 → (c ≡ 0 → ⊥) → SweptIs ws table i bytes ms first Torn
+    pub torn_long : left ≡ 0 → (c ≡ 0 → ⊥) → SweptIs ws table i bytes ms first None
     unfolding SweptIs
     torn_long e n =
         let r = read_spent ws left c e in
@@ -161,11 +147,11 @@ module _ {ws table : List ℕ} {i bytes : ℕ} {ms : List ℕ} {first : ℕ} whe
       by_last : combed ws table i bytes ms 0 (size_at table i) (members_from bytes ws first) ≡ leb s (sizes_m table i).most
       by_last = sym o.combs ∙ rw none_left (and-true (leb s (sizes_m table i).most))
 
-      pub torn_large : (sizes_m table i).most < s → SweptIs ws table i bytes ms first Torn
+      pub torn_large : (sizes_m table i).most < s → SweptIs ws table i bytes ms first None
       unfolding SweptIs
       torn_large l = rw (by_last, lt-leb s (sizes_m table i).most l)
 
-      pub whole_list_lem : s ≤ (sizes_m table i).most → SweptIs ws table i bytes ms first (Whole (bytes - left) p)
+      pub whole_list_lem : s ≤ (sizes_m table i).most → SweptIs ws table i bytes ms first (Some (record { count = bytes - left; last = p }))
       unfolding SweptIs
       whole_list_lem l =
           let q : beyond ws first (members_from bytes ws first) ≡ c = sym o.ends ∙ ap (beyond ws c) none_left in
@@ -177,13 +163,13 @@ module _ {ws table : List ℕ} {i bytes : ℕ} {ms : List ℕ} {first : ℕ} whe
           }
 
     module _ (n : c ≡ 0 → ⊥) (h : 0 < left) {t : Bool} (test : Tested ws table i bytes ms p s c t) where
-      pub torn_here : not t ≡ true → SweptIs ws table i bytes ms first Torn
+      pub torn_here : t ≡ false → SweptIs ws table i bytes ms first None
       unfolding SweptIs is_listed_m
       torn_here ht =
           let r = read_more ws left c n h in
-          rw (sym o.combs, r, sym test.is ∙ not-true t ht, and-false)
+          rw (sym o.combs, r, sym test.is ∙ ht, and-false)
 
-      pub combing_goes : not t ≡ false → ValidTable table → i < length table → size_at table i ≤ s → s ≤ word ws c size → word ws c size < 2 ^ 32
+      pub combing_goes : t ≡ true → ValidTable table → i < length table → size_at table i ≤ s → s ≤ word ws c size → word ws c size < 2 ^ 32
           → {z : ℕ} → z ≡ word ws c size → {d : ℕ} → d ≡ word ws c next_in_bin → Combing ws table i bytes ms first d c z (left - 1)
       unfolding is_listed_m
       combing_goes ht valid inside low up small ez ed =
@@ -191,7 +177,7 @@ module _ {ws table : List ℕ} {i bytes : ℕ} {ms : List ℕ} {first : ℕ} whe
           let most = (sizes_m table i).most in
           let rest = combed ws table i bytes ms c (word ws c size) (members_from (left - 1) ws (word ws c next_in_bin)) in
           let q : (leb s most && (leb (word ws c size) most && rest)) ≡ combed ws table i bytes ms 0 (size_at table i) (members_from bytes ws first) =
-          rw (r, sym test.is ∙ not-false t ht, takes_most table i (word ws c size) valid inside small (omega arith)) at o.combs in
+          rw (r, sym test.is ∙ ht, takes_most table i (word ws c size) valid inside small (omega arith)) at o.combs in
           rw (ed, ez)
           (record {
             combs = sym (smaller_bound s (word ws c size) most up rest) ∙ q;
@@ -215,28 +201,15 @@ no_ends head tail e =
     let r = and_le_r head tail in
     (omega arith, omega arith)
 
-module _ {heads tails : List ℕ} {from : ℕ} where
-  pub nothing_passed : NextListed heads tails from from
-  nothing_passed = record { onward = omega arith; passed = λ i lo hi. absurd (omega arith) }
-
-  pub one_passed : {b : ℕ} → NextListed heads tails from b → bit_or (get_or heads b 0) (get_or tails b 0) ≡ 0
-      → NextListed heads tails from (b + 1)
-  one_passed {b} o e =
-      record { onward = omega (arith, o.onward); passed = λ i lo hi. go i lo hi (ℕ_discrete i b) }
-    where
-      go : (i : ℕ) → from ≤ i → i < b + 1 → Dec (i ≡ b) → (get_or heads i 0 ≡ 0) × (get_or tails i 0 ≡ 0)
-      go i lo hi (yes q) = rw q (no_ends (get_or heads b 0) (get_or tails b 0) e)
-      go i lo hi (no n) = o.passed i lo (omega arith)
-
--- what a reply says of a list, by its case
-module _ (ws table : List ℕ) (i bytes : ℕ) (ms : List ℕ) (first : ℕ) (r : Swept) (k : SweptIs ws table i bytes ms first r) where
-  torn_is : r ≡ Torn → whole_list ws table i bytes ms first ≡ false
+-- what was found of a list, by its case
+module _ (ws table : List ℕ) (i bytes : ℕ) (ms : List ℕ) (first : ℕ) (r : Option Members) (k : SweptIs ws table i bytes ms first r) where
+  torn_is : r ≡ None → whole_list ws table i bytes ms first ≡ false
   unfolding SweptIs
-  torn_is e = subst (λ (q : Swept). SweptIs ws table i bytes ms first q) e k
+  torn_is e = subst (λ (q : Option Members). SweptIs ws table i bytes ms first q) e k
 
-  whole_is : {members last : ℕ} → r ≡ Whole members last → WholeIs ws table i bytes ms first members last
+  whole_is : {found : Members} → r ≡ Some found → WholeIs ws table i bytes ms first found
   unfolding SweptIs
-  whole_is e = subst (λ (q : Swept). SweptIs ws table i bytes ms first q) e k
+  whole_is e = subst (λ (q : Option Members). SweptIs ws table i bytes ms first q) e k
 
 -- the numbers from b on, n of them in all
 count_on : (b n : ℕ) → b < n → numbers_from b (n - b) ≡ b ∷ numbers_from (suc b) (n - suc b)
@@ -266,46 +239,26 @@ module _ {ws table heads tails : List ℕ} {bytes : ℕ} {ms : List ℕ} where
       record { whole = rw e; count = rw (e, zero-add); fits = omega arith }
 
   module _ {met : ℕ} where
-    -- an empty list is whole, and has no members
-    over_empty : {b : ℕ} → Sweeping ws table heads tails bytes ms b met → get_or heads b 0 ≡ 0 → get_or tails b 0 ≡ 0
-        → Sweeping ws table heads tails bytes ms (suc b) met
-    over_empty {b} o head tail = go (dec_lt b (length table))
-      where
-        go : Dec (b < length table) → Sweeping ws table heads tails bytes ms (suc b) met
-        go (yes h) =
-            let r = count_on b (length table) h in
-            let none : list_at ws table heads tails bytes b ≡ [] = ap (members_from bytes ws) head ∙ read_none ws bytes in
-            record {
-              whole = rw (r, none, head, tail) at o.whole;
-              count = rw (r, none, zero-add) at o.count;
-              fits = o.fits;
-            }
-        go (no n) =
-            let here = count_out b (length table) (omega arith) in
-            let there = count_out (suc b) (length table) (omega arith) in
-            record { whole = rw there (rw here at o.whole); count = rw there (rw here at o.count); fits = o.fits }
-
-    -- so the bins that are passed over add nothing
-    over_all : (n b : ℕ) → ((i : ℕ) → b ≤ i → i < b + n → (get_or heads i 0 ≡ 0) × (get_or tails i 0 ≡ 0))
-        → Sweeping ws table heads tails bytes ms b met → Sweeping ws table heads tails bytes ms (b + n) met
-    over_all zero b empty o = rw (add-zero b) o
-    over_all (suc n) b empty o =
-        let (head, tail) = empty b (omega arith) (omega arith) in
-        let e : b + suc n ≡ suc b + n = omega arith in
-        rw e (over_all n (suc b) (λ i lo hi. empty i (omega arith) (omega arith)) (over_empty o head tail))
-
-    pub sweeping_skips : {b next : ℕ} → Sweeping ws table heads tails bytes ms b met → NextListed heads tails b next
-        → Sweeping ws table heads tails bytes ms next met
-    sweeping_skips {b} {next} o p =
-        let e : b + (next - b) ≡ next = omega (arith, p.onward) in
-        rw e at (over_all (next - b) b (λ i lo hi. p.passed i lo (omega (arith, p.onward))) o)
+    -- a bin with neither head nor tail has an empty list, which is whole and has no members
+    pub sweeping_skips : {b : ℕ} → Sweeping ws table heads tails bytes ms b met → b < length table
+        → bit_or (get_or heads b 0) (get_or tails b 0) ≡ 0 → Sweeping ws table heads tails bytes ms (b + 1) met
+    sweeping_skips {b} o h e =
+        let (head, tail) = no_ends (get_or heads b 0) (get_or tails b 0) e in
+        let r = count_on b (length table) h in
+        let none : list_at ws table heads tails bytes b ≡ [] = ap (members_from bytes ws) head ∙ read_none ws bytes in
+        rw add-one
+        (record {
+          whole = rw (r, none, head, tail) at o.whole;
+          count = rw (r, none, zero-add) at o.count;
+          fits = o.fits;
+        })
 
   module _ {b met : ℕ} (o : Sweeping ws table heads tails bytes ms b met) where
     -- how many members the list of a bin has
     abbrev members_in : ℕ → ℕ
     members_in i = length_at ws table heads tails bytes ms i
 
-    pub all_clean : length table ≤ b → SweepIs ws table heads tails bytes ms (Clean met)
+    pub all_clean : length table ≤ b → SweepIs ws table heads tails bytes ms (Some met)
     unfolding SweepIs
     all_clean h =
         let r = count_out b (length table) h in
@@ -316,24 +269,24 @@ module _ {ws table heads tails : List ℕ} {bytes : ℕ} {ms : List ℕ} where
         }
 
     -- bin b has been swept, with this reply
-    module _ (h : b < length table) {first : ℕ} (ef : first ≡ get_or heads b 0) {r : Swept} (swept : SweptIs ws table b bytes ms first r) where
-      pub dirty_list : r ≡ Torn → SweepIs ws table heads tails bytes ms Dirty
+    module _ (h : b < length table) {first : ℕ} (ef : first ≡ get_or heads b 0) {r : Option Members} (swept : SweptIs ws table b bytes ms first r) where
+      pub dirty_list : r ≡ None → SweepIs ws table heads tails bytes ms None
       unfolding SweepIs
       dirty_list e =
           sym o.whole ∙ ap (all_whole ws table heads tails bytes ms) (count_on b (length table) h)
           ∙ rw (← ef, torn_is ws table b bytes ms first r swept e)
 
-      module _ {members last : ℕ} (is : r ≡ Whole members last) {t : ℕ} (et : t ≡ get_or tails b 0) where
-        abbrev swept_whole : WholeIs ws table b bytes ms first members last
+      module _ {found : Members} (is : r ≡ Some found) {t : ℕ} (et : t ≡ get_or tails b 0) where
+        abbrev swept_whole : WholeIs ws table b bytes ms first found
         swept_whole = whole_is ws table b bytes ms first r swept is
 
-        pub dirty_tail : (t ≡ last → ⊥) → SweepIs ws table heads tails bytes ms Dirty
+        pub dirty_tail : (t ≡ found.last → ⊥) → SweepIs ws table heads tails bytes ms None
         unfolding SweepIs
         dirty_tail n =
             sym o.whole ∙ ap (all_whole ws table heads tails bytes ms) (count_on b (length table) h)
-            ∙ rw (← ef, swept_whole.whole, ← et, ← swept_whole.ends, ne_eqb t last n)
+            ∙ rw (← ef, swept_whole.whole, ← et, ← swept_whole.ends, ne_eqb t found.last n)
 
-        pub sweeping_goes : t ≡ last → {met' : ℕ} → met' ≡ (met + members) % 2 ^ 32
+        pub sweeping_goes : t ≡ found.last → {met' : ℕ} → met' ≡ (met + found.count) % 2 ^ 32
             → Sweeping ws table heads tails bytes ms (b + 1) met'
         sweeping_goes e em =
             let r = count_on b (length table) h in
@@ -347,12 +300,12 @@ module _ {ws table heads tails : List ℕ} {bytes : ℕ} {ms : List ℕ} where
             whole : numbers_from b (length table - b) ≡ b ∷ numbers_from (suc b) (length table - suc b)
                 → all_whole ws table heads tails bytes ms (numbers_from (suc b) (length table - suc b))
                 ≡ all_whole ws table heads tails bytes ms (numbers_from 0 (length table))
-            whole r = rw (r, ← ef, swept_whole.whole, ← et, ← swept_whole.ends, eq-eqb t last e) at o.whole
+            whole r = rw (r, ← ef, swept_whole.whole, ← et, ← swept_whole.ends, eq-eqb t found.last e) at o.whole
 
             count : numbers_from b (length table - b) ≡ b ∷ numbers_from (suc b) (length table - suc b)
-                → ((met + members) % 2 ^ 32 + total members_in (numbers_from (suc b) (length table - suc b))) % 2 ^ 32
+                → ((met + found.count) % 2 ^ 32 + total members_in (numbers_from (suc b) (length table - suc b))) % 2 ^ 32
                 ≡ total members_in (numbers_from 0 (length table)) % 2 ^ 32
             count r =
                 let q : (met + (members_in b + total members_in (numbers_from (suc b) (length table - suc b)))) % 2 ^ 32 ≡ total members_in (numbers_from 0 (length table)) % 2 ^ 32 = rw r at o.count in
-                let m : members ≡ members_in b = rw ef at swept_whole.count in
+                let m : found.count ≡ members_in b = rw ef at swept_whole.count in
                 omega arith

@@ -1,16 +1,13 @@
 -- What the walk of the bins' lists tests and counts, over the lists that the rules read (`members_from`).
 -- It mirrors the code; that it is what the check asks is proved.
-use Rattle.std.specs.Prelude.{◌≡◌, ℕ, suc, ◌+◌, ◌-◌, ◌*◌, ◌%◌, ◌^◌, ◌<◌, ◌≤◌, Bool, true, false, cond, ◌&&◌, List, [], ◌∷◌, length, ◌==◌, nat_le, nat_lt, slice_index}
+use Rattle.std.specs.Prelude.{◌≡◌, ℕ, suc, ◌+◌, ◌-◌, ◌*◌, ◌%◌, ◌^◌, ◌<◌, ◌≤◌, Bool, true, false, cond, ◌&&◌, List, [], ◌∷◌, Option, Some, None, length, ◌==◌, nat_le, nat_lt, slice_index}
 use Rattle.lists.specs.Lists.{every, last_or, total, numbers_from}
 use Rattle.marks.specs.Marks.{marked}
 use Rattle.record.specs.Table.{size_at, takes_bin}
 use Rattle.region.specs.Words.{word, size, next_in_bin, previous_in_bin, bin}
 use Rattle.rules.specs.Shape.{members_from}
+use Rattle.sweep.specs.declared.Members.{Members}
 use Rattle.sweep.specs.declared.Sizes.{Sizes}
-use Rattle.sweep.specs.declared.Sweep.{Sweep}
-use Rattle.sweep.specs.declared.Sweep.TheVariants.{Clean, Dirty}
-use Rattle.sweep.specs.declared.Swept.{Swept}
-use Rattle.sweep.specs.declared.Swept.TheVariants.{Whole, Torn}
 
 -- what bin i asks of the words of its first member: its bin word, and a size from its own to below the next bin's.
 -- No bin follows the last one: every word from its size on is one of its sizes
@@ -58,25 +55,15 @@ module _ (ws table : List ℕ) (i bytes : ℕ) where
   whole_list ms first =
       combed ws table i bytes ms 0 (size_at table i) (members_from bytes ws first) && beyond ws first (members_from bytes ws first) == 0
 
-  -- it is, with so many members and this last one
-  pub record WholeIs (ms : List ℕ) (first met last : ℕ) : Type 0 where
+  -- it is, with these members
+  pub record WholeIs (ms : List ℕ) (first : ℕ) (found : Members) : Type 0 where
     pub whole : whole_list ms first ≡ true
-    pub count : met ≡ length (members_from bytes ws first)
-    pub ends : last ≡ last_or 0 (members_from bytes ws first)
+    pub count : found.count ≡ length (members_from bytes ws first)
+    pub ends : found.last ≡ last_or 0 (members_from bytes ws first)
 
-  unfoldable pub SweptIs : List ℕ → ℕ → Swept → Type 0
-  SweptIs ms first Torn = whole_list ms first ≡ false
-  SweptIs ms first (Whole met last) = WholeIs ms first met last
-
--- every bin of the table has both ends of its list
-pub record BothEnds (table heads tails : List ℕ) : Type 0 where
-  pub enough_heads : length table ≤ length heads
-  pub enough_tails : length table ≤ length tails
-
--- the bins from `from` up to `next` have neither head nor tail
-pub record NextListed (heads tails : List ℕ) (from next : ℕ) : Type 0 where
-  pub onward : from ≤ next
-  pub passed : (i : ℕ) → from ≤ i → i < next → (slice_index heads i ≡ 0) × (slice_index tails i ≡ 0)
+  unfoldable pub SweptIs : List ℕ → ℕ → Option Members → Type 0
+  SweptIs ms first None = whole_list ms first ≡ false
+  SweptIs ms first (Some found) = WholeIs ms first found
 
 module _ (ws table heads tails : List ℕ) (bytes : ℕ) where
   abbrev pub list_at : ℕ → List ℕ
@@ -95,6 +82,6 @@ module _ (ws table heads tails : List ℕ) (bytes : ℕ) where
     pub whole : all_whole ms (numbers_from 0 (length table)) ≡ true
     pub count : met ≡ total (λ i. length (list_at i)) (numbers_from 0 (length table)) % 2 ^ 32
 
-  unfoldable pub SweepIs : List ℕ → Sweep → Type 0
-  SweepIs ms Dirty = all_whole ms (numbers_from 0 (length table)) ≡ false
-  SweepIs ms (Clean met) = CleanIs ms met
+  unfoldable pub SweepIs : List ℕ → Option ℕ → Type 0
+  SweepIs ms None = all_whole ms (numbers_from 0 (length table)) ≡ false
+  SweepIs ms (Some met) = CleanIs ms met

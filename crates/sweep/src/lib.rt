@@ -7,10 +7,10 @@ ghost use Rattle.std.specs.Prelude.{◌≡◌, ◌+◌, ◌-◌, ◌/◌, ◌^�
 ghost use Rattle.chain.specs.Length.{Lent};
 ghost use Rattle.record.specs.Table.{ValidTable};
 ghost use Rattle.region.specs.Words.{word, size, bin};
-ghost use Rattle.sweep.specs.Sweep.{sizes_m, says_listed_m, SweptIs, BothEnds, NextListed, SweepIs};
+ghost use Rattle.sweep.specs.Sweep.{sizes_m, says_listed_m, SweptIs, SweepIs};
 
 use bins::bin_word;
-use marks::{is_marked, number_of};
+use marks::{Marks, number_of};
 use region::{ALIGNMENT, BIN, Chunk, LEAST, NEXT_IN_BIN, PREVIOUS_IN_BIN, SIZE};
 
 // A header takes three times 8 bytes: a chunk with a number this far below the end, or less, has no room for one.
@@ -56,6 +56,7 @@ fn is_placed(number: u32, bytes: u32) -> bool
 }
 
 // The words of a member: its bin word and its backward bin link are right, and it is not smaller than the member before.
+#[tactic(auto, unfolding(crate::specs::Sweep::says_listed_m, region::specs::Words::word))]
 fn is_listed(region: &[u32], sizes: Sizes, before: u32, chunk: Chunk) -> bool
     requires { chunk.0 / 4 + bin < length region.now }
     ensures value { result ≡ says_listed_m region.now sizes before chunk.0 }
@@ -63,54 +64,62 @@ fn is_listed(region: &[u32], sizes: Sizes, before: u32, chunk: Chunk) -> bool
 {
     let i = (chunk.0 / 4) as usize;
     let size = region[i + SIZE as usize];
-    if region[i + BIN as usize] != sizes.word {
-        return false;
-    }
-    if region[i + PREVIOUS_IN_BIN as usize] != before {
-        return false;
-    }
-    sizes.least <= size
+    region[i + BIN as usize] == sizes.word
+        && region[i + PREVIOUS_IN_BIN as usize] == before
+        && sizes.least <= size
 }
 
+// A region with the marks that the walk of the chain made. Its words are those of the heap bytes.
 #[derive(Clone, Copy)]
-pub enum Swept {
-    // how many members, and the last of them
-    Whole(u32, u32),
-    Torn,
+pub struct Marked<'a> {
+    pub region: &'a [u32],
+    pub bytes: u32,
+    pub marks: &'a Marks,
+    pub ghost lent: { Lent region.now bytes },
 }
 
+// The table, and for each of its bins both ends of its list.
+#[derive(Clone, Copy)]
+pub struct Lists<'a> {
+    pub table: &'a [u32],
+    pub heads: &'a [u32],
+    pub tails: &'a [u32],
+    pub ghost enough_heads: { length table.now ≤ length heads.now },
+    pub ghost enough_tails: { length table.now ≤ length tails.now },
+}
+
+// How many members a whole list has, and the last of them.
+#[derive(Clone, Copy)]
+pub struct Members {
+    pub count: u32,
+    pub last: u32,
+}
+
+// The members of a list that is whole.
 // No list has more members than there are heap bytes, so that a ring of links is found when these are used up.
-pub fn sweep_list(
-    region: &[u32],
-    marks: &[u32],
-    table: &[u32],
-    bin: usize,
-    first: u32,
-    bytes: u32,
-) -> Swept
-    requires lent { Lent region.now bytes }
-    requires marks_len { length marks.now ≡ 256 }
+pub fn sweep_list(marked: Marked<'_>, table: &[u32], bin: usize, first: u32) -> Option<Members>
     requires valid_table { ValidTable table.now }
     requires bin_in_bounds { bin < length table.now }
-    ensures { SweptIs region.now table.now bin bytes marks.now first result }
+    ensures { SweptIs marked.entry.region.now table.now bin marked.entry.bytes marked.entry.marks.now.words first result }
 {
+    let region = marked.region;
     let mut sizes = sizes_of(table, bin);
     let mut at = first;
     let mut before = 0;
-    let mut left = bytes;
+    let mut left = marked.bytes;
     while at != 0 {
         if left == 0 {
-            return Swept::Torn;
+            return None;
         }
         let number = number_of(Chunk(at));
-        if !is_placed(number, bytes) {
-            return Swept::Torn;
+        if !is_placed(number, marked.bytes) {
+            return None;
         }
-        if !is_marked(marks, number) {
-            return Swept::Torn;
+        if !marked.marks.is_marked(number) {
+            return None;
         }
         if !is_listed(region, sizes, before, Chunk(at)) {
-            return Swept::Torn;
+            return None;
         }
         let i = (at / 4) as usize;
         let size = region[i + SIZE as usize];
@@ -120,59 +129,32 @@ pub fn sweep_list(
         left -= 1;
     }
     if sizes.least > sizes.most {
-        return Swept::Torn;
+        return None;
     }
-    Swept::Whole(bytes - left, before)
+    Some(Members {
+        count: marked.bytes - left,
+        last: before,
+    })
 }
 
-#[derive(Clone, Copy)]
-pub enum Sweep {
-    // how many members in all
-    Clean(u32),
-    Dirty,
-}
-
-// The first bin from this one on that has a head or a tail, or else the bin count. A bin with neither has an empty list, which is right.
-fn next_listed<'a>(heads: &'a [u32], tails: &'a [u32], from: usize, count: usize) -> usize
-    requires { (count ≤ length heads.now) × (count ≤ length tails.now) }
-    ensures { NextListed heads.now tails.now from result }
+// How many members all lists have, if every one is whole and ends at its tail. A bin with neither head nor tail has an empty list, which is
+// right.
+pub fn sweep_bins(marked: Marked<'_>, lists: Lists<'_>) -> Option<u32>
+    requires { ValidTable lists.table.now }
+    ensures { SweepIs marked.entry.region.now lists.entry.table.now lists.entry.heads.now lists.entry.tails.now marked.entry.bytes marked.entry.marks.now.words result }
 {
-    let mut bin = from;
-    while bin < count {
-        if heads[bin] | tails[bin] != 0 {
-            return bin;
+    let mut met: u32 = 0;
+    for bin in 0..lists.table.len() {
+        let head = lists.heads[bin];
+        let tail = lists.tails[bin];
+        if head | tail == 0 {
+            continue;
         }
-        bin += 1;
-    }
-    bin
-}
-
-pub fn sweep_bins<'a>(
-    region: &[u32],
-    marks: &[u32],
-    table: &[u32],
-    heads: &'a [u32],
-    tails: &'a [u32],
-    bytes: u32,
-) -> Sweep
-    requires lent { Lent region.now bytes }
-    requires marks_len { length marks.now ≡ 256 }
-    requires valid_table { ValidTable table.now }
-    requires both_ends { BothEnds table.now heads.now tails.now }
-    ensures { SweepIs region.now table.now heads.now tails.now bytes marks.now result }
-{
-    let mut met = 0;
-    let mut bin = next_listed(heads, tails, 0, table.len());
-    while bin < table.len() {
-        let swept = sweep_list(region, marks, table, bin, heads[bin], bytes);
-        let Swept::Whole(members, last) = swept else {
-            return Sweep::Dirty;
-        };
-        if tails[bin] != last {
-            return Sweep::Dirty;
+        let members = sweep_list(marked, lists.table, bin, head)?;
+        if tail != members.last {
+            return None;
         }
-        met = std::num::wrapping_add_u32(met, members);
-        bin = next_listed(heads, tails, bin + 1, table.len());
+        met = met.wrapping_add(members.count);
     }
-    Sweep::Clean(met)
+    Some(met)
 }
