@@ -2,6 +2,7 @@
 use mathlib.Core.Path.{◌≡◌, refl, sym, ◌∙◌, ap, subst}
 use mathlib.Core.Bool.{Bool, true, false, not, ◌&&◌}
 use mathlib.Core.List.{List}
+use Rattle.std.proofs.Common.{Option, Some, None}
 use Prim.Native.Nat.{ℕ, zero, suc, ◌≤◌, ◌<◌}
 use native.Mathlib.Omega.{arith}
 use lib.Bits.{bit_or, or_add_and, and_le_r}
@@ -10,20 +11,16 @@ use lib.ListN.{length, get_or, take, drop_of_length-le}
 use lib.Seq.{drop-cons}
 use borrow.Author.Tests.{eq-eqb, ne_eqb, le-leb, lt-leb, not-true, not-false}
 use Rattle.lists.specs.Lists.{numbers_from}
+use Rattle.marks.specs.Marks.{clear}
+use Rattle.record.specs.declared.answers.Counts.{Counts}
 use Rattle.record.specs.declared.heap.Summary.{Summary}
 use Rattle.record.specs.Heap.{places}
 use Rattle.record.specs.Table.{valid_table}
 use Rattle.rules.specs.Check.{unused_from}
-use Rattle.survey.specs.declared.Survey.{Survey}
-use Rattle.survey.specs.declared.Survey.TheVariants.{Surveyed, Broken}
 use Rattle.survey.specs.declared.Tally.{Tally}
 use Rattle.survey.specs.Survey.{whole_chain, SurveyedIs, SurveyIs}
-use Rattle.sweep.specs.declared.Sweep.{Sweep}
-use Rattle.sweep.specs.declared.Sweep.TheVariants.{Clean, Dirty}
 use Rattle.sweep.specs.Sweep.{all_whole, CleanIs, SweepIs}
-use Rattle.audit.specs.declared.Audit.{Audit}
-use Rattle.audit.specs.declared.Audit.TheVariants.{Passes, Fails}
-use Rattle.audit.specs.Audit.{HasPlaces, is_tabled_m, is_settled_m, is_shared_m, no_marks, tally, marks_of, walks_well, WalkedIs}
+use Rattle.audit.specs.Audit.{HasPlaces, is_tabled_m, is_settled_m, is_shared_m, tally, marks_of, walks_well, WalkedIs}
 
 -- a conjunction of many parts: a part fails, and the rest does not matter; a part holds, and the next decides
 still : (b : Bool) {a : Bool} → false ≡ a → false ≡ (a && b)
@@ -32,21 +29,14 @@ still b e = rw (← e)
 hold : {a b t : Bool} → true ≡ a → t ≡ b → t ≡ (a && b)
 hold e k = rw (← e) k
 
--- the same of a test t as the code makes it
-pub failed : {t a : Bool} → t ≡ a → not t ≡ true → false ≡ a
-failed {t} e h = sym (not-true t h) ∙ e
-
-pub held : {t a : Bool} → t ≡ a → not t ≡ false → true ≡ a
-held {t} e h = sym (not-false t h) ∙ e
-
 -- an or of numbers is 0 exactly if all of them are: of two, of four
 or_zero : (a b : ℕ) → eqb (bit_or a b) 0 ≡ (eqb a 0 && eqb b 0)
 or_zero zero b = refl
 or_zero (suc a) b =
     rw (ne_eqb (bit_or (suc a) b) 0 (λ e. omega (arith, or_add_and (suc a) b, and_le_r (suc a) b)), ne_eqb (suc a) 0 (λ e. omega arith))
 
-four_zero : (a b c d : ℕ) → eqb (bit_or (bit_or (bit_or a b) c) d) 0 ≡ (eqb a 0 && eqb b 0 && eqb c 0 && eqb d 0)
-four_zero a b c d = rw (or_zero (bit_or (bit_or a b) c) d, or_zero (bit_or a b) c, or_zero a b)
+four_zero : (a b c d : ℕ) → eqb (bit_or a (bit_or (bit_or b c) d)) 0 ≡ (eqb a 0 && (eqb b 0 && eqb c 0 && eqb d 0))
+four_zero a b c d = rw (or_zero a (bit_or (bit_or b c) d), or_zero (bit_or b c) d, or_zero b c)
 
 -- four tests, of which the middle two change their places
 swap : (a b c d : Bool) → ((a && b) && (c && d)) ≡ ((a && c) && (b && d))
@@ -56,7 +46,7 @@ swap true false false d = refl
 swap false b c d = refl
 
 -- of three arrays, whether a place is 0 (a, b, c) and whether all past it are (x, y, z): the two tests of each array stand together
-array_by_array : (t a b c x y z : Bool) → ((t && a && b && c) && (x && y && z)) ≡ (t && ((a && x) && (b && y) && (c && z)))
+array_by_array : (t a b c x y z : Bool) → ((t && (a && b && c)) && (x && y && z)) ≡ (t && ((a && x) && (b && y) && (c && z)))
 array_by_array true a b c x y z = swap (a && b) c (x && y) z ∙ rw (swap a b x y)
 array_by_array false a b c x y z = refl
 
@@ -71,7 +61,7 @@ unused_all i sizes heads tails = unused_from i sizes && unused_from i heads && u
 -- one place after the other; seen is the or of all words up to there
 module _ (sizes heads tails : List ℕ) (p : HasPlaces sizes heads tails) (i : ℕ) where
   pub unused_goes : i < places → (seen : ℕ)
-      → (eqb (bit_or (bit_or (bit_or seen (get_or sizes i 0)) (get_or heads i 0)) (get_or tails i 0)) 0 && unused_all (suc i) sizes heads tails)
+      → (eqb (bit_or seen (bit_or (bit_or (get_or sizes i 0) (get_or heads i 0)) (get_or tails i 0))) 0 && unused_all (suc i) sizes heads tails)
       ≡ (eqb seen 0 && unused_all i sizes heads tails)
   unused_goes h seen =
       rw (
@@ -91,57 +81,9 @@ module _ (sizes heads tails : List ℕ) (p : HasPlaces sizes heads tails) (i : �
         drop_of_length-le tails {i = i} (omega (arith, p.tail_places)),
       )
 
--- the table, and the unused places of the three arrays
-module _ (bins : ℕ) (sizes heads tails : List ℕ) where
-  pub too_long : length sizes < bins → false ≡ is_tabled_m bins sizes heads tails
-  unfolding is_tabled_m
-  too_long h = rw (lt-leb bins (length sizes) h)
-
-  module _ (fits : bins ≤ length sizes) {t : Bool} (et : t ≡ valid_table (take bins sizes)) where
-    long : true ≡ leb bins (length sizes)
-    long = sym (le-leb bins (length sizes) fits)
-
-    pub not_valid : not t ≡ true → false ≡ is_tabled_m bins sizes heads tails
-    unfolding is_tabled_m
-    not_valid h = still _ (still _ (still _ (hold long (failed et h))))
-
-    pub by_unused : not t ≡ false → {u : Bool} → u ≡ unused_all bins sizes heads tails → u ≡ is_tabled_m bins sizes heads tails
-    unfolding is_tabled_m
-    by_unused h eu = rw (← hold long (held et h)) eu
-
--- the tally: top and donor were met
-module _ (t : Tally) (s : Summary) where
-  pub no_top : t.tops ≡ 0 → false ≡ is_settled_m t s
-  unfolding is_settled_m
-  no_top e = still _ {a = not (eqb t.tops 0)} (rw (eq-eqb t.tops 0 e))
-
-  module _ (top : t.tops ≡ 0 → ⊥) where
-    topped : true ≡ not (eqb t.tops 0)
-    topped = rw (ne_eqb t.tops 0 top)
-
-    pub no_donor : s.donor.0 ≡ 0 → true ≡ is_settled_m t s
-    unfolding is_settled_m
-    no_donor e = hold topped (rw (eq-eqb s.donor.0 0 e))
-
-    pub by_donors : (s.donor.0 ≡ 0 → ⊥) → not (eqb t.donors 0) ≡ is_settled_m t s
-    unfolding is_settled_m
-    by_donors n = hold topped (rw (ne_eqb s.donor.0 0 n))
-
--- what both walks come to, r. It is a record, so that the checker finds by itself what was lent to them
-pub record Walked (ws table heads tails : List ℕ) (s : Summary) (r : Audit) : Type 0 where
-  pub is : WalkedIs ws table heads tails s r
-
-pub walked : {ws table heads tails : List ℕ} {s : Summary} {r : Audit} → Walked ws table heads tails s r → WalkedIs ws table heads tails s r
-walked w = w.is
-
--- the walk of the chain came through with the tally t and the marks ms
-pub surveyed : {ws : List ℕ} {s : Summary} {ms : List ℕ} {r : Survey} {t : Tally} → SurveyIs ws s no_marks ms r → r ≡ Surveyed t
-    → SurveyedIs ws s no_marks ms t
-surveyed {ws} {s} {ms} k e = subst (λ (q : Survey). SurveyIs ws s no_marks ms q) e k
-
--- and passed the tests that follow it, of the tally and of the used bytes
+-- the walk of the chain came through with the tally t and the marks ms, and passed the tests that follow it, of the tally and of the used bytes
 pub record WalkedChain (ws : List ℕ) (s : Summary) (t : Tally) (ms : List ℕ) : Type 0 where
-  pub survey : SurveyedIs ws s no_marks ms t
+  pub survey : SurveyedIs ws s clear ms t
   pub settled : true ≡ is_settled_m t s
   pub used : true ≡ is_shared_m t.free s
 
@@ -153,7 +95,7 @@ module _ (ws table heads tails : List ℕ) (s : Summary) where
   abbrev made : List ℕ
   made = marks_of ws table heads tails s
 
-  module _ {ms : List ℕ} {t : Tally} (survey : SurveyedIs ws s no_marks ms t) where
+  module _ {ms : List ℕ} {t : Tally} (survey : SurveyedIs ws s clear ms t) where
     settles : is_settled_m t s ≡ is_settled_m whole s
     settles = ap (λ (u : Tally). is_settled_m u s) survey.tally
 
@@ -168,14 +110,12 @@ module _ (ws table heads tails : List ℕ) (s : Summary) where
     first_three = hold (first_two chain.survey chain.settled) (chain.used ∙ shares chain.survey)
 
     -- the sweep was of the marks that the walk of the chain made
-    swept : (q : Sweep) → SweepIs ws table heads tails s.bytes ms q → {d : Sweep} → q ≡ d → SweepIs ws table heads tails s.bytes made d
-    swept q w e =
-        subst (SweepIs ws table heads tails s.bytes made) e
-        (subst (λ (m : List ℕ). SweepIs ws table heads tails s.bytes m q) chain.survey.marks w)
+    swept : (found : Option ℕ) → SweepIs ws table heads tails s.bytes ms found → SweepIs ws table heads tails s.bytes made found
+    swept found w = subst (λ (m : List ℕ). SweepIs ws table heads tails s.bytes m found) chain.survey.marks w
 
-    clean : (q : Sweep) → SweepIs ws table heads tails s.bytes ms q → {met : ℕ} → q ≡ Clean met → CleanIs ws table heads tails s.bytes made met
+    clean : {met : ℕ} → SweepIs ws table heads tails s.bytes ms (Some met) → CleanIs ws table heads tails s.bytes made met
     unfolding SweepIs
-    clean q w e = swept q w e
+    clean {met} w = swept (Some met) w
 
     first_four : {met : ℕ} → CleanIs ws table heads tails s.bytes made met
         → true
@@ -184,45 +124,40 @@ module _ (ws table heads tails : List ℕ) (s : Summary) where
     first_four c = hold first_three (sym c.whole)
 
 -- so each test of the code decides the whole, or hands on to the next
-module _ {ws table heads tails : List ℕ} {s : Summary} where
-  pub walk_broken : (ms : List ℕ) {r : Survey} → SurveyIs ws s no_marks ms r → r ≡ Broken → Walked ws table heads tails s Fails
+module _ (ws table heads tails : List ℕ) (s : Summary) where
+  pub walk_broken : whole_chain ws s ≡ false → WalkedIs ws table heads tails s None
   unfolding WalkedIs walks_well
-  walk_broken ms k e =
-      record { is = sym (still _ (still _ (still _ (still _ (sym (subst (SurveyIs ws s no_marks ms) e k)))))) }
+  walk_broken e = sym (still _ (still _ (still _ (still _ (sym e)))))
 
   module _ {ms : List ℕ} {t : Tally} where
-    pub not_settled : SurveyedIs ws s no_marks ms t → false ≡ is_settled_m t s → Walked ws table heads tails s Fails
+    pub not_settled : SurveyedIs ws s clear ms t → false ≡ is_settled_m t s → WalkedIs ws table heads tails s None
     unfolding WalkedIs walks_well
-    not_settled survey f =
-        record { is = sym (still _ (still _ (still _ (hold (sym survey.whole) (f ∙ settles ws table heads tails s survey))))) }
+    not_settled survey f = sym (still _ (still _ (still _ (hold (sym survey.whole) (f ∙ settles ws table heads tails s survey)))))
 
-    pub other_used : SurveyedIs ws s no_marks ms t → true ≡ is_settled_m t s → false ≡ is_shared_m t.free s → Walked ws table heads tails s Fails
+    pub other_used : SurveyedIs ws s clear ms t → true ≡ is_settled_m t s → false ≡ is_shared_m t.free s → WalkedIs ws table heads tails s None
     unfolding WalkedIs walks_well
     other_used survey f g =
-        record { is = sym (still _ (still _ (hold (first_two ws table heads tails s survey f) (g ∙ shares ws table heads tails s survey)))) }
+        sym (still _ (still _ (hold (first_two ws table heads tails s survey f) (g ∙ shares ws table heads tails s survey))))
 
-    module _ (chain : WalkedChain ws s t ms) (q : Sweep) (w : SweepIs ws table heads tails s.bytes ms q) where
-      pub lists_dirty : q ≡ Dirty → Walked ws table heads tails s Fails
+    module _ (chain : WalkedChain ws s t ms) where
+      pub lists_dirty : SweepIs ws table heads tails s.bytes ms None → WalkedIs ws table heads tails s None
       unfolding WalkedIs walks_well SweepIs
-      lists_dirty e =
-          record { is = sym (still _ (hold (first_three ws table heads tails s chain) (sym (swept ws table heads tails s chain q w e)))) }
+      lists_dirty w = sym (still _ (hold (first_three ws table heads tails s chain) (sym (swept ws table heads tails s chain None w))))
 
-      pub other_count : {met : ℕ} → q ≡ Clean met → (met ≡ t.ordinary → ⊥) → Walked ws table heads tails s Fails
-      unfolding WalkedIs walks_well
-      other_count e n =
-          let c = clean ws table heads tails s chain q w e in
-          let is_tally = ap (λ (u : Tally). u.ordinary) chain.survey.tally in
-          record { is = sym (hold (first_four ws table heads tails s chain c) (sym (ne_eqb _ _ (λ x. n (c.count ∙ x ∙ sym is_tally))))) }
+      module _ {met : ℕ} (w : SweepIs ws table heads tails s.bytes ms (Some met)) where
+        pub other_count : (met ≡ t.ordinary → ⊥) → WalkedIs ws table heads tails s None
+        unfolding WalkedIs walks_well
+        other_count n =
+            let c = clean ws table heads tails s chain w in
+            let is_tally = ap (λ (u : Tally). u.ordinary) chain.survey.tally in
+            sym (hold (first_four ws table heads tails s chain c) (sym (ne_eqb _ _ (λ x. n (c.count ∙ x ∙ sym is_tally)))))
 
-      pub all_well : {met : ℕ} → q ≡ Clean met → met ≡ t.ordinary
-          → Walked ws table heads tails s (Passes (record { chunks = t.chunks; ordinary = t.ordinary; used = s.used; free = t.free }))
-      unfolding WalkedIs walks_well
-      all_well e m =
-          let c = clean ws table heads tails s chain q w e in
-          let is_tally = chain.survey.tally in
-          record {
-            is = (
+        pub all_well : met ≡ t.ordinary
+            → WalkedIs ws table heads tails s (Some (record { chunks = t.chunks; ordinary = t.ordinary; used = s.used; free = t.free }))
+        unfolding WalkedIs walks_well
+        all_well m =
+            let c = clean ws table heads tails s chain w in
+            let is_tally = chain.survey.tally in (
               sym (hold (first_four ws table heads tails s chain c) (sym (eq-eqb _ _ (sym c.count ∙ m ∙ ap (λ (u : Tally). u.ordinary) is_tally)))),
               ap (λ (u : Tally). record { chunks = u.chunks; ordinary = u.ordinary; used = s.used; free = u.free }) is_tally,
-            );
-          }
+            )

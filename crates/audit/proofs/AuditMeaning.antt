@@ -3,6 +3,7 @@
 use mathlib.Core.Path.{◌≡◌, sym, ◌∙◌, ap, subst}
 use mathlib.Core.Bool.{true, false, false≢true}
 use mathlib.Core.List.{List}
+use Rattle.std.proofs.Common.{Option, Some, None, is_some}
 use Prim.Native.Nat.{ℕ, ◌*◌, ◌/◌, ◌≤◌}
 use native.Mathlib.Omega.{arith}
 use lib.ListN.{length, take}
@@ -21,9 +22,6 @@ use Rattle.rules.specs.Merge.{checked}
 use Rattle.rules.specs.Shape.{Entry, shape}
 use Rattle.rules.proofs.CheckLaws.{passes_iff}
 use Rattle.rules.proofs.EvenLaws.{even_part, even_passes, even_fits, even_agrees, same_shape}
-use Rattle.sweep.specs.Sweep.{BothEnds}
-use Rattle.audit.specs.declared.Audit.{Audit}
-use Rattle.audit.specs.declared.Audit.TheVariants as found
 use Rattle.audit.specs.Audit.{HasPlaces, is_tabled_m, counts_in, walks_well, WalkedIs, AuditIs, answer_of}
 use Rattle.audit.proofs.SurveyMeaning.{tally_ordinary, tally_free, tally_for}
 use Rattle.audit.proofs.WalksMeaning.{Rest, well_iff}
@@ -54,12 +52,12 @@ tabled_iff h p =
 
 -- what is found by each test in turn is what the check of the rules says
 module _ (ws : List ℕ) (h : Heap) where
-  pub audit_short : fits_length_m (length ws) h.bytes ≡ false → AuditIs ws h found.Fails
+  pub audit_short : fits_length_m (length ws) h.bytes ≡ false → AuditIs ws h None
   unfolding AuditIs
   audit_short e = not_so (passes_iff ws h) (λ p. false≢true (sym e ∙ (length_iff ws h).1 p.fits))
 
   module _ (places : HasPlaces h.sizes h.heads h.tails) where
-    pub audit_untabled : is_tabled_m h.bins h.sizes h.heads h.tails ≡ false → AuditIs ws h found.Fails
+    pub audit_untabled : is_tabled_m h.bins h.sizes h.heads h.tails ≡ false → AuditIs ws h None
     unfolding AuditIs
     audit_untabled e = not_so (passes_iff ws h) (λ p. false≢true (sym e ∙ (tabled_iff h places).1 p.table))
 
@@ -128,13 +126,13 @@ module _ (ws : List ℕ) (h : Heap) where
               (counts_of h ds)
           counts ds = rw (tally_ordinary h ds, tally_free h ds)
 
-      pub audit_walked : (r : Audit)
+      pub audit_walked : (r : Option Counts)
           → WalkedIs (take (h.bytes / 4) ws) (take h.bins h.sizes) h.heads h.tails (summary_of h) r
           → AuditIs ws h r
       unfolding AuditIs WalkedIs
-      audit_walked found.Fails k =
+      audit_walked None k =
           not_so (passes_iff ws h) (λ p. false≢true (sym (rw even_is at k) ∙ walks.1 (rest_of p)))
-      audit_walked (found.Passes c) k =
+      audit_walked (Some c) k =
           let (well, counts) = rw even_is at k in
           let p = passes_of (walks.0 well) in
           ((passes_iff ws h).1 p, counts ∙ counts_are p)
@@ -152,30 +150,14 @@ lent_table bins sizes heads tails e =
     ).0 e in
     table
 
--- so every bin has both ends of its list
-pub lent_ends : (bins : ℕ) (sizes heads tails : List ℕ) → HasPlaces sizes heads tails → is_tabled_m bins sizes heads tails ≡ true
-    → BothEnds (take bins sizes) heads tails
-lent_ends bins sizes heads tails p e =
-    let l = (lent_table bins sizes heads tails e).0 in
-    let long = length-take-le bins sizes l in
-    record { enough_heads = omega (arith, p.size_places, p.head_places); enough_tails = omega (arith, p.size_places, p.tail_places) }
-
 -- the answer by what was found is the check's
-pub answer_is : (ws : List ℕ) (h : Heap) (r : Audit) → AuditIs ws h r → answer_of r ≡ checked ws h
+pub answer_is : (ws : List ℕ) (h : Heap) (r : Option Counts) → AuditIs ws h r → answer_of r ≡ checked ws h
 unfolding AuditIs answer_of checked
-answer_is ws h found.Fails fails = rw fails
-answer_is ws h (found.Passes c) (well, counts) = rw well (ap Counted counts)
+answer_is ws h None fails = rw fails
+answer_is ws h (Some c) (well, counts) = rw well (ap Counted counts)
 
 -- whether it passes, by what was found
-module _ (ws : List ℕ) (h : Heap) {r : Audit} (k : AuditIs ws h r) where
-  pub finds_failing : r ≡ found.Fails → false ≡ passes ws h
-  unfolding AuditIs
-  finds_failing e =
-      let j : passes ws h ≡ false = subst (λ (q : Audit). AuditIs ws h q) e k in
-      sym j
-
-  pub finds_passing : {c : Counts} → r ≡ found.Passes c → true ≡ passes ws h
-  unfolding AuditIs
-  finds_passing {c} e =
-      let (well, counts) : (passes ws h ≡ true) × (c ≡ counts_of h (shape ws h.bytes)) = subst (λ (q : Audit). AuditIs ws h q) e k in
-      sym well
+pub passing_is : (ws : List ℕ) (h : Heap) (r : Option Counts) → AuditIs ws h r → is_some r ≡ passes ws h
+unfolding AuditIs
+passing_is ws h None fails = sym fails
+passing_is ws h (Some c) (well, counts) = sym well

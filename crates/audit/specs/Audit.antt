@@ -1,22 +1,21 @@
 -- The check as the code makes it: length and table first, then the two walks on the even part of the region.
 -- It mirrors the code; that it is the check of the rules, on every region and record, is proved.
-use Rattle.std.specs.Prelude.{◌≡◌, Bool, true, false, not, ◌&&◌, ◌||◌, List, ℕ, ◌+◌, ◌%◌, ◌^◌, eqb, leb, length, take, replicate}
+use Rattle.std.specs.Prelude.{◌≡◌, Bool, true, false, not, ◌&&◌, ◌||◌, List, Option, Some, None, ℕ, ◌+◌, ◌%◌, ◌^◌, eqb, leb, length, take}
 use Rattle.lists.specs.Lists.{total, numbers_from}
+use Rattle.marks.specs.Marks.{clear}
 use Rattle.record.specs.declared.answers.Answer.{Answer}
 use Rattle.record.specs.declared.answers.Answer.TheVariants.{Counted, Refused}
 use Rattle.record.specs.declared.answers.Counts.{Counts}
 use Rattle.record.specs.declared.answers.Refusal.TheVariants.{HeapFails}
 use Rattle.record.specs.declared.heap.Heap.{Heap}
 use Rattle.record.specs.declared.heap.Summary.{Summary}
-use Rattle.record.specs.Heap.{places, record_of}
+use Rattle.record.specs.Heap.{places}
 use Rattle.record.specs.Table.{valid_table}
 use Rattle.rules.specs.Check.{unused_from, passes, counts_of}
 use Rattle.rules.specs.Shape.{shape}
 use Rattle.survey.specs.declared.Tally.{Tally}
 use Rattle.survey.specs.Survey.{whole_chain, mark_all, tally_of}
 use Rattle.sweep.specs.Sweep.{list_at, all_whole}
-use Rattle.audit.specs.declared.Audit.{Audit}
-use Rattle.audit.specs.declared.Audit.TheVariants.{Passes, Fails}
 
 -- each of the record's three arrays has its places
 pub record HasPlaces (sizes heads tails : List ℕ) : Type 0 where
@@ -37,17 +36,13 @@ is_settled_m t s =
 unfoldable pub is_shared_m : ℕ → Summary → Bool
 is_shared_m free s = eqb (free + s.used + 16) s.bytes
 
--- no chunk is marked
-abbrev pub no_marks : List ℕ
-no_marks = replicate 256 0
-
 -- the words, the table, the heads and the tails that the walks are lent, and the summary
 module _ (ws table heads tails : List ℕ) (s : Summary) where
   abbrev pub tally : Tally
   tally = tally_of s (shape ws s.bytes)
 
   abbrev pub marks_of : List ℕ
-  marks_of = mark_all s no_marks (shape ws s.bytes)
+  marks_of = mark_all s clear (shape ws s.bytes)
 
   abbrev pub met_all : ℕ
   met_all = total (λ i. length (list_at ws table heads tails s.bytes i)) (numbers_from 0 (length table)) % 2 ^ 32
@@ -64,21 +59,16 @@ module _ (ws table heads tails : List ℕ) (s : Summary) where
       && all_whole ws table heads tails s.bytes marks_of (numbers_from 0 (length table))
       && eqb met_all tally.ordinary
 
-  unfoldable pub WalkedIs : Audit → Type 0
-  WalkedIs Fails = walks_well ≡ false
-  WalkedIs (Passes c) = (walks_well ≡ true) × (c ≡ counts_in)
+  unfoldable pub WalkedIs : Option Counts → Type 0
+  WalkedIs None = walks_well ≡ false
+  WalkedIs (Some c) = (walks_well ≡ true) × (c ≡ counts_in)
 
 -- what the check finds: it decides `passes`, and the counts are the rules'
-unfoldable pub AuditIs : List ℕ → Heap → Audit → Type 0
-AuditIs ws h Fails = passes ws h ≡ false
-AuditIs ws h (Passes c) = (passes ws h ≡ true) × (c ≡ counts_of h (shape ws h.bytes))
-
--- what a look at the parts of a record finds, if its arrays have their places
-abbrev pub LookIs : List ℕ → Summary → List ℕ → List ℕ → List ℕ → Audit → Type 0
-LookIs ws s sizes heads tails r =
-    length sizes ≡ 32 → length heads ≡ 32 → length tails ≡ 32 → AuditIs ws (record_of s sizes heads tails) r
+unfoldable pub AuditIs : List ℕ → Heap → Option Counts → Type 0
+AuditIs ws h None = passes ws h ≡ false
+AuditIs ws h (Some c) = (passes ws h ≡ true) × (c ≡ counts_of h (shape ws h.bytes))
 
 -- the check's answer, by what was found
-unfoldable pub answer_of : Audit → Answer
-answer_of (Passes c) = Counted c
-answer_of Fails = Refused HeapFails
+unfoldable pub answer_of : Option Counts → Answer
+answer_of (Some c) = Counted c
+answer_of None = Refused HeapFails
