@@ -4,6 +4,7 @@ use mathlib.Core.Path.{◌≡◌, refl, sym, ap, ◌∙◌}
 use mathlib.Core.Logic.{◌≢◌}
 use mathlib.Core.Bool.{Bool, true, false, cond}
 use mathlib.Core.List.{List}
+use Rattle.std.proofs.Common.{Option}
 use Prim.Native.Nat.{ℕ, ◌<◌, ◌≤◌}
 use native.Mathlib.Omega.{arith}
 use lib.Dec.{eqb, leb, ltb}
@@ -11,19 +12,19 @@ use lib.ListN.{length, get_or, set, take, drop}
 use borrow.Author.Tests.{eq-eqb, ne_eqb, le-leb, lt-leb}
 use Rattle.record.specs.declared.answers.Answer.{Answer}
 use Rattle.record.specs.declared.answers.Answer.TheVariants.{Done, Granted, Returned, Told, Counted, Refused}
+use Rattle.record.specs.declared.answers.Counts.{Counts}
 use Rattle.record.specs.declared.answers.Refusal.TheVariants.{HeapFails}
 use Rattle.record.specs.declared.answers.Reply.{Reply}
 use Rattle.record.specs.declared.heap.Heap.{Heap}
 use Rattle.record.specs.declared.heap.Summary.{Summary}
-use Rattle.record.specs.Heap.{places, summary_of}
+use Rattle.record.specs.Heap.{places, record_of, summary_of}
 use Rattle.record.proofs.AnswersLaws.{not_nine}
 use Rattle.rules.specs.Ask.{chunk_answers, bin_answers, asked_spot, is_there, ask_refusals, asked, ask_chunk, ask_bin}
 use Rattle.rules.specs.Draft.{as_read}
 use Rattle.rules.specs.Merge.{check}
 use Rattle.rules.specs.Outcome.{Outcome, Refusals, judged, heap_fails}
 use Rattle.rules.specs.Statements.{Left, left_by, Meets}
-use Rattle.audit.specs.declared.Audit.{Audit}
-use Rattle.audit.specs.Audit.{AuditIs, LookIs, answer_of}
+use Rattle.audit.specs.Audit.{AuditIs, answer_of}
 use Rattle.audit.proofs.AuditMeaning.{answer_is}
 use Rattle.heap.proofs.CallLaws.{checks}
 use Rattle.patrol.specs.declared.Toured.{Toured}
@@ -31,7 +32,7 @@ use Rattle.patrol.specs.Tours.{leaving}
 use Rattle.rules.proofs.OutcomeLaws.{judged_so}
 use Rattle.abi.specs.Flat.{merge_place, sizes_from, heads_from, tails_from, patrol_place, record_words, record_in, record_out, answer_out, refusal_out}
 use Rattle.abi.specs.Handed.{Handed, handed, handed_by, opened_by, patrolled_by, flat_after}
-use Rattle.abi.proofs.FlatLaws.{parts_are, part_length}
+use Rattle.abi.proofs.FlatLaws.{parts_are}
 use Rattle.abi.proofs.BackLaws.{back_and_flat}
 
 -- the first word is what the call returns
@@ -137,19 +138,16 @@ bin_stays ws q i h =
     judged_stays h (ask_refusals (heap_fails ws h) q answers (ltb i h.bins)) (asked h q answers) refl
 
 -- the check of the record's parts, where they stand in the words, is that of the record that the words say
-module _ (ws rs : List ℕ) (whole : length rs ≡ record_words) (found : Audit) {s : Summary} (q : s ≡ summary_of (record_in rs))
-    (look : LookIs ws s (take places (drop sizes_from rs)) (take places (drop heads_from rs)) (take places (drop tails_from rs)) found) where
-  looks : AuditIs ws (record_in rs) found
-  looks =
-      rw (q, parts_are rs) at (look (part_length rs sizes_from whole (omega arith)) (part_length rs heads_from whole (omega arith)) (part_length rs tails_from whole (omega arith)))
-
+module _ (ws rs : List ℕ) (whole : length rs ≡ record_words) (found : Option Counts) {s : Summary} (q : s ≡ summary_of (record_in rs))
+    (look : AuditIs ws (record_of s (take places (drop sizes_from rs)) (take places (drop heads_from rs)) (take places (drop tails_from rs))) found)
+    where
   pub tells_check : get_or rs merge_place 0 ≤ 1 → {said : Answer} {r : ℕ} {five : List ℕ} → said ≡ answer_of found
       → (r ≡ refusal_out said) × (five ≡ answer_out said)
       → handed r five rs ws ≡ handed_by ws rs (check ws (record_in rs))
   tells_check l {said} a told =
       let h = record_in rs in
       tells ws rs whole l (check ws) (check_stays ws) (record { answer = said; heap = h }) refl
-      (checks ws h said (a ∙ answer_is ws h found looks)) told
+      (checks ws h said (a ∙ answer_is ws h found (rw (q, parts_are rs) at look))) told
 
 -- setup hands back its record, accepted or refused
 pub opens : (ws : List ℕ) (o : Outcome) (reply : Reply) {after five state : List ℕ} → Meets ws o reply after

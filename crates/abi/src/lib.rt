@@ -19,6 +19,7 @@ use crate::flat::{
     BYTES, HEADS, MERGE, PATROL, SIZES, TAILS, answer_words, hand_back, pack, refuse_record, tell,
     unpack, unpack_summary,
 };
+use audit::arrays::Arrays;
 use audit::{answer_of, look};
 use patrol::tour;
 use region::{Block, Chunk};
@@ -146,10 +147,12 @@ pub fn kz_check(
     }
     let summary = unpack_summary(state);
     let words = &state[..];
-    let sizes = &words[SIZES..HEADS];
-    let heads = &words[HEADS..TAILS];
-    let tails = &words[TAILS..PATROL];
-    let found = look(region, summary, sizes, heads, tails);
+    let arrays = Arrays {
+        sizes: &words[SIZES..HEADS],
+        heads: &words[HEADS..TAILS],
+        tails: &words[TAILS..PATROL],
+    };
+    let found = look(region, summary, arrays);
     tell(answer_of(found), answer)
 }
 

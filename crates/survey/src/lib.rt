@@ -17,9 +17,7 @@ use record::kinds::Kind;
 use region::{BACKWARD, Chunk, END_SIZE, FORWARD, IN_USE, LARGEST_HEAP};
 
 pub mod chunks;
-
 pub mod header;
-
 pub mod visit;
 
 // What one chunk adds to each count.
@@ -54,35 +52,38 @@ pub fn added(tally: Tally, share: Share) -> Tally
     }
 }
 
-// What a chunk of this kind and size adds.
-fn share_of(kind: Kind, size: u32) -> Share
-    ensures { result ≡ share_of kind size }
-{
-    let none = Share::default();
-    match kind {
-        Kind::Start | Kind::InUse | Kind::End => none,
-        Kind::Ordinary => Share {
-            ordinary: 1,
-            free: size,
-            ..none
-        },
-        Kind::Donor => Share {
-            donors: 1,
-            free: size,
-            ..none
-        },
-        Kind::Top => Share {
-            tops: 1,
-            free: size,
-            ..none
-        },
-    }
-}
-
+// Each arm adds a share that is a constant but for the size, so that a chunk costs only the counts that it changes.
 pub fn tallied(tally: Tally, kind: Kind, size: u32) -> Tally
     ensures { result ≡ added_m tally (share_of kind size) }
 {
-    added(tally, share_of(kind, size))
+    let none = Share::default();
+    match kind {
+        Kind::Start | Kind::InUse | Kind::End => added(tally, none),
+        Kind::Ordinary => added(
+            tally,
+            Share {
+                ordinary: 1,
+                free: size,
+                ..none
+            },
+        ),
+        Kind::Donor => added(
+            tally,
+            Share {
+                donors: 1,
+                free: size,
+                ..none
+            },
+        ),
+        Kind::Top => added(
+            tally,
+            Share {
+                tops: 1,
+                free: size,
+                ..none
+            },
+        ),
+    }
 }
 
 #[tactic(auto, unfolding(crate::specs::Survey::mark_m))]

@@ -14,7 +14,7 @@ use Rattle.rules.specs.Shape.{members_from}
 use Rattle.rules.proofs.ShapeLaws.{read_none, read_spent, read_more}
 use Rattle.sweep.specs.declared.Members.{Members}
 use Rattle.sweep.specs.declared.Sizes.{Sizes}
-use Rattle.sweep.specs.Sweep.{sizes_m, says_listed_m, is_placed_m, stands_m, is_listed_m, combed, beyond, whole_list, WholeIs, SweptIs, list_at, all_whole, SweepIs}
+use Rattle.sweep.specs.Sweep.{sizes_m, says_listed_m, is_placed_m, stands_m, is_listed_m, combed, beyond, whole_list, WholeIs, SweptIs, NextListed, list_at, all_whole, SweepIs}
 
 -- a size is below a bound exactly if it is at most one less
 below_most : (above s : ℕ) → 0 < above → ltb s above ≡ leb s (above - 1)
@@ -201,15 +201,18 @@ no_ends head tail e =
     let r = and_le_r head tail in
     (omega arith, omega arith)
 
--- what was found of a list, by its case
-module _ (ws table : List ℕ) (i bytes : ℕ) (ms : List ℕ) (first : ℕ) (r : Option Members) (k : SweptIs ws table i bytes ms first r) where
-  torn_is : r ≡ None → whole_list ws table i bytes ms first ≡ false
-  unfolding SweptIs
-  torn_is e = subst (λ (q : Option Members). SweptIs ws table i bytes ms first q) e k
+module _ {heads tails : List ℕ} {from : ℕ} where
+  pub nothing_passed : NextListed heads tails from from
+  nothing_passed = record { onward = omega arith; passed = λ i lo hi. absurd (omega arith) }
 
-  whole_is : {found : Members} → r ≡ Some found → WholeIs ws table i bytes ms first found
-  unfolding SweptIs
-  whole_is e = subst (λ (q : Option Members). SweptIs ws table i bytes ms first q) e k
+  pub one_passed : {b : ℕ} → NextListed heads tails from b → bit_or (get_or heads b 0) (get_or tails b 0) ≡ 0
+      → NextListed heads tails from (b + 1)
+  one_passed {b} o e =
+      record { onward = omega (arith, o.onward); passed = λ i lo hi. go i lo hi (ℕ_discrete i b) }
+    where
+      go : (i : ℕ) → from ≤ i → i < b + 1 → Dec (i ≡ b) → (get_or heads i 0 ≡ 0) × (get_or tails i 0 ≡ 0)
+      go i lo hi (yes q) = rw q (no_ends (get_or heads b 0) (get_or tails b 0) e)
+      go i lo hi (no n) = o.passed i lo (omega arith)
 
 -- the numbers from b on, n of them in all
 count_on : (b n : ℕ) → b < n → numbers_from b (n - b) ≡ b ∷ numbers_from (suc b) (n - suc b)
@@ -239,19 +242,39 @@ module _ {ws table heads tails : List ℕ} {bytes : ℕ} {ms : List ℕ} where
       record { whole = rw e; count = rw (e, zero-add); fits = omega arith }
 
   module _ {met : ℕ} where
-    -- a bin with neither head nor tail has an empty list, which is whole and has no members
-    pub sweeping_skips : {b : ℕ} → Sweeping ws table heads tails bytes ms b met → b < length table
-        → bit_or (get_or heads b 0) (get_or tails b 0) ≡ 0 → Sweeping ws table heads tails bytes ms (b + 1) met
-    sweeping_skips {b} o h e =
-        let (head, tail) = no_ends (get_or heads b 0) (get_or tails b 0) e in
-        let r = count_on b (length table) h in
-        let none : list_at ws table heads tails bytes b ≡ [] = ap (members_from bytes ws) head ∙ read_none ws bytes in
-        rw add-one
-        (record {
-          whole = rw (r, none, head, tail) at o.whole;
-          count = rw (r, none, zero-add) at o.count;
-          fits = o.fits;
-        })
+    -- an empty list is whole, and has no members
+    over_empty : {b : ℕ} → Sweeping ws table heads tails bytes ms b met → get_or heads b 0 ≡ 0 → get_or tails b 0 ≡ 0
+        → Sweeping ws table heads tails bytes ms (suc b) met
+    over_empty {b} o head tail = go (dec_lt b (length table))
+      where
+        go : Dec (b < length table) → Sweeping ws table heads tails bytes ms (suc b) met
+        go (yes h) =
+            let r = count_on b (length table) h in
+            let none : list_at ws table heads tails bytes b ≡ [] = ap (members_from bytes ws) head ∙ read_none ws bytes in
+            record {
+              whole = rw (r, none, head, tail) at o.whole;
+              count = rw (r, none, zero-add) at o.count;
+              fits = o.fits;
+            }
+        go (no n) =
+            let here = count_out b (length table) (omega arith) in
+            let there = count_out (suc b) (length table) (omega arith) in
+            record { whole = rw there (rw here at o.whole); count = rw there (rw here at o.count); fits = o.fits }
+
+    -- so the bins that are passed over add nothing
+    over_all : (n b : ℕ) → ((i : ℕ) → b ≤ i → i < b + n → (get_or heads i 0 ≡ 0) × (get_or tails i 0 ≡ 0))
+        → Sweeping ws table heads tails bytes ms b met → Sweeping ws table heads tails bytes ms (b + n) met
+    over_all zero b empty o = rw (add-zero b) o
+    over_all (suc n) b empty o =
+        let (head, tail) = empty b (omega arith) (omega arith) in
+        let e : b + suc n ≡ suc b + n = omega arith in
+        rw e (over_all n (suc b) (λ i lo hi. empty i (omega arith) (omega arith)) (over_empty o head tail))
+
+    pub sweeping_skips : {b next : ℕ} → Sweeping ws table heads tails bytes ms b met → NextListed heads tails b next
+        → Sweeping ws table heads tails bytes ms next met
+    sweeping_skips {b} {next} o p =
+        let e : b + (next - b) ≡ next = omega (arith, p.onward) in
+        rw e at (over_all (next - b) b (λ i lo hi. p.passed i lo (omega (arith, p.onward))) o)
 
   module _ {b met : ℕ} (o : Sweeping ws table heads tails bytes ms b met) where
     -- how many members the list of a bin has
@@ -268,23 +291,19 @@ module _ {ws table heads tails : List ℕ} {bytes : ℕ} {ms : List ℕ} where
           count = omega (arith, o.fits);
         }
 
-    -- bin b has been swept, with this reply
-    module _ (h : b < length table) {first : ℕ} (ef : first ≡ get_or heads b 0) {r : Option Members} (swept : SweptIs ws table b bytes ms first r) where
-      pub dirty_list : r ≡ None → SweepIs ws table heads tails bytes ms None
-      unfolding SweepIs
-      dirty_list e =
-          sym o.whole ∙ ap (all_whole ws table heads tails bytes ms) (count_on b (length table) h)
-          ∙ rw (← ef, torn_is ws table b bytes ms first r swept e)
+    -- bin b has been swept: its list is not whole, or these are its members
+    module _ (h : b < length table) {first : ℕ} (ef : first ≡ get_or heads b 0) where
+      pub dirty_list : SweptIs ws table b bytes ms first None → SweepIs ws table heads tails bytes ms None
+      unfolding SweptIs SweepIs
+      dirty_list torn =
+          sym o.whole ∙ ap (all_whole ws table heads tails bytes ms) (count_on b (length table) h) ∙ rw (← ef, torn)
 
-      module _ {found : Members} (is : r ≡ Some found) {t : ℕ} (et : t ≡ get_or tails b 0) where
-        abbrev swept_whole : WholeIs ws table b bytes ms first found
-        swept_whole = whole_is ws table b bytes ms first r swept is
-
+      module _ {found : Members} (list : WholeIs ws table b bytes ms first found) {t : ℕ} (et : t ≡ get_or tails b 0) where
         pub dirty_tail : (t ≡ found.last → ⊥) → SweepIs ws table heads tails bytes ms None
         unfolding SweepIs
         dirty_tail n =
             sym o.whole ∙ ap (all_whole ws table heads tails bytes ms) (count_on b (length table) h)
-            ∙ rw (← ef, swept_whole.whole, ← et, ← swept_whole.ends, ne_eqb t found.last n)
+            ∙ rw (← ef, list.whole, ← et, ← list.ends, ne_eqb t found.last n)
 
         pub sweeping_goes : t ≡ found.last → {met' : ℕ} → met' ≡ (met + found.count) % 2 ^ 32
             → Sweeping ws table heads tails bytes ms (b + 1) met'
@@ -300,12 +319,12 @@ module _ {ws table heads tails : List ℕ} {bytes : ℕ} {ms : List ℕ} where
             whole : numbers_from b (length table - b) ≡ b ∷ numbers_from (suc b) (length table - suc b)
                 → all_whole ws table heads tails bytes ms (numbers_from (suc b) (length table - suc b))
                 ≡ all_whole ws table heads tails bytes ms (numbers_from 0 (length table))
-            whole r = rw (r, ← ef, swept_whole.whole, ← et, ← swept_whole.ends, eq-eqb t found.last e) at o.whole
+            whole r = rw (r, ← ef, list.whole, ← et, ← list.ends, eq-eqb t found.last e) at o.whole
 
             count : numbers_from b (length table - b) ≡ b ∷ numbers_from (suc b) (length table - suc b)
                 → ((met + found.count) % 2 ^ 32 + total members_in (numbers_from (suc b) (length table - suc b))) % 2 ^ 32
                 ≡ total members_in (numbers_from 0 (length table)) % 2 ^ 32
             count r =
                 let q : (met + (members_in b + total members_in (numbers_from (suc b) (length table - suc b)))) % 2 ^ 32 ≡ total members_in (numbers_from 0 (length table)) % 2 ^ 32 = rw r at o.count in
-                let m : found.count ≡ members_in b = rw ef at swept_whole.count in
+                let m : found.count ≡ members_in b = rw ef at list.count in
                 omega arith

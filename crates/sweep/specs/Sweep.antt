@@ -65,6 +65,11 @@ module _ (ws table : List ℕ) (i bytes : ℕ) where
   SweptIs ms first None = whole_list ms first ≡ false
   SweptIs ms first (Some found) = WholeIs ms first found
 
+-- the bins from `from` up to `next` have neither head nor tail
+pub record NextListed (heads tails : List ℕ) (from next : ℕ) : Type 0 where
+  pub onward : from ≤ next
+  pub passed : (i : ℕ) → from ≤ i → i < next → (slice_index heads i ≡ 0) × (slice_index tails i ≡ 0)
+
 module _ (ws table heads tails : List ℕ) (bytes : ℕ) where
   abbrev pub list_at : ℕ → List ℕ
   list_at i = members_from bytes ws (slice_index heads i)

@@ -7,7 +7,7 @@ ghost use Rattle.std.specs.Prelude.{◌≡◌, ◌+◌, ◌-◌, ◌/◌, ◌^�
 ghost use Rattle.chain.specs.Length.{Lent};
 ghost use Rattle.record.specs.Table.{ValidTable};
 ghost use Rattle.region.specs.Words.{word, size, bin};
-ghost use Rattle.sweep.specs.Sweep.{sizes_m, says_listed_m, SweptIs, SweepIs};
+ghost use Rattle.sweep.specs.Sweep.{sizes_m, says_listed_m, NextListed, SweptIs, SweepIs};
 
 use bins::bin_word;
 use marks::{Marks, number_of};
@@ -88,6 +88,21 @@ pub struct Lists<'a> {
     pub ghost enough_tails: { length table.now ≤ length tails.now },
 }
 
+impl Lists<'_> {
+    // The first bin from this one on that has a head or a tail, or else the bin count. A bin with neither has an empty list, which is right.
+    fn next_listed(self, from: usize) -> usize
+        ensures { NextListed self.entry.heads.now self.entry.tails.now from result }
+    {
+        let count = self.table.len();
+        for bin in from..count {
+            if self.heads[bin] | self.tails[bin] != 0 {
+                return bin;
+            }
+        }
+        from.max(count)
+    }
+}
+
 // How many members a whole list has, and the last of them.
 #[derive(Clone, Copy)]
 pub struct Members {
@@ -106,9 +121,9 @@ pub fn sweep_list(marked: Marked<'_>, table: &[u32], bin: usize, first: u32) -> 
     let mut sizes = sizes_of(table, bin);
     let mut at = first;
     let mut before = 0;
-    let mut left = marked.bytes;
+    let mut count = 0;
     while at != 0 {
-        if left == 0 {
+        if count == marked.bytes {
             return None;
         }
         let number = number_of(Chunk(at));
@@ -126,35 +141,31 @@ pub fn sweep_list(marked: Marked<'_>, table: &[u32], bin: usize, first: u32) -> 
         sizes.least = size;
         before = at;
         at = region[i + NEXT_IN_BIN as usize];
-        left -= 1;
+        count += 1;
     }
     if sizes.least > sizes.most {
         return None;
     }
     Some(Members {
-        count: marked.bytes - left,
+        count,
         last: before,
     })
 }
 
-// How many members all lists have, if every one is whole and ends at its tail. A bin with neither head nor tail has an empty list, which is
-// right.
+// How many members all lists have, if every one is whole and ends at its tail.
 pub fn sweep_bins(marked: Marked<'_>, lists: Lists<'_>) -> Option<u32>
     requires { ValidTable lists.table.now }
     ensures { SweepIs marked.entry.region.now lists.entry.table.now lists.entry.heads.now lists.entry.tails.now marked.entry.bytes marked.entry.marks.now.words result }
 {
     let mut met: u32 = 0;
-    for bin in 0..lists.table.len() {
-        let head = lists.heads[bin];
-        let tail = lists.tails[bin];
-        if head | tail == 0 {
-            continue;
-        }
-        let members = sweep_list(marked, lists.table, bin, head)?;
-        if tail != members.last {
+    let mut bin = lists.next_listed(0);
+    while bin < lists.table.len() {
+        let members = sweep_list(marked, lists.table, bin, lists.heads[bin])?;
+        if lists.tails[bin] != members.last {
             return None;
         }
         met = met.wrapping_add(members.count);
+        bin = lists.next_listed(bin + 1);
     }
     Some(met)
 }
