@@ -6,7 +6,6 @@ use mathlib.Core.Bool.{Bool, true, false, cond}
 use mathlib.Core.List.{List}
 use Rattle.std.proofs.Common.{Option}
 use Prim.Native.Nat.{ℕ, ◌<◌, ◌≤◌}
-use native.Mathlib.Omega.{arith}
 use lib.Dec.{eqb, leb, ltb}
 use lib.ListN.{length, get_or, set, take, drop}
 use borrow.Author.Tests.{eq-eqb, ne_eqb, le-leb, lt-leb}
@@ -140,14 +139,14 @@ bin_stays ws q i h =
 -- the check of the record's parts, where they stand in the words, is that of the record that the words say
 module _ (ws rs : List ℕ) (whole : length rs ≡ record_words) (found : Option Counts) {s : Summary} (q : s ≡ summary_of (record_in rs))
     (look : AuditIs ws (record_of s (take places (drop sizes_from rs)) (take places (drop heads_from rs)) (take places (drop tails_from rs))) found)
-    where
-  pub tells_check : get_or rs merge_place 0 ≤ 1 → {said : Answer} {r : ℕ} {five : List ℕ} → said ≡ answer_of found
-      → (r ≡ refusal_out said) × (five ≡ answer_out said)
-      → handed r five rs ws ≡ handed_by ws rs (check ws (record_in rs))
-  tells_check l {said} a told =
-      let h = record_in rs in
-      tells ws rs whole l (check ws) (check_stays ws) (record { answer = said; heap = h }) refl
-      (checks ws h said (a ∙ answer_is ws h found (rw (q, parts_are rs) at look))) told
+  where
+    pub tells_check : get_or rs merge_place 0 ≤ 1 → {said : Answer} {r : ℕ} {five : List ℕ} → said ≡ answer_of found
+        → (r ≡ refusal_out said) × (five ≡ answer_out said)
+        → handed r five rs ws ≡ handed_by ws rs (check ws (record_in rs))
+    tells_check l {said} a told =
+        let h = record_in rs in
+        tells ws rs whole l (check ws) (check_stays ws) (record { answer = said; heap = h }) refl
+        (checks ws h said (a ∙ answer_is ws h found (rw (q, parts_are rs) at look))) told
 
 -- setup hands back its record, accepted or refused
 pub opens : (ws : List ℕ) (o : Outcome) (reply : Reply) {after five state : List ℕ} → Meets ws o reply after

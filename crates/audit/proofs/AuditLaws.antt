@@ -1,26 +1,24 @@
 -- The tests before and after the two walks, part by part as the code makes them. Assumes nothing.
 use mathlib.Core.Path.{◌≡◌, refl, sym, ◌∙◌, ap, subst}
-use mathlib.Core.Bool.{Bool, true, false, not, ◌&&◌}
+use mathlib.Core.Bool.{Bool, true, false, ◌&&◌}
 use mathlib.Core.List.{List}
 use Rattle.std.proofs.Common.{Option, Some, None}
 use Prim.Native.Nat.{ℕ, zero, suc, ◌≤◌, ◌<◌}
 use native.Mathlib.Omega.{arith}
 use lib.Bits.{bit_or, or_add_and, and_le_r}
-use lib.Dec.{eqb, leb}
-use lib.ListN.{length, get_or, take, drop_of_length-le}
+use lib.Dec.{eqb}
+use lib.ListN.{length, get_or, drop_of_length-le}
 use lib.Seq.{drop-cons}
-use borrow.Author.Tests.{eq-eqb, ne_eqb, le-leb, lt-leb, not-true, not-false}
+use borrow.Author.Tests.{eq-eqb, ne_eqb}
 use Rattle.lists.specs.Lists.{numbers_from}
 use Rattle.marks.specs.Marks.{clear}
-use Rattle.record.specs.declared.answers.Counts.{Counts}
 use Rattle.record.specs.declared.heap.Summary.{Summary}
 use Rattle.record.specs.Heap.{places}
-use Rattle.record.specs.Table.{valid_table}
 use Rattle.rules.specs.Check.{unused_from}
 use Rattle.survey.specs.declared.Tally.{Tally}
-use Rattle.survey.specs.Survey.{whole_chain, SurveyedIs, SurveyIs}
+use Rattle.survey.specs.Survey.{whole_chain, SurveyedIs}
 use Rattle.sweep.specs.Sweep.{all_whole, CleanIs, SweepIs}
-use Rattle.audit.specs.Audit.{HasPlaces, is_tabled_m, is_settled_m, is_shared_m, tally, marks_of, walks_well, WalkedIs}
+use Rattle.audit.specs.Audit.{HasPlaces, is_settled_m, is_shared_m, tally, marks_of, walks_well, WalkedIs}
 
 -- a conjunction of many parts: a part fails, and the rest does not matter; a part holds, and the next decides
 still : (b : Bool) {a : Bool} → false ≡ a → false ≡ (a && b)

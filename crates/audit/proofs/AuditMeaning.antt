@@ -1,13 +1,12 @@
 -- The code's check is the check of the rules, both ways, on every region: length and table first, then the walks of the even part
 -- (`audit_short`, `audit_untabled`, `audit_walked`); and the answer by what was found. Assumes nothing.
-use mathlib.Core.Path.{◌≡◌, sym, ◌∙◌, ap, subst}
+use mathlib.Core.Path.{◌≡◌, sym, ◌∙◌, ap}
 use mathlib.Core.Bool.{true, false, false≢true}
 use mathlib.Core.List.{List}
 use Rattle.std.proofs.Common.{Option, Some, None, is_some}
 use Prim.Native.Nat.{ℕ, ◌*◌, ◌/◌, ◌≤◌}
 use native.Mathlib.Omega.{arith}
 use lib.ListN.{length, take}
-use lib.Seq.{length-take-le}
 use Rattle.lists.proofs.ListsLaws.{Decides, at_most, itself, both, not_so, zeros_from, meaning}
 use Rattle.record.specs.declared.answers.Answer.TheVariants.{Counted}
 use Rattle.record.specs.declared.answers.Counts.{Counts}

