@@ -1,5 +1,4 @@
 -- What a call leaves to C, from what its steps ensure: the reply's words, and the rule's outcome. Assumes nothing.
-use Rattle.std.specs.Prelude.{Some, None}
 use mathlib.Core.Path.{◌≡◌, refl, sym, ap, ◌∙◌}
 use mathlib.Core.Logic.{◌≢◌}
 use mathlib.Core.Bool.{Bool, true, false, cond}
@@ -8,7 +7,7 @@ use Rattle.std.proofs.Common.{Option}
 use Prim.Native.Nat.{ℕ, ◌<◌, ◌≤◌}
 use lib.Dec.{eqb, leb, ltb}
 use lib.ListN.{length, get_or, set, take, drop}
-use borrow.Author.Tests.{eq-eqb, ne_eqb, le-leb, lt-leb}
+use borrow.Author.Tests.{eq-eqb, ne_eqb, le-leb, leb-true, lt-leb}
 use Rattle.record.specs.declared.answers.Answer.{Answer}
 use Rattle.record.specs.declared.answers.Answer.TheVariants.{Done, Granted, Returned, Told, Counted, Refused}
 use Rattle.record.specs.declared.answers.Counts.{Counts}
@@ -21,7 +20,7 @@ use Rattle.record.proofs.AnswersLaws.{not_nine}
 use Rattle.rules.specs.Ask.{chunk_answers, bin_answers, asked_spot, is_there, ask_refusals, asked, ask_chunk, ask_bin}
 use Rattle.rules.specs.Draft.{as_read}
 use Rattle.rules.specs.Merge.{check}
-use Rattle.rules.specs.Outcome.{Outcome, Refusals, judged, heap_fails}
+use Rattle.rules.specs.Outcome.{Outcome, Refusals, refused, judged, heap_fails}
 use Rattle.rules.specs.Statements.{Left, left_by, Meets}
 use Rattle.audit.specs.Audit.{AuditIs, answer_of}
 use Rattle.audit.proofs.AuditMeaning.{answer_is}
@@ -30,7 +29,8 @@ use Rattle.patrol.specs.declared.Toured.{Toured}
 use Rattle.patrol.specs.Tours.{leaving}
 use Rattle.rules.proofs.OutcomeLaws.{judged_so}
 use Rattle.abi.specs.Flat.{merge_place, sizes_from, heads_from, tails_from, patrol_place, record_words, record_in, record_out, answer_out, refusal_out}
-use Rattle.abi.specs.Handed.{Handed, handed, handed_by, opened_by, patrolled_by, flat_after}
+use Rattle.abi.specs.Handed.{Handed, handed, answering, handed_by, opened_by, patrolled_by, flat_after}
+use Rattle.abi.specs.Replied.{once_whole}
 use Rattle.abi.proofs.FlatLaws.{parts_are}
 use Rattle.abi.proofs.BackLaws.{back_and_flat}
 
@@ -40,8 +40,7 @@ unfolding answer_out
 refusal_first Done = refl
 refusal_first (Granted block change) = refl
 refusal_first (Returned change) = refl
-refusal_first (Told (Some value)) = refl
-refusal_first (Told None) = refl
+refusal_first (Told value) = refl
 refusal_first (Counted counts) = refl
 refusal_first (Refused refusal) = refl
 
@@ -63,57 +62,59 @@ module _ (ws rs : List ℕ) (o : Outcome) where
   unfolding patrolled_by
   patrolled_not_nine = not_nine (left_by ws o).answer
 
--- what is handed back to the caller of a call: its number, the answer's words and the record's
-abbrev pub HandsBack : List ℕ → Answer → Heap → ℕ → List ℕ → List ℕ → Type 0
-HandsBack rs a h r five after = (r ≡ refusal_out a) × ((five ≡ answer_out a) × (after ≡ flat_after rs a h))
-
--- a refusal is handed back with the record's words as they are, an acceptance with the new record's
-module _ (rs five : List ℕ) (a : Answer) (h : Heap) (e : five ≡ answer_out a) where
-  first_is : get_or five 0 0 ≡ refusal_out a
-  first_is = ap (λ (ws : List ℕ). get_or ws 0 0) e ∙ refusal_first a
-
-  pub refusal_keeps : (get_or five 0 0 ≡ 0 → ⊥) → HandsBack rs a h (get_or five 0 0) five rs
-  unfolding flat_after
-  refusal_keeps n = (first_is, (e, rw (ne_eqb (refusal_out a) 0 (λ z. n (first_is ∙ z))) refl))
-
-  pub acceptance_packs : (after : List ℕ) → get_or five 0 0 ≡ 0 → after ≡ record_out h → HandsBack rs a h (get_or five 0 0) five after
-  unfolding flat_after
-  acceptance_packs after z p = (first_is, (e, rw (eq-eqb (refusal_out a) 0 (sym first_is ∙ z)) p))
-
 -- a damaged merge word
 pub refuses_merge_word : {ws rs : List ℕ} (o : Outcome) {r : ℕ} {five : List ℕ} → 1 < get_or rs merge_place 0 → (r ≡ 4) × (five ≡ answer_out (Refused HeapFails))
     → handed r five rs ws ≡ handed_by ws rs o
 unfolding handed_by
 refuses_merge_word o l (n, e) = rw (lt-leb _ _ l, n, e) refl
 
-module _ (ws rs : List ℕ) where
-  -- a call on the record that the words say
-  pub answers : (call : Heap → Outcome) {heap : Heap} (reply : Reply) {after : List ℕ} {r : ℕ} {five state : List ℕ}
-      → get_or rs merge_place 0 ≤ 1 → heap ≡ record_in rs → Meets ws (call heap) reply after
-      → HandsBack rs reply.answer reply.heap r five state
-      → handed r five state after ≡ handed_by ws rs (call (record_in rs))
-  unfolding handed_by
-  answers call reply l q m (n, (e, p)) =
-      rw (le-leb _ _ l, sym q, sym (ap (λ (x : Left). x.answer) m), sym (ap (λ (x : Left). x.heap) m), sym (ap (λ (x : Left). x.words) m), n, e, p) refl
+module _ (ws rs : List ℕ) (o : Outcome) where
+  -- the words that go with the outcome, of a damaged record with its refusal
+  handed_so : let l : Left = left_by ws (once_whole rs o) in answering l.answer (flat_after rs l.answer l.heap) l.words ≡ handed_by ws rs o
+  unfolding handed_by flat_after
+  handed_so = by (leb (get_or rs merge_place 0) 1)
+    where
+      by : (t : Bool)
+          → let l : Left = left_by ws (cond t o (refused (record_in rs) HeapFails)) in
+          let m : Left = left_by ws o in
+          answering l.answer (flat_after rs l.answer l.heap) l.words
+          ≡ cond t (answering m.answer (flat_after rs m.answer m.heap) m.words) (answering (Refused HeapFails) rs ws)
+      by true = refl
+      by false = refl
 
-  -- a call that leaves the record as it is: the words that say it stay
-  module _ (whole : length rs ≡ record_words) (l : get_or rs merge_place 0 ≤ 1) where
-    flat_stays : (a : Answer) → flat_after rs a (record_in rs) ≡ rs
+  -- what a call that leaves the record as it is would pack
+  flat_stays : length rs ≡ record_words → o.heap ≡ record_in rs → let x : Outcome = once_whole rs o in flat_after rs x.answer x.heap ≡ rs
+  unfolding flat_after
+  flat_stays whole stays = by (leb (get_or rs merge_place 0) 1) refl
+    where
+      packed : get_or rs merge_place 0 ≤ 1 → (t : Bool) → cond t (record_out o.heap) rs ≡ rs
+      packed l true = ap record_out stays ∙ back_and_flat rs whole l
+      packed l false = refl
+
+      by : (t : Bool) → leb (get_or rs merge_place 0) 1 ≡ t
+          → let x : Outcome = cond t o (refused (record_in rs) HeapFails) in flat_after rs x.answer x.heap ≡ rs
+      by true e = packed (leb-true _ _ e) (eqb (refusal_out o.answer) 0)
+      by false e = refl
+
+  -- a reply, and what is told of it
+  module _ (reply : Reply) {after : List ℕ} {r : ℕ} {five : List ℕ} (m : Meets ws (once_whole rs o) reply after)
+      (said : (r ≡ refusal_out reply.answer) × (five ≡ answer_out reply.answer)) where
+    answers : {state : List ℕ} → state ≡ flat_after rs reply.answer reply.heap → handed r five state after ≡ handed_by ws rs o
+    answers p =
+        rw (said.0, said.1, p) (ap (λ (l : Left). answering l.answer (flat_after rs l.answer l.heap) l.words) m ∙ handed_so)
+
+    -- a refusal leaves the record's words as they are, an acceptance packs the new record
+    pub refusal_keeps : (r ≡ 0 → ⊥) → handed r five rs after ≡ handed_by ws rs o
     unfolding flat_after
-    flat_stays a = by (eqb (refusal_out a) 0)
-      where
-        by : (t : Bool) → cond t (record_out (record_in rs)) rs ≡ rs
-        by true = back_and_flat rs whole l
-        by false = refl
+    refusal_keeps n = answers (rw (ne_eqb (refusal_out reply.answer) 0 (λ z. n (said.0 ∙ z))) refl)
 
-    pub tells : (call : Heap → Outcome) → ((h : Heap) → (call h).heap ≡ h)
-        → {heap : Heap} (reply : Reply) {after : List ℕ} {r : ℕ} {five : List ℕ}
-        → heap ≡ record_in rs → Meets ws (call heap) reply after
-        → (r ≡ refusal_out reply.answer) × (five ≡ answer_out reply.answer)
-        → handed r five rs after ≡ handed_by ws rs (call (record_in rs))
-    tells call stays {heap} reply q m (n, e) =
-        let kept : reply.heap ≡ record_in rs = ap (λ (x : Left). x.heap) m ∙ stays heap ∙ q in
-        answers call reply l q m (n, (e, sym (ap (flat_after rs reply.answer) kept ∙ flat_stays reply.answer)))
+    pub acceptance_packs : {state : List ℕ} → r ≡ 0 → state ≡ record_out reply.heap → handed r five state after ≡ handed_by ws rs o
+    unfolding flat_after
+    acceptance_packs z p = answers (rw (eq-eqb (refusal_out reply.answer) 0 (sym said.0 ∙ z)) p)
+
+    -- a call that leaves the record as it is: the words that say it stay
+    pub tells : length rs ≡ record_words → o.heap ≡ record_in rs → handed r five rs after ≡ handed_by ws rs o
+    tells whole stays = answers (sym (ap (λ (l : Left). flat_after rs l.answer l.heap) m ∙ flat_stays whole stays))
 
 -- the check and the questions leave the record as it is, refused or not
 judged_stays : (h : Heap) (ts : Refusals) (o : Outcome) → o.heap ≡ h → (judged h ts o).heap ≡ h
@@ -145,16 +146,17 @@ module _ (ws rs : List ℕ) (whole : length rs ≡ record_words) (found : Option
         → handed r five rs ws ≡ handed_by ws rs (check ws (record_in rs))
     tells_check l {said} a told =
         let h = record_in rs in
-        tells ws rs whole l (check ws) (check_stays ws) (record { answer = said; heap = h }) refl
-        (checks ws h said (a ∙ answer_is ws h found (rw (q, parts_are rs) at look))) told
+        let sound : Meets ws (once_whole rs (check ws h)) (record { answer = said; heap = h }) ws =
+            rw (le-leb _ _ l) (checks ws h said (a ∙ answer_is ws h found (rw (q, parts_are rs) at look))) in
+        tells ws rs (check ws h) (record { answer = said; heap = h }) sound told whole (check_stays ws h)
 
 -- setup hands back its record, accepted or refused
-pub opens : (ws : List ℕ) (o : Outcome) (reply : Reply) {after five state : List ℕ} → Meets ws o reply after
-    → five ≡ answer_out reply.answer → state ≡ record_out reply.heap
-    → handed (get_or five 0 0) five state after ≡ opened_by ws o
+pub opens : (ws : List ℕ) (o : Outcome) (reply : Reply) {after : List ℕ} {r : ℕ} {five state : List ℕ} → Meets ws o reply after
+    → (r ≡ refusal_out reply.answer) × (five ≡ answer_out reply.answer) → state ≡ record_out reply.heap
+    → handed r five state after ≡ opened_by ws o
 unfolding opened_by
-opens ws o reply m e p =
-    rw (sym (ap (λ (x : Left). x.answer) m), sym (ap (λ (x : Left). x.heap) m), sym (ap (λ (x : Left). x.words) m), e, p, refusal_first reply.answer) refl
+opens ws o reply m (n, e) p =
+    rw (sym (ap (λ (x : Left). x.answer) m), sym (ap (λ (x : Left). x.heap) m), sym (ap (λ (x : Left). x.words) m), n, e, p) refl
 
 -- the patrol hands back its place in the record's words
 pub patrols : (ws rs : List ℕ) (o : Outcome) (h : Heap) {t : Toured} {after five : List ℕ} {r : ℕ} → leaving h t after ≡ left_by ws o

@@ -1,2 +1,3 @@
 pub mod Flat
 pub mod Handed
+pub mod Replied

@@ -1,20 +1,21 @@
 // The record and the answer as flat words: unpacked, packed, and the two handed back to C.
-// What a call does is not known here.
-ghost use Rattle.std.specs.Prelude.{◌≡◌, ◌+◌, ◌≤◌, length};
+// What a call does is not known here. Neither the record nor the answer is of this crate, nor are arrays, so no `From` says it.
+ghost use Rattle.std.specs.Prelude.{◌≡◌, ◌+◌, ◌≤◌, take, drop};
 ghost use Rattle.std.proofs.Math.Seq.{paste};
-ghost use Rattle.abi.specs.Flat.{record_in, record_out, record_words, complement, answer_out, refusal_out};
-ghost use Rattle.abi.specs.Handed.{flat_after};
-ghost use Rattle.record.specs.Heap.{summary_of};
-ghost use Rattle.record.specs.declared.answers.Answer.TheVariants.{Refused};
-ghost use Rattle.record.specs.declared.answers.Refusal.TheVariants.{HeapFails};
+ghost use Rattle.abi.specs.Flat.{record_in, record_out, record_words, answer_out, refusal_out};
+ghost use Rattle.abi.specs.Handed.{handed, handed_by};
+ghost use Rattle.abi.specs.Replied.{Makes, once_whole};
+ghost use Rattle.record.specs.Heap.{places, summary_of};
+ghost use Rattle.rules.specs.Outcome.{Outcome};
+ghost use Rattle.rules.specs.Statements.{Meets};
 
 use crate::{ANSWER_WORDS, RECORD_WORDS};
-use record::answers::{Answer, Refusal, Reply, number};
+use record::answers::{Answer, Refusal, Reply};
 use record::heap::{Heap, PLACES, Summary};
 use region::Chunk;
 
-// Where the parts of the record stand: its scalars one after the other, then the sizes, heads and tails of the bins, and last the
-// patrol's place.
+// Where the parts of the record stand, which kz_record of include/kruzhvela.h fixes: its scalars one after the other, then the sizes,
+// heads and tails of the bins, and last the patrol's place.
 pub const BYTES: usize = 0;
 
 const BINS: usize = 1;
@@ -35,22 +36,8 @@ pub const TAILS: usize = HEADS + PLACES;
 
 pub const PATROL: usize = TAILS + PLACES;
 
-// A word holds numbers below this.
-const WORD: i64 = 4294967296;
-
-// All words of `from`, to where `at` says; they fit there.
-fn copy(to: &mut [u32], at: usize, from: &[u32])
-    requires { at + length from.now ≤ length to.old }
-    ensures { to.new ≡ paste to.old at from.now (length from.now) }
-{
-    let mut i = 0;
-    while i < from.len() {
-        to[at + i] = from[i];
-        i += 1;
-    }
-}
-
 // The record without its arrays, which a call can lend where they stand.
+#[tactic(auto, unfolding(crate::specs::Flat::record_in))]
 pub fn unpack_summary(words: &[u32; RECORD_WORDS]) -> Summary
     ensures { result ≡ summary_of (record_in words.now) }
 {
@@ -65,117 +52,131 @@ pub fn unpack_summary(words: &[u32; RECORD_WORDS]) -> Summary
     }
 }
 
-pub fn unpack(words: [u32; RECORD_WORDS]) -> Heap
-    ensures value { result ≡ record_in words }
-    ensures words_len { length words ≡ record_words }
+// The words of an array of the record, from `at` on. The library's as_array ends in a trap, which tools/portable refuses.
+fn array(words: &[u32; RECORD_WORDS], at: usize) -> [u32; PLACES]
+    requires { at + places ≤ record_words }
+    ensures { result ≡ take places (drop at words.now) }
 {
-    let mut sizes = [0; PLACES];
-    let mut heads = [0; PLACES];
-    let mut tails = [0; PLACES];
-    copy(&mut sizes, 0, &words[SIZES..HEADS]);
-    copy(&mut heads, 0, &words[HEADS..TAILS]);
-    copy(&mut tails, 0, &words[TAILS..PATROL]);
-    let summary = unpack_summary(&words);
-    let donor = summary.donor;
-    let top = summary.top;
-    let patrol = summary.patrol;
+    let mut part = [0; PLACES];
+    for i in 0..PLACES {
+        part[i] = words[at + i];
+    }
+    part
+}
+
+#[tactic(auto, unfolding(crate::specs::Flat::record_in))]
+pub fn unpack(words: &[u32; RECORD_WORDS]) -> Heap
+    ensures { result ≡ record_in words.now }
+{
+    let Summary {
+        bytes,
+        bins,
+        donor,
+        top,
+        merge,
+        used,
+        patrol,
+    } = unpack_summary(words);
     Heap {
-        bytes: summary.bytes,
-        bins: summary.bins,
-        sizes: sizes,
-        heads: heads,
-        tails: tails,
-        donor: donor,
-        top: top,
-        merge: summary.merge,
-        used: summary.used,
-        patrol: patrol,
+        bytes,
+        bins,
+        sizes: array(words, SIZES),
+        heads: array(words, HEADS),
+        tails: array(words, TAILS),
+        donor,
+        top,
+        merge,
+        used,
+        patrol,
+    }
+}
+
+// An array of the record, to its words from `at` on. The library's copy_from_slice is not inlined: it made the archive a third larger.
+fn put(words: &mut [u32; RECORD_WORDS], at: usize, part: &[u32; PLACES])
+    requires { at + places ≤ record_words }
+    ensures { words.new ≡ paste words.old at part.now places }
+{
+    for (i, word) in part.iter().enumerate() {
+        words[at + i] = *word;
     }
 }
 
 pub fn pack(heap: Heap) -> [u32; RECORD_WORDS]
     ensures { result ≡ record_out heap }
 {
-    let first = [
-        heap.bytes,
-        heap.bins,
-        heap.donor.0,
-        heap.top.0,
-        heap.merge as u32,
-        heap.used,
-    ];
-    let sizes = heap.sizes;
-    let heads = heap.heads;
-    let tails = heap.tails;
-    let last = [heap.patrol.0];
     let mut words = [0; RECORD_WORDS];
-    copy(&mut words, 0, &first);
-    copy(&mut words, SIZES, &sizes);
-    copy(&mut words, HEADS, &heads);
-    copy(&mut words, TAILS, &tails);
-    copy(&mut words, PATROL, &last);
+    words[BYTES] = heap.bytes;
+    words[BINS] = heap.bins;
+    words[DONOR] = heap.donor.0;
+    words[TOP] = heap.top.0;
+    words[MERGE] = u32::from(heap.merge);
+    words[USED] = heap.used;
+    put(&mut words, SIZES, &heap.sizes);
+    put(&mut words, HEADS, &heap.heads);
+    put(&mut words, TAILS, &heap.tails);
+    words[PATROL] = heap.patrol.0;
     words
 }
 
-// In 64 bits a negative number is raised by 2^32.
-fn twos_complement(change: i32) -> u32
-    ensures { result ≡ complement change }
-{
-    if change >= 0 {
-        return change as u32;
-    }
-    (change as i64 + WORD) as u32
-}
-
+#[tactic(auto, using(crate::proofs::ComplementLaws::complement_is), unfolding(crate::specs::Flat::answer_out, crate::specs::Flat::complement))]
 pub fn answer_words(answer: Answer) -> [u32; ANSWER_WORDS]
     ensures { result ≡ answer_out answer }
 {
     match answer {
         Answer::Done => [0, 0, 0, 0, 0],
-        Answer::Granted(block, change) => [0, block.0, 0, twos_complement(change), 0],
-        Answer::Returned(change) => [0, 0, 0, twos_complement(change), 0],
-        Answer::Told(value) => [0, 0, value, 0, 0],
-        Answer::ToldNone => [0, 0, 0, 0, 1],
+        Answer::Granted(block, change) => [0, block.0, 0, change.cast_unsigned(), 0],
+        Answer::Returned(change) => [0, 0, 0, change.cast_unsigned(), 0],
+        Answer::Told(Some(value)) => [0, 0, value, 0, 0],
+        Answer::Told(None) => [0, 0, 0, 0, 1],
         Answer::Counted(counts) => [0, counts.chunks, counts.ordinary, counts.used, counts.free],
-        Answer::Refused(refusal) => [number(refusal), 0, 0, 0, 0],
+        Answer::Refused(refusal) => [u32::from(refusal), 0, 0, 0, 0],
     }
 }
 
-// The answer alone, of a call that leaves the record as it was.
+// The answer alone, of a call that leaves the record as it was. A refusal is its number, since include/kruzhvela.h has it so.
+#[tactic(auto, using(crate::proofs::HandedLaws::refusal_first))]
 pub fn tell(said: Answer, answer: &mut [u32; ANSWER_WORDS]) -> u32
     ensures { (result ≡ refusal_out said) × (answer.new ≡ answer_out said) }
 {
-    let words = answer_words(said);
-    let refusal = words[0];
-    *answer = words;
-    refusal
+    *answer = answer_words(said);
+    answer[0]
 }
 
-// A record that no setup and no call left, refused as a heap that fails: nothing but the answer is written.
-pub fn refuse_record(answer: &mut [u32; ANSWER_WORDS]) -> u32
-    ensures { (result ≡ 4) × (answer.new ≡ answer_out (Refused HeapFails)) }
+// What `call` replies on the record that the words say. Words with a merge word above 1 no setup and no call left: they are refused
+// as a heap that fails.
+pub fn on_record<F: FnOnce(&mut [u32], Heap) -> Reply>(
+    region: &mut [u32],
+    state: &[u32; RECORD_WORDS],
+    call: F,
+) -> Reply
+    requires { F.IsAlwaysCallable call }
+    ensures { (o : Outcome) → Makes F.FnOnce call region.old (record_in state.now) o → Meets region.old (once_whole state.now o) result region.new }
 {
-    tell(Answer::Refused(Refusal::HeapFails), answer)
+    let heap = unpack(state);
+    if state[MERGE] > 1 {
+        return Reply {
+            answer: Answer::Refused(Refusal::HeapFails),
+            heap,
+        };
+    }
+    call(region, heap)
 }
 
-// A refusal leaves the record's words as they are.
-pub fn hand_back(
-    reply: Reply,
+// A call that may change the record, made and handed back to C. A refusal leaves the record's words as they are.
+// The record and the answer are two pointers in include/kruzhvela.h, and so two parameters of each function.
+pub fn hand_back<F: FnOnce(&mut [u32], Heap) -> Reply>(
+    region: &mut [u32],
     state: &mut [u32; RECORD_WORDS],
     answer: &mut [u32; ANSWER_WORDS],
+    call: F,
 ) -> u32
-    ensures value { result ≡ refusal_out reply.answer }
-    ensures answer_after { answer.new ≡ answer_out reply.answer }
-    ensures state_after { state.new ≡ flat_after state.old reply.answer reply.heap }
+    requires { F.IsAlwaysCallable call }
+    ensures { (o : Outcome) → Makes F.FnOnce call region.old (record_in state.old) o → handed result answer.new state.new region.new ≡ handed_by region.old state.old o }
 {
-    let after = reply.heap;
-    let said = reply.answer;
-    let words = answer_words(said);
-    let refusal = words[0];
-    *answer = words;
-    if refusal != 0 {
-        return refusal;
+    let reply = on_record(region, state, call);
+    let refusal = tell(reply.answer, answer);
+    if refusal == 0 {
+        *state = pack(reply.heap);
     }
-    *state = pack(after);
     refusal
 }

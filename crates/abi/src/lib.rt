@@ -16,12 +16,12 @@ ghost use Rattle.rules.specs.Reallocate.{reallocate};
 ghost use Rattle.rules.specs.Setup.{setup};
 
 use crate::flat::{
-    BYTES, HEADS, MERGE, PATROL, SIZES, TAILS, answer_words, hand_back, pack, refuse_record, tell,
-    unpack, unpack_summary,
+    BYTES, HEADS, MERGE, PATROL, SIZES, TAILS, hand_back, on_record, pack, tell, unpack_summary,
 };
 use audit::arrays::Arrays;
 use audit::{answer_of, look};
 use patrol::tour;
+use record::answers::{Answer, Refusal};
 use region::{Block, Chunk};
 
 mod flat;
@@ -44,12 +44,8 @@ pub fn kz_setup(
     ensures { handed result answer.new state.new region.new ≡ opened_by region.old (setup region.old table.now donor merge) }
 {
     let reply = heap::setup(region, table, donor, merge);
-    let after = reply.heap;
-    let said = reply.answer;
-    let words = answer_words(said);
-    *state = pack(after);
-    *answer = words;
-    words[0]
+    *state = pack(reply.heap);
+    tell(reply.answer, answer)
 }
 
 pub fn kz_allocate(
@@ -60,12 +56,12 @@ pub fn kz_allocate(
 ) -> u32
     ensures { handed result answer.new state.new region.new ≡ handed_by region.old state.old (allocate region.old (record_in state.old) z) }
 {
-    if state[MERGE] > 1 {
-        return refuse_record(answer);
-    }
-    let heap = unpack(*state);
-    let reply = heap::allocate(region, heap, z);
-    hand_back(reply, state, answer)
+    hand_back(
+        region,
+        state,
+        answer,
+        |region, heap| heap::allocate(region, heap, z),
+    )
 }
 
 pub fn kz_allocate_cleared(
@@ -77,12 +73,12 @@ pub fn kz_allocate_cleared(
 ) -> u32
     ensures { handed result answer.new state.new region.new ≡ handed_by region.old state.old (allocate_cleared region.old (record_in state.old) count size) }
 {
-    if state[MERGE] > 1 {
-        return refuse_record(answer);
-    }
-    let heap = unpack(*state);
-    let reply = heap::allocate_cleared(region, heap, count, size);
-    hand_back(reply, state, answer)
+    hand_back(
+        region,
+        state,
+        answer,
+        |region, heap| heap::allocate_cleared(region, heap, count, size),
+    )
 }
 
 pub fn kz_free(
@@ -93,12 +89,12 @@ pub fn kz_free(
 ) -> u32
     ensures { handed result answer.new state.new region.new ≡ handed_by region.old state.old (free region.old (record_in state.old) block) }
 {
-    if state[MERGE] > 1 {
-        return refuse_record(answer);
-    }
-    let heap = unpack(*state);
-    let reply = heap::free(region, heap, Block(block));
-    hand_back(reply, state, answer)
+    hand_back(
+        region,
+        state,
+        answer,
+        |region, heap| heap::free(region, heap, Block(block)),
+    )
 }
 
 pub fn kz_reallocate(
@@ -110,12 +106,12 @@ pub fn kz_reallocate(
 ) -> u32
     ensures { handed result answer.new state.new region.new ≡ handed_by region.old state.old (reallocate region.old (record_in state.old) block z) }
 {
-    if state[MERGE] > 1 {
-        return refuse_record(answer);
-    }
-    let heap = unpack(*state);
-    let reply = heap::reallocate(region, heap, Block(block), z);
-    hand_back(reply, state, answer)
+    hand_back(
+        region,
+        state,
+        answer,
+        |region, heap| heap::reallocate(region, heap, Block(block), z),
+    )
 }
 
 pub fn kz_set_merge(
@@ -126,12 +122,12 @@ pub fn kz_set_merge(
 ) -> u32
     ensures { handed result answer.new state.new region.new ≡ handed_by region.old state.old (set_merge region.old (record_in state.old) on) }
 {
-    if state[MERGE] > 1 {
-        return refuse_record(answer);
-    }
-    let heap = unpack(*state);
-    let reply = heap::set_merge(region, heap, on);
-    hand_back(reply, state, answer)
+    hand_back(
+        region,
+        state,
+        answer,
+        |region, heap| heap::set_merge(region, heap, on),
+    )
 }
 
 // The check is lent the record's arrays where they stand in the words, so that it copies none of them.
@@ -143,7 +139,7 @@ pub fn kz_check(
     ensures { handed result answer.new state.new region.new ≡ handed_by region.old state.old (check region.old (record_in state.old)) }
 {
     if state[MERGE] > 1 {
-        return refuse_record(answer);
+        return tell(Answer::Refused(Refusal::HeapFails), answer);
     }
     let summary = unpack_summary(state);
     let words = &state[..];
@@ -165,13 +161,12 @@ pub fn kz_ask_chunk(
 ) -> u32
     ensures { handed result answer.new state.new region.new ≡ handed_by region.old state.old (ask_chunk region.old (record_in state.old) question place) }
 {
-    if state[MERGE] > 1 {
-        return refuse_record(answer);
-    }
-    let heap = unpack(*state);
-    let reply = heap::ask_chunk(region, heap, question, place);
-    let said = reply.answer;
-    tell(said, answer)
+    let reply = on_record(
+        region,
+        state,
+        |region, heap| heap::ask_chunk(region, heap, question, place),
+    );
+    tell(reply.answer, answer)
 }
 
 pub fn kz_ask_bin(
@@ -183,13 +178,12 @@ pub fn kz_ask_bin(
 ) -> u32
     ensures { handed result answer.new state.new region.new ≡ handed_by region.old state.old (ask_bin region.old (record_in state.old) question bin) }
 {
-    if state[MERGE] > 1 {
-        return refuse_record(answer);
-    }
-    let heap = unpack(*state);
-    let reply = heap::ask_bin(region, heap, question, bin);
-    let said = reply.answer;
-    tell(said, answer)
+    let reply = on_record(
+        region,
+        state,
+        |region, heap| heap::ask_bin(region, heap, question, bin),
+    );
+    tell(reply.answer, answer)
 }
 
 // Of the record the patrol reads the heap bytes and its own place, and writes its place: no other word decides or changes.
@@ -202,7 +196,6 @@ pub fn kz_patrol(
     ensures { handed result answer.new state.new region.new ≡ patrolled_by region.old state.old (patrol region.old (record_in state.old) chunks) }
 {
     let toured = tour(region, state[BYTES], Chunk(state[PATROL]), chunks);
-    let said = toured.answer;
     state[PATROL] = toured.place.0;
-    tell(said, answer)
+    tell(toured.answer, answer)
 }

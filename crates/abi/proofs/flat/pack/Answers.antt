@@ -1,0 +1,8 @@
+-- `flat::pack` puts the record's parts one after the other. Assumes nothing.
+use Rattle.std.proofs.Common.{rules}
+use Rattle.abi.proofs.FlatLaws.{packed}
+use Rattle.abi.proofs.flat.pack.Goals as goal
+
+pub returns : goal.returns
+returns c =
+    packed c.args.heap c.from.result _ _ _ c.from.ensures (search rules) (search rules) (search rules) c.put.ensures c.put-2.ensures c.put-3.ensures
