@@ -6,7 +6,6 @@ ghost use Rattle.std.specs.Prelude.{◌≡◌};
 ghost use Rattle.audit.specs.Audit.{AuditIs, WalkedIs, answer_of, is_settled_m, is_shared_m};
 ghost use Rattle.chain.specs.Length.{Lent};
 ghost use Rattle.record.specs.Heap.{record_of};
-ghost use Rattle.record.specs.Table.{ValidTable};
 ghost use Rattle.rules.specs.Check.{passes};
 ghost use Rattle.rules.specs.Merge.{checked};
 
@@ -15,6 +14,7 @@ use chain::length::fits_length;
 use marks::Marks;
 use record::answers::{Answer, Counts, Refusal};
 use record::heap::{Heap, Summary};
+use record::table::Table;
 use region::END_SIZE;
 use survey::{Tally, walk};
 use sweep::{Lists, Marked, sweep_bins};
@@ -42,9 +42,8 @@ pub fn is_shared(free: u32, summary: Summary) -> bool
 
 // The two walks, on the even part of the region: the counts, if all is well.
 pub fn walk_all(region: &[u32], lists: Lists<'_>, summary: Summary) -> Option<Counts>
-    requires lent { Lent region.now summary.bytes }
-    requires valid_table { ValidTable lists.table.now }
-    ensures { WalkedIs region.now lists.entry.table.now lists.entry.heads.now lists.entry.tails.now summary result }
+    requires { Lent region.now summary.bytes }
+    ensures { WalkedIs region.now lists.entry.table.sizes.now lists.entry.heads.now lists.entry.tails.now summary result }
 {
     let mut marks = Marks::clear();
     let tally = walk(region, summary, &mut marks)?;
@@ -85,7 +84,9 @@ pub fn look(region: &[u32], summary: Summary, arrays: Arrays<'_>) -> Option<Coun
     }
     let even = (summary.bytes / 4) as usize;
     let lists = Lists {
-        table: &arrays.sizes[..bins],
+        table: Table {
+            sizes: &arrays.sizes[..bins],
+        },
         heads: arrays.heads,
         tails: arrays.tails,
     };

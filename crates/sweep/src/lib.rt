@@ -5,12 +5,12 @@
 
 ghost use Rattle.std.specs.Prelude.{◌≡◌, ◌+◌, ◌-◌, ◌/◌, ◌^◌, ◌<◌, ◌≤◌, length, nat_lt};
 ghost use Rattle.chain.specs.Length.{Lent};
-ghost use Rattle.record.specs.Table.{ValidTable};
 ghost use Rattle.region.specs.Words.{word, size, bin};
 ghost use Rattle.sweep.specs.Sweep.{sizes_m, says_listed_m, NextListed, SweptIs, SweepIs};
 
 use bins::bin_word;
 use marks::{Marks, number_of};
+use record::table::Table;
 use region::{ALIGNMENT, BIN, Chunk, LEAST, NEXT_IN_BIN, PREVIOUS_IN_BIN, SIZE};
 
 // A header takes three times 8 bytes: a chunk with a number this far below the end, or less, has no room for one.
@@ -28,18 +28,18 @@ pub struct Sizes {
 
 // What it asks of the first member. The table is read once for a list, not for each member. No bin follows the last one, and so every word
 // from its size on is one of its sizes.
-fn sizes_of(table: &[u32], bin: usize) -> Sizes
-    requires valid_table { ValidTable table.now }
-    requires bin_in_bounds { bin < length table.now }
-    ensures value { result ≡ sizes_m table.now bin }
+fn sizes_of(table: Table<'_>, bin: usize) -> Sizes
+    requires { bin < length table.sizes.now }
+    ensures value { result ≡ sizes_m table.entry.sizes.now bin }
     ensures least_le_most { result.least ≤ result.most }
 {
+    let sizes = table.sizes;
     let next = bin + 1;
     Sizes {
         word: bin_word(bin),
-        least: table[bin],
-        most: if next < table.len() {
-            table[next] - 1
+        least: sizes[bin],
+        most: if next < sizes.len() {
+            sizes[next] - 1
         } else {
             u32::MAX
         },
@@ -81,11 +81,11 @@ pub struct Marked<'a> {
 // The table, and for each of its bins both ends of its list.
 #[derive(Clone, Copy)]
 pub struct Lists<'a> {
-    pub table: &'a [u32],
+    pub table: Table<'a>,
     pub heads: &'a [u32],
     pub tails: &'a [u32],
-    pub ghost enough_heads: { length table.now ≤ length heads.now },
-    pub ghost enough_tails: { length table.now ≤ length tails.now },
+    pub ghost enough_heads: { length table.sizes.now ≤ length heads.now },
+    pub ghost enough_tails: { length table.sizes.now ≤ length tails.now },
 }
 
 impl Lists<'_> {
@@ -95,7 +95,7 @@ impl Lists<'_> {
     fn next_listed(self, from: usize) -> usize
         ensures { NextListed self.entry.heads.now self.entry.tails.now from result }
     {
-        let count = self.table.len();
+        let count = self.table.sizes.len();
         for bin in from..count {
             if self.heads[bin] | self.tails[bin] != 0 {
                 return bin;
@@ -115,10 +115,9 @@ pub struct Members {
 // The members of a list that is whole.
 // No list has more members than there are heap bytes, so that a ring of links is found when these are used up.
 // The loop goes along links, so that a range would only count, and the end of the list would be tested in two places.
-pub fn sweep_list(marked: Marked<'_>, table: &[u32], bin: usize, first: u32) -> Option<Members>
-    requires valid_table { ValidTable table.now }
-    requires bin_in_bounds { bin < length table.now }
-    ensures { SweptIs marked.entry.region.now table.now bin marked.entry.bytes marked.entry.marks.now.words first result }
+pub fn sweep_list(marked: Marked<'_>, table: Table<'_>, bin: usize, first: u32) -> Option<Members>
+    requires { bin < length table.sizes.now }
+    ensures { SweptIs marked.entry.region.now table.entry.sizes.now bin marked.entry.bytes marked.entry.marks.now.words first result }
 {
     let region = marked.region;
     let mut sizes = sizes_of(table, bin);
@@ -157,12 +156,11 @@ pub fn sweep_list(marked: Marked<'_>, table: &[u32], bin: usize, first: u32) -> 
 
 // How many members all lists have, if every one is whole and ends at its tail.
 pub fn sweep_bins(marked: Marked<'_>, lists: Lists<'_>) -> Option<u32>
-    requires { ValidTable lists.table.now }
-    ensures { SweepIs marked.entry.region.now lists.entry.table.now lists.entry.heads.now lists.entry.tails.now marked.entry.bytes marked.entry.marks.now.words result }
+    ensures { SweepIs marked.entry.region.now lists.entry.table.sizes.now lists.entry.heads.now lists.entry.tails.now marked.entry.bytes marked.entry.marks.now.words result }
 {
     let mut met: u32 = 0;
     let mut bin = lists.next_listed(0);
-    while bin < lists.table.len() {
+    while bin < lists.table.sizes.len() {
         let members = sweep_list(marked, lists.table, bin, lists.heads[bin])?;
         if lists.tails[bin] != members.last {
             return None;

@@ -19,8 +19,8 @@ slice_bounds-lists-end c = sym (length-take-le _ _ (lent_table _ _ _ _ (sym c.is
 pub slice_bounds-walk_all-end : goal.slice_bounds-walk_all-end
 slice_bounds-walk_all-end c = sym (length-take-le _ _ (lent_words _ _ (sym c.fits_length.ensures ∙ c.if-not-fits_length.false)))
 
-pub walk_all-requires-clause-lent : goal.walk_all-requires-clause-lent
-walk_all-requires-clause-lent c = lent_even _ _ (sym c.fits_length.ensures ∙ c.if-not-fits_length.false)
+pub walk_all-requires : goal.walk_all-requires
+walk_all-requires c = lent_even _ _ (sym c.fits_length.ensures ∙ c.if-not-fits_length.false)
 
 pub walk_all-requires-clause-valid_table : goal.walk_all-requires-clause-valid_table
 walk_all-requires-clause-valid_table c = (lent_table _ _ _ _ (sym c.is_tabled.ensures ∙ c.if-not-is_tabled.false)).1

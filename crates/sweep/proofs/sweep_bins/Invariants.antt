@@ -5,7 +5,7 @@ use Rattle.sweep.proofs.sweep_bins.Given as goal
 
 abbrev pub invariant-loop-bin : goal.invariant-loop-bin
 invariant-loop-bin l =
-    Sweeping l.marked.region.now l.lists.table.now l.lists.heads.now l.lists.tails.now l.marked.bytes l.marked.marks.now.words l.bin l.met
+    Sweeping l.marked.region.now l.lists.table.sizes.now l.lists.heads.now l.lists.tails.now l.marked.bytes l.marked.marks.now.words l.bin l.met
 
 abbrev pub decreases-loop-bin : goal.decreases-loop-bin
-decreases-loop-bin l = length l.lists.table.now - l.bin
+decreases-loop-bin l = length l.lists.table.sizes.now - l.bin

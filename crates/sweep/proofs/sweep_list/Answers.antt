@@ -36,7 +36,7 @@ returns-then-not-is_marked c =
 -- what the three tests of a member come to
 tested : (c : After-is_listed)
     → let m = c.args.marked in
-    Tested m.region.now c.args.table.now c.args.bin m.bytes m.marks.now.words c.loop-at.before c.loop-at.sizes.least c.loop-at.at c.is_listed.result
+    Tested m.region.now c.args.table.sizes.now c.args.bin m.bytes m.marks.now.words c.loop-at.before c.loop-at.sizes.least c.loop-at.at c.is_listed.result
 tested c =
     by_words c.args.marked.lent c.loop-at.at c.number_of-number.ensures c.is_placed.ensures c.if-not-is_placed.false _ c.is_marked.ensures
     c.if-not-is_marked.false c.loop-at.invariant.1 c.is_listed.ensures.value
@@ -55,7 +55,7 @@ loop-at-preserved c =
     let less : c.args.marked.bytes - (c.loop-at.count + 1) ≡ c.args.marked.bytes - c.loop-at.count - 1 = omega arith in (
       rw less
           (combing_goes combs c.loop-at-test.true (some_left c.loop-at.invariant.2 c.if-count-marked.false) (tested (goal.at.loop-at-preserved c).After-is_listed) c.if-not-is_listed.false
-          c.requires.valid_table c.requires.bin_in_bounds asks.from up says.size_bound refl refl),
+          c.args.table.valid c.requires asks.from up says.size_bound refl refl),
       asks_on asks _ up,
       omega (arith, within, c.if-count-marked.false),
     )

@@ -7,8 +7,8 @@ use Rattle.sweep.proofs.sweep_list.Given as goal
 abbrev pub invariant-loop-at : goal.invariant-loop-at
 invariant-loop-at l =
     let m = l.marked in
-    Combing l.region l.table l.bin m.bytes m.marks.now.words l.first l.at l.before l.sizes.least (m.bytes - l.count)
-    × Asks l.table l.bin l.sizes
+    Combing l.region l.table.sizes.now l.bin m.bytes m.marks.now.words l.first l.at l.before l.sizes.least (m.bytes - l.count)
+    × Asks l.table.sizes.now l.bin l.sizes
     × (l.count ≤ m.bytes)
 
 abbrev pub decreases-loop-at : goal.decreases-loop-at

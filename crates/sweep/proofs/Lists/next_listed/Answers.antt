@@ -12,8 +12,8 @@ pub loop-bin-preserved : goal.loop-bin-preserved
 loop-bin-preserved c = one_passed c.loop-bin.invariant c.if-self-bin-ne0.false
 
 pub returns : goal.returns
-returns c = go (dec_le c.args.from (length c.args.self.table.now))
+returns c = go (dec_le c.args.from (length c.args.self.table.sizes.now))
   where
-    go : Dec (c.args.from ≤ length c.args.self.table.now) → NextListed c.args.self.heads.now c.args.self.tails.now c.args.from c.max.result
+    go : Dec (c.args.from ≤ length c.args.self.table.sizes.now) → NextListed c.args.self.heads.now c.args.self.tails.now c.args.from c.max.result
     go (yes l) = let e : c.max.result ≡ c.loop-bin.bin = omega (arith, c.loop-bin.auto.bin-end) in rw e c.loop-bin.invariant
     go (no n) = let e : c.max.result ≡ c.args.from = omega arith in rw e nothing_passed
