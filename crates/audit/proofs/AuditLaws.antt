@@ -3,11 +3,11 @@ use mathlib.Core.Path.{◌≡◌, refl, sym, ◌∙◌, ap, subst}
 use mathlib.Core.Bool.{Bool, true, false, ◌&&◌}
 use mathlib.Core.List.{List}
 use Rattle.std.proofs.Common.{Option, Some, None}
-use Prim.Native.Nat.{ℕ, zero, suc, ◌≤◌, ◌<◌}
+use Prim.Native.Nat.{ℕ, zero, suc, ◌<◌}
 use native.Mathlib.Omega.{arith}
 use lib.Bits.{bit_or, or_add_and, and_le_r}
 use lib.Dec.{eqb}
-use lib.ListN.{length, get_or, drop_of_length-le}
+use lib.ListN.{length, get_or}
 use lib.Seq.{drop-cons}
 use borrow.Author.Tests.{eq-eqb, ne_eqb}
 use Rattle.lists.specs.Lists.{numbers_from}
@@ -70,14 +70,6 @@ module _ (sizes heads tails : List ℕ) (p : HasPlaces sizes heads tails) (i : �
       )
       (array_by_array (eqb seen 0) (eqb (get_or sizes i 0) 0) (eqb (get_or heads i 0) 0) (eqb (get_or tails i 0) 0) (unused_from (suc i) sizes)
       (unused_from (suc i) heads) (unused_from (suc i) tails))
-
-  pub unused_ends : places ≤ i → unused_all i sizes heads tails ≡ true
-  unused_ends h =
-      rw (
-        drop_of_length-le sizes {i = i} (omega (arith, p.size_places)),
-        drop_of_length-le heads {i = i} (omega (arith, p.head_places)),
-        drop_of_length-le tails {i = i} (omega (arith, p.tail_places)),
-      )
 
 -- the walk of the chain came through with the tally t and the marks ms, and passed the tests that follow it, of the tally and of the used bytes
 pub record WalkedChain (ws : List ℕ) (s : Summary) (t : Tally) (ms : List ℕ) : Type 0 where
