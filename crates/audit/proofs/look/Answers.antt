@@ -22,8 +22,9 @@ slice_bounds-walk_all-end c = sym (length-take-le _ _ (lent_words _ _ (sym c.fit
 pub walk_all-requires : goal.walk_all-requires
 walk_all-requires c = lent_even _ _ (sym c.fits_length.ensures ∙ c.if-not-fits_length.false)
 
-pub walk_all-requires-clause-valid_table : goal.walk_all-requires-clause-valid_table
-walk_all-requires-clause-valid_table c = (lent_table _ _ _ _ (sym c.is_tabled.ensures ∙ c.if-not-is_tabled.false)).1
+pub invariant_of-lists : goal.invariant_of-lists
+invariant_of-lists c =
+    record { valid = (lent_table _ _ _ _ (sym c.is_tabled.ensures ∙ c.if-not-is_tabled.false)).1 }
 
 pub returns : goal.returns
 returns c =
