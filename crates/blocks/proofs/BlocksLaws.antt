@@ -1,28 +1,14 @@
 -- Clearing and copying, a word at a time. Assumes nothing.
-use mathlib.Core.Path.{◌≡◌, refl, sym, ap, ◌∙◌}
-use mathlib.Core.List.{List, ◌++◌, append-nil}
+use mathlib.Core.Path.{◌≡◌}
+use mathlib.Core.List.{List, ◌++◌}
 use Prim.Native.Nat.{ℕ, suc, ◌+◌, ◌-◌, ◌/◌, ◌≤◌, ◌<◌}
 use native.Mathlib.Numerals.{add-one}
 use native.Mathlib.Omega.{arith}
-use lib.ListN.{length, take, drop, set, replicate, length-drop, length-replicate, replicate-append-replicate, drop_of_length-le}
-use lib.Seq.{length-take-le, drop-cons, set_at, append_snoc}
+use lib.ListN.{length, take, drop, replicate, length-drop}
+use lib.Seq.{length-take-le}
 use borrow.Author.Tests.{le-leb, lt-leb}
 use Rattle.region.specs.Words.{word, store}
 use Rattle.blocks.specs.Blocks.{cleared_m, copied_m}
-
--- the first i words are 0
-module _ (ws : List ℕ) (i : ℕ) where
-  pub clears_one : i < length ws → set (replicate i 0 ++ drop i ws) i 0 ≡ replicate (i + 1) 0 ++ drop (i + 1) ws
-  clears_one l =
-      ap (λ (r : List ℕ). set (replicate i 0 ++ r) i 0) (drop-cons ws i 0 l)
-      ∙ set_at (replicate {A = ℕ} i 0) _ (drop (suc i) ws) 0 i (length-replicate {A = ℕ} i 0)
-      ∙ sym (append_snoc (replicate i 0) 0 (drop (suc i) ws))
-      ∙ rw (replicate-append-replicate {A = ℕ} i 1 0, add-one i) refl
-
-  pub clears_all : length ws ≤ i → i ≤ length ws → replicate i 0 ++ drop i ws ≡ replicate (length ws) 0
-  clears_all m l =
-      let e : i ≡ length ws = omega arith in
-      rw (drop_of_length-le ws m, append-nil (replicate {A = ℕ} i 0), e) refl
 
 module _ (ws : List ℕ) (b end : ℕ) where
   pub cleared_backwards : end / 4 < b / 4 → ws ≡ cleared_m ws b end

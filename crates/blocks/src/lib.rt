@@ -9,13 +9,12 @@ use region::{Block, Chunk, OVERHEAD, store, word};
 // The first word of a block, by its number in the chunk: it follows the two links.
 const FIRST_WORD: u32 = OVERHEAD / 4;
 
+// A loop and not `fill`: that has a trap in it, which `tools/portable` refuses.
 fn clear(words: &mut [u32])
     ensures { words.new ≡ replicate (length words.old) 0 }
 {
-    let mut i = 0;
-    while i < words.len() {
-        words[i] = 0;
-        i += 1;
+    for value in words {
+        *value = 0;
     }
 }
 
@@ -35,13 +34,12 @@ pub fn clear_block(region: &mut [u32], block: Block, end: u32)
 }
 
 // The block of the chunk `from`, which has so many words with its two links, to the beginning of the block of the chunk `to`.
+// Word by word and not by `copy_within`: where the two overlap or leave the region, `copied_m` says what this loop does.
 pub fn copy_block(region: &mut [u32], from: Chunk, to: Chunk, words: u32)
     ensures { region.new ≡ copied_m (words - 2) region.old from.0 to.0 2 }
 {
-    let mut number = FIRST_WORD;
-    while number < words {
+    for number in FIRST_WORD..words {
         let value = word(region, from, number);
         store(region, to, number, value);
-        number += 1;
     }
 }
