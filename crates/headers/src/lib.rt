@@ -13,10 +13,11 @@ use region::{BACKWARD, BIN, Chunk, FORWARD, IN_USE, NEXT_IN_BIN, PREVIOUS_IN_BIN
 pub fn distance(from: u32, to: u32) -> u32
     ensures { result ≡ to - from }
 {
-    if from <= to { to - from } else { 0 }
+    to.saturating_sub(from)
 }
 
 // The first three words of a free chunk, which reaches up to the next one.
+#[tactic(auto, unfolding(crate::specs::Headers::free_words))]
 pub fn write_free(region: &mut [u32], before: Chunk, chunk: Chunk, next: Chunk)
     ensures { region.new ≡ written region.old (free_words before.0 chunk.0 next.0) }
 {
@@ -35,26 +36,18 @@ pub fn write_no_bin(region: &mut [u32], chunk: Chunk)
 }
 
 // The two words of a chunk in use, which reaches up to the next one.
+#[tactic(auto, unfolding(crate::specs::Headers::used_words))]
 pub fn write_used(region: &mut [u32], before: Chunk, chunk: Chunk, next: Chunk)
     ensures { region.new ≡ written region.old (used_words before.0 chunk.0 next.0) }
 {
     store(region, chunk, FORWARD, next.0);
-    store(
-        region,
-        chunk,
-        BACKWARD,
-        std::num::wrapping_add_u32(before.0, IN_USE),
-    );
+    store(region, chunk, BACKWARD, before.0.wrapping_add(IN_USE));
 }
 
 // The chunk above names this one, and keeps its flags.
+#[tactic(auto, unfolding(crate::specs::Headers::above_words))]
 pub fn write_above(region: &mut [u32], chunk: Chunk, above: Chunk, flags: u32)
     ensures { region.new ≡ written region.old (above_words chunk.0 above.0 flags) }
 {
-    store(
-        region,
-        above,
-        BACKWARD,
-        std::num::wrapping_add_u32(chunk.0, flags),
-    );
+    store(region, above, BACKWARD, chunk.0.wrapping_add(flags));
 }
