@@ -2,8 +2,8 @@
 use Rattle.std.proofs.Common.{◌≡◌, ℕ, ◌+◌, ◌-◌, ◌%◌, ◌^◌, ◌≤◌, arith, eq-eqb, ne_eqb}
 use native.Mathlib.Decide.{ℕ_discrete}
 use Rattle.rules.specs.Setup.{first_headers}
-use Rattle.headers.specs.Headers.{free_words}
-use Rattle.fresh.specs.FirstHeaders.{start_words, end_words, words_without_donor, words_with_donor, first_words}
+use Rattle.headers.specs.Headers.{free_words, used_words}
+use Rattle.fresh.specs.FirstHeaders.{first_donor_m, free_chunks_words, first_words}
 
 module _ (bytes donor : ℕ) (room : donor + 40 ≤ bytes) (few : bytes ≤ 65536) where
   -- the top ends where the end chunk is, and that one's link back, with its flag, is a word
@@ -13,12 +13,12 @@ module _ (bytes donor : ℕ) (room : donor + 40 ≤ bytes) (few : bytes ≤ 6553
   end_names : (8 + donor + 1) % 2 ^ 32 ≡ 8 + donor + 1
   end_names = omega arith
 
-  first_case : Dec (donor ≡ 0) → first_words donor (8 + donor) (bytes - 8) ≡ first_headers bytes donor
-  unfolding first_words words_without_donor words_with_donor start_words free_words end_words
+  first_case : Dec (donor ≡ 0) → first_words (first_donor_m donor) (8 + donor) (bytes - 8) ≡ first_headers bytes donor
+  unfolding first_donor_m first_words free_chunks_words free_words used_words
   first_case (yes e) = rw (eq-eqb donor 0 e, top_ends, end_names)
   first_case (no ne) =
       let size : 8 + donor - 8 ≡ donor = omega arith in
       rw (ne_eqb donor 0 ne, top_ends, end_names, size)
 
-  pub first_words_lem : first_words donor (8 + donor) (bytes - 8) ≡ first_headers bytes donor
+  pub first_words_lem : first_words (first_donor_m donor) (8 + donor) (bytes - 8) ≡ first_headers bytes donor
   first_words_lem = first_case (ℕ_discrete donor 0)

@@ -1,32 +1,27 @@
--- The table in a record of zeros, size by size as the code copies it; where its sizes are few enough, the record is the rule's (`fresh_is`).
+-- The table in a record of zeros; where its sizes are few enough, the record is the rule's (`fresh_is`).
 -- Assumes nothing.
-use Rattle.std.proofs.Common.{◌≡◌, ℕ, zero, suc, ◌+◌, ◌-◌, ◌<◌, ◌≤◌, min, Bool, List, ◌++◌, length, get_or, take, drop, set, replicate, append_assoc, add-one, arith, drop_of_length-le, length-take-le, take_all, drop-cons, take-suc}
+use Rattle.std.proofs.Common.{◌≡◌, ℕ, zero, suc, ◌+◌, ◌-◌, ◌≤◌, min, Bool, true, false, cond, List, ◌++◌, length, take, drop, replicate, arith, drop_of_length-le, take_all, refl}
+use lib.Dec.{eqb}
+use native.Mathlib.Decide.{dec_le}
 use native.Mathlib.Nat.{zero-sub}
 use native.Mathlib.Numerals.{unary_clauses}
-use lib.Seq.{set_at}
+use Rattle.std.specs.Option.{unwrap_or}
+use Rattle.std.specs.Prelude.{Some, None}
+use Rattle.record.specs.Heap.{at, zeros}
 use Rattle.rules.specs.Setup.{fresh}
-use Rattle.fresh.specs.FirstHeaders.{padded_m, donor_place_m, fresh_m}
+use Rattle.fresh.specs.FirstHeaders.{first_donor_m, fresh_m, padded_m}
 
--- one more size of t copied over z
-module _ (t z : List ℕ) (i : ℕ) (h : i < length t) (k : i < length z) where
-  pub copies_one : set (take i t ++ drop i z) i (get_or t i 0) ≡ take (i + 1) t ++ drop (i + 1) z
-  copies_one =
-      rw (
-        add-one,
-        drop-cons z i 0 k,
-        set_at (take i t) (get_or z i 0) (drop (suc i) z) (get_or t i 0) i (length-take-le i t (omega arith)),
-        take-suc t i 0 h,
-        append_assoc,
-      )
-
--- where the copying ends: at the last place, and at the end of the table
-module _ (t z : List ℕ) (i : ℕ) where
-  pub copies_fill : i ≡ length z → i ≤ length t → take i t ++ drop i z ≡ take (length z) t ++ drop (length t) z
-  copies_fill e h =
-      rw (drop_of_length-le z {i = length t} (omega arith), drop_of_length-le z {i = i} (omega arith), e)
-
-  pub copies_all : i ≡ length t → i ≤ length z → take i t ++ drop i z ≡ take (length z) t ++ drop (length t) z
-  copies_all e h = rw (take_all (length z) t (omega arith), take_all i t (omega arith), e)
+-- as many sizes as there are places for, or all of them, and zeros after them
+pub kept_is : (t : List ℕ) → take (min (length t) 32) t ++ drop (min (length t) 32) zeros ≡ take 32 t ++ drop (length t) zeros
+kept_is t = go (dec_le (length t) 32)
+  where
+    go : Dec (length t ≤ 32) → take (min (length t) 32) t ++ drop (min (length t) 32) zeros ≡ take 32 t ++ drop (length t) zeros
+    go (yes l) =
+        let e : min (length t) 32 ≡ length t = omega arith in
+        rw (e, take_all 32 t l, take_all (length t) t (omega arith))
+    go (no n) =
+        let e : min (length t) 32 ≡ 32 = omega arith in
+        rw (e, drop_of_length-le zeros {i = length t} (omega arith))
 
 drop_replicate : (n m : ℕ) (a : ℕ) → drop n (replicate m a) ≡ replicate (m - n) a
 drop_replicate zero m a = simp unary_clauses
@@ -39,8 +34,12 @@ padded_few t h = rw (take_all 32 t h, drop_replicate (length t) 32 0)
 
 -- the code's record is the rule's
 pub fresh_is : (bytes : ℕ) (t : List ℕ) (donor : ℕ) (merge : Bool) → length t ≤ 32
-    → fresh_m bytes t donor (8 + donor) merge ≡ fresh bytes t donor merge
-unfolding fresh_m donor_place_m
+    → fresh_m bytes t (first_donor_m donor) (8 + donor) merge ≡ fresh bytes t donor merge
+unfolding fresh_m first_donor_m
 fresh_is bytes t donor merge h =
     let bins : min (length t) 32 ≡ length t = omega arith in
-    rw (bins, padded_few t h)
+    rw (bins, padded_few t h, donor_is (eqb donor 0))
+  where
+    donor_is : (none : Bool) → unwrap_or (cond none None (Some (at 8))) (at 0) ≡ at (cond none 0 8)
+    donor_is true = refl
+    donor_is false = refl
