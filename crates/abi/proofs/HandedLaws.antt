@@ -7,10 +7,13 @@ use Rattle.std.proofs.Common.{Option}
 use Prim.Native.Nat.{ℕ, ◌<◌, ◌≤◌}
 use lib.Dec.{eqb, leb, ltb}
 use lib.ListN.{length, get_or, set, take, drop}
+use lib.Seq.{set-get_or}
+use Rattle.std.specs.Prelude.{Ok, Err}
 use borrow.Author.Tests.{eq-eqb, ne_eqb, le-leb, leb-true, lt-leb}
 use Rattle.record.specs.declared.answers.Answer.{Answer}
 use Rattle.record.specs.declared.answers.Answer.TheVariants.{Done, Granted, Returned, Told, Counted, Refused}
 use Rattle.record.specs.declared.answers.Counts.{Counts}
+use Rattle.record.specs.declared.answers.Refusal.{Refusal}
 use Rattle.record.specs.declared.answers.Refusal.TheVariants.{HeapFails}
 use Rattle.record.specs.declared.answers.Reply.{Reply}
 use Rattle.record.specs.declared.heap.Heap.{Heap}
@@ -158,10 +161,26 @@ unfolding opened_by
 opens ws o reply m (n, e) p =
     rw (sym (ap (λ (x : Left). x.answer) m), sym (ap (λ (x : Left). x.heap) m), sym (ap (λ (x : Left). x.words) m), n, e, p) refl
 
--- the patrol hands back its place in the record's words
-pub patrols : (ws rs : List ℕ) (o : Outcome) (h : Heap) {t : Toured} {after five : List ℕ} {r : ℕ} → leaving h t after ≡ left_by ws o
-    → (r ≡ refusal_out t.answer) × (five ≡ answer_out t.answer)
-    → handed r five (set rs patrol_place t.place.0) after ≡ patrolled_by ws rs o
-unfolding patrolled_by
-patrols ws rs o h m (n, e) =
-    rw (sym (ap (λ (x : Left). x.answer) m), sym (ap (λ (x : Left). x.heap.patrol.0) m), sym (ap (λ (x : Left). x.words) m), n, e) refl
+-- the patrol hands back its place in the record's words; where it is refused, they stay
+module _ (ws rs : List ℕ) (o : Outcome) (h : Heap) where
+  pub patrols : {t : Toured} {after five : List ℕ} {r : ℕ} → leaving h (Ok t) after ≡ left_by ws o
+      → (r ≡ refusal_out t.answer) × (five ≡ answer_out t.answer)
+      → handed r five (set rs patrol_place t.place.0) after ≡ patrolled_by ws rs o
+  unfolding patrolled_by
+  patrols m (n, e) =
+      rw (sym (ap (λ (x : Left). x.answer) m), sym (ap (λ (x : Left). x.heap.patrol.0) m), sym (ap (λ (x : Left). x.words) m), n, e) refl
+
+  pub patrol_refused : h.patrol.0 ≡ get_or rs patrol_place 0 → {e : Refusal} {after five : List ℕ} {r : ℕ}
+      → leaving h (Err e) after ≡ left_by ws o → (r ≡ refusal_out (Refused e)) × (five ≡ answer_out (Refused e))
+      → handed r five rs after ≡ patrolled_by ws rs o
+  unfolding patrolled_by
+  patrol_refused p m (n, e) =
+      rw (
+        sym (ap (λ (x : Left). x.answer) m),
+        sym (ap (λ (x : Left). x.heap.patrol.0) m),
+        sym (ap (λ (x : Left). x.words) m),
+        n,
+        e,
+        p,
+        set-get_or rs patrol_place 0,
+      )

@@ -195,7 +195,11 @@ pub fn kz_patrol(
 ) -> u32
     ensures { handed result answer.new state.new region.new ≡ patrolled_by region.old state.old (patrol region.old (record_in state.old) chunks) }
 {
-    let toured = tour(region, state[BYTES], Chunk(state[PATROL]), chunks);
-    state[PATROL] = toured.place.0;
-    tell(toured.answer, answer)
+    match tour(region, state[BYTES], Chunk(state[PATROL]), chunks) {
+        Ok(toured) => {
+            state[PATROL] = toured.place.0;
+            tell(toured.answer, answer)
+        }
+        Err(why) => tell(Answer::Refused(why), answer),
+    }
 }

@@ -175,9 +175,11 @@ pub fn reallocate(region: &mut [u32], heap: Heap, block: Block, z: u32) -> Reply
 pub fn patrol(region: &mut [u32], heap: Heap, chunks: u32) -> Reply
     ensures { Patrols region.old heap chunks result region.new }
 {
-    let toured = tour(region, heap.bytes, heap.patrol, chunks);
-    Reply {
-        answer: toured.answer,
-        heap: heap.with_patrol(toured.place),
+    match tour(region, heap.bytes, heap.patrol, chunks) {
+        Ok(toured) => Reply {
+            answer: toured.answer,
+            heap: heap.with_patrol(toured.place),
+        },
+        Err(refusal) => refused(heap, refusal),
     }
 }

@@ -6,43 +6,15 @@ use mathlib.Core.List.{List, [], ◌++◌}
 use Prim.Native.Nat.{ℕ, ◌+◌, ◌-◌, ◌/◌, ◌%◌}
 use native.Mathlib.Omega.{arith}
 use lib.Dec.{eqb}
-use lib.ListN.{length}
 use borrow.Author.Tests.{eqb-false}
 use Rattle.region.specs.Words.{written, word, forward, backward, size}
-use Rattle.region.proofs.WordsLaws.{written_append, length_written, off}
+use Rattle.region.proofs.WordsLaws.{written_append, off}
 use Rattle.rules.specs.Kinds.{in_use}
 use Rattle.rules.specs.Patrol.{mend}
 use Rattle.rules.specs.Shape.{flags_at}
 use Rattle.rules.proofs.PatrolSeek.{NextPlace, next_above, next_far}
 use Rattle.rules.proofs.PatrolMends.{mend_fall, own, forth, back, mends_are, handled}
 use Rattle.patrol.specs.Mends.{mend_back_m, mend_own_m, handle_m}
-
--- the code's calls, one after the other
-pub handles : {writes : Bool} (ws : List ℕ) {a b d : List ℕ} (c v : ℕ) → writes ≡ true → a ≡ written ws (mend ws c forward v) → b ≡ mend_back_m a v c → d ≡ mend_own_m b c v
-    → d ≡ handle_m writes ws c v
-unfolding handle_m
-handles ws c v w ea eb ed = rw (ed, eb, ea, w)
-
--- handling keeps the length
-back_long : (ws : List ℕ) (v c : ℕ) → length (mend_back_m ws v c) ≡ length ws
-unfolding mend_back_m
-back_long ws v c = length_written (mend ws v backward (c - c % 8 + flags_at ws v)) ws
-
-own_long : (ws : List ℕ) (c v : ℕ) → length (mend_own_m ws c v) ≡ length ws
-unfolding mend_own_m
-own_long ws c v = go (eqb c 0) (eqb (flags_at ws c % 2) 1)
-  where
-    go : (s t : Bool) → length (cond s (mend_back_m ws c 0) (cond t ws (written ws (mend ws c size (v - c))))) ≡ length ws
-    go true t = back_long ws c 0
-    go false true = refl
-    go false false = length_written (mend ws c size (v - c)) ws
-
-pub handle_long : (w : Bool) (ws : List ℕ) (c v : ℕ) → length (handle_m w ws c v) ≡ length ws
-unfolding handle_m
-handle_long true ws c v =
-    own_long (mend_back_m (written ws (mend ws c forward v)) v c) c v ∙ back_long (written ws (mend ws c forward v)) v c
-    ∙ length_written (mend ws c forward v) ws
-handle_long false ws c v = refl
 
 -- the chunk at c, with the next one at v
 module _ {end c v : ℕ} (ws : List ℕ) (eights : c % 8 ≡ 0) (n : NextPlace end c v) where

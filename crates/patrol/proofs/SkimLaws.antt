@@ -1,12 +1,12 @@
 -- Passing chunks at which there is nothing to mend, step by step (`Skimming`), and that a run loses nothing by it (`skim_keeps`).
 -- Assumes nothing.
 use mathlib.Core.Path.{◌≡◌, refl, sym, ap, subst, ◌∙◌}
-use mathlib.Core.Bool.{Bool, true, false, not, cond, ◌||◌, false≢true}
+use mathlib.Core.Bool.{Bool, true, false, cond, ◌||◌, false≢true}
 use mathlib.Core.List.{List}
-use Prim.Native.Nat.{ℕ, zero, suc, ◌-◌, ◌%◌, ◌≤◌, ◌<◌}
+use Prim.Native.Nat.{ℕ, zero, suc, ◌+◌, ◌-◌, ◌%◌, ◌≤◌, ◌<◌}
 use native.Mathlib.Omega.{arith}
 use lib.Dec.{eqb}
-use borrow.Author.Tests.{not-true, not-false, eq-eqb, ne_eqb, eqb-true, eqb-false}
+use borrow.Author.Tests.{eq-eqb, ne_eqb, eqb-true, eqb-false}
 use Rattle.lists.proofs.ListsLaws.{number_is, less, itself, both}
 use Rattle.region.specs.declared.Links.{Links}
 use Rattle.region.specs.Words.{word, forward, backward, size}
@@ -16,9 +16,9 @@ use Rattle.rules.specs.Shape.{flags_at}
 use Rattle.rules.proofs.PatrolSeek.{NextPlace, next_above, least_above}
 use Rattle.rules.proofs.PatrolMends.{Right}
 use Rattle.rules.proofs.PatrolParts.{run_right}
-use Rattle.patrol.specs.declared.skim.Skimmed.{Skimmed}
+use Rattle.patrol.specs.declared.skim.Rest.{Rest}
 use Rattle.patrol.specs.Links.{can_follow_m}
-use Rattle.patrol.specs.Skim.{links_at, is_right_m, is_whole_m, is_start_whole_m, whole_at, start_whole, skimmed, skim_above_m, skim_m}
+use Rattle.patrol.specs.Skim.{links_at, is_right_m, is_whole_m, is_start_whole_m, whole_at, start_whole, rest, skim_above_m, skim_m}
 use Rattle.patrol.proofs.LinksLaws.{follow_place}
 
 -- the two links that the code read
@@ -30,19 +30,21 @@ unfolding skim_above_m
 skim_on ws end c k h = rw h
 
 -- where the loop stands: from here it does what it does from the first chunk
-pub record Skimming (ws : List ℕ) (end from count c left : ℕ) (l : Links) : Type 0 where
+pub record Skimming (ws : List ℕ) (end from count c passed : ℕ) (l : Links) : Type 0 where
   pub links : l ≡ links_at ws c
-  pub same : skim_above_m left ws end c ≡ skim_above_m count ws end from
+  pub same : skim_above_m (count - passed) ws end c ≡ skim_above_m count ws end from
 
 -- the chunk at c, whose links are l, and whose next one has the links a; t is the code's test of it
-module _ {ws : List ℕ} {end from count c left : ℕ} {l : Links} (o : Skimming ws end from count c left l) where
-  pub skim_spent : left ≡ 0 → skimmed c left ≡ skim_above_m count ws end from
+module _ {ws : List ℕ} {end from count c passed : ℕ} {l : Links} (o : Skimming ws end from count c passed l) where
+  pub skim_spent : count ≤ passed → rest c 0 ≡ skim_above_m count ws end from
   unfolding skim_above_m
-  skim_spent e = rw (← o.same, e)
+  skim_spent h =
+      let none : count - passed ≡ 0 = omega arith in
+      rw (← o.same, none)
 
-  module _ (some : left ≡ 0 → ⊥) {a : Links} (above : (a.forward ≡ word ws l.forward forward) × (a.backward ≡ word ws l.forward backward))
+  module _ (some : passed < count) {a : Links} (above : (a.forward ≡ word ws l.forward forward) × (a.backward ≡ word ws l.forward backward))
       {t : Bool} (et : t ≡ is_whole_m ws end c l a) where
-    more : left ≡ suc (left - 1)
+    more : count - passed ≡ suc (count - (passed + 1))
     more = omega arith
 
     above_are : a ≡ links_at ws (word ws c forward)
@@ -52,14 +54,15 @@ module _ {ws : List ℕ} {end from count c left : ℕ} {l : Links} (o : Skimming
     unfolding whole_at
     tested = rw (← above_are, ← o.links) et
 
-    pub skim_stops : not t ≡ true → skimmed c left ≡ skim_above_m count ws end from
+    pub skim_stops : t ≡ false → rest c (count - passed) ≡ skim_above_m count ws end from
     unfolding skim_above_m
-    skim_stops h = rw (← o.same, more, sym tested ∙ not-true t h)
+    skim_stops h = rw (← o.same, more, sym tested ∙ h)
 
-    pub skim_goes : not t ≡ false → Skimming ws end from count l.forward (left - 1) a
+    pub skim_goes : t ≡ true → Skimming ws end from count l.forward (passed + 1) a
     skim_goes h =
         let link = ap (λ (k : Links). k.forward) o.links in
-        let on = ap (λ (k : ℕ). skim_above_m k ws end c) more ∙ skim_on ws end c (left - 1) (sym tested ∙ not-false t h) in
+        let on =
+        ap (λ (k : ℕ). skim_above_m k ws end c) more ∙ skim_on ws end c (count - (passed + 1)) (sym tested ∙ h) in
         record {
           links = links_are ws l.forward above;
           same = rw link (sym on) ∙ o.same;
@@ -67,12 +70,12 @@ module _ {ws : List ℕ} {end from count c left : ℕ} {l : Links} (o : Skimming
 
 -- the code of `skim`
 module _ (ws : List ℕ) (end c k : ℕ) where
-  pub above_start_lem : (c ≡ 0 → ⊥) → {s : Skimmed} → s ≡ skim_above_m k ws end c → s ≡ skim_m k ws end c
+  pub above_start_lem : (c ≡ 0 → ⊥) → {s : Rest} → s ≡ skim_above_m k ws end c → s ≡ skim_m k ws end c
   unfolding skim_m
   above_start_lem n e = rw (ne_eqb c 0 n) e
 
   module _ (z : c ≡ 0) where
-    pub none_asked : k ≡ 0 → skimmed c k ≡ skim_m k ws end c
+    pub none_asked : k ≡ 0 → rest c k ≡ skim_m k ws end c
     unfolding skim_m
     none_asked e = rw (eq-eqb c 0 z, eq-eqb k 0 e)
 
@@ -89,15 +92,15 @@ module _ (ws : List ℕ) (end c k : ℕ) where
           let upper = links_are ws l.forward above ∙ ap (λ (x : Links). links_at ws x.forward) start_links in
           rw (← upper, ← start_links) et
 
-      pub start_stops : not t ≡ true → skimmed c k ≡ skim_m k ws end c
+      pub start_stops : t ≡ false → rest c k ≡ skim_m k ws end c
       unfolding skim_m
-      start_stops h = rw (eq-eqb c 0 z, ne_eqb k 0 some, sym start_tested ∙ not-true t h)
+      start_stops h = rw (eq-eqb c 0 z, ne_eqb k 0 some, sym start_tested ∙ h)
 
-      pub start_goes : not t ≡ false → {s : Skimmed} → s ≡ skim_above_m (k - 1) ws end l.forward → s ≡ skim_m k ws end c
+      pub start_goes : t ≡ true → {s : Rest} → s ≡ skim_above_m (k - 1) ws end l.forward → s ≡ skim_m k ws end c
       unfolding skim_m
       start_goes h e =
           let link = ap (λ (x : Links). x.forward) start_links in
-          rw (eq-eqb c 0 z, ne_eqb k 0 some, sym start_tested ∙ not-false t h) (rw link at e)
+          rw (eq-eqb c 0 z, ne_eqb k 0 some, sym start_tested ∙ h) (rw link at e)
 
 -- a chunk above the start that passes the test has nothing to mend
 module _ (ws : List ℕ) (end c : ℕ) (above : 0 < c) (h : whole_at ws end c ≡ true) where
@@ -150,13 +153,13 @@ module _ (ws : List ℕ) (end : ℕ) (h : start_whole ws end ≡ true) where
       record { link = refl; back = omega arith; start = λ z. omega arith; sized = λ (some, free). absurd (omega arith) }
 
 -- so the run from where it stops is the run
-pub record Kept (ws : List ℕ) (end chunks c : ℕ) (s : Skimmed) : Type 0 where
+pub record Kept (ws : List ℕ) (end chunks c : ℕ) (s : Rest) : Type 0 where
   pub eights : s.chunk.0 % 8 ≡ 0
   pub inside : s.chunk.0 ≤ end
   pub run : patrol_from s.left ws end s.chunk.0 ≡ patrol_from chunks ws end c
 
 -- one chunk was passed
-passed : (ws : List ℕ) (end c k : ℕ) {s : Skimmed} (v : ℕ) → NextPlace end c v → Right ws c v → Kept ws end k v s → Kept ws end (suc k) c s
+passed : (ws : List ℕ) (end c k : ℕ) {s : Rest} (v : ℕ) → NextPlace end c v → Right ws c v → Kept ws end k v s → Kept ws end (suc k) c s
 passed ws end c k v n r kept =
     record { eights = kept.eights; inside = kept.inside; run = kept.run ∙ sym (run_right ws end c v n r k) }
 
@@ -168,7 +171,7 @@ above_keeps (suc k) ws end c above e l = go (whole_at ws end c) refl (above_keep
     go : (t : Bool) → whole_at ws end c ≡ t
         → (0 < word ws c forward → word ws c forward % 8 ≡ 0 → word ws c forward ≤ end
         → Kept ws end k (word ws c forward) (skim_above_m k ws end (word ws c forward)))
-        → Kept ws end (suc k) c (cond t (skim_above_m k ws end (word ws c forward)) (skimmed c (suc k)))
+        → Kept ws end (suc k) c (cond t (skim_above_m k ws end (word ws c forward)) (rest c (suc k)))
     go false h f = record { eights = e; inside = l; run = refl }
     go true h f =
         let n = whole_place ws end c above h in
@@ -179,12 +182,12 @@ pub skim_keeps : (k : ℕ) (ws : List ℕ) (end c : ℕ) → c % 8 ≡ 0 → c �
 unfolding skim_m
 skim_keeps k ws end c e l = go (eqb c 0) refl (eqb k 0) refl (start_whole ws end) refl
   where
-    stays : Kept ws end k c (skimmed c k)
+    stays : Kept ws end k c (rest c k)
     stays = record { eights = e; inside = l; run = refl }
 
     go : (r : Bool) → eqb c 0 ≡ r → (s : Bool) → eqb k 0 ≡ s → (t : Bool) → start_whole ws end ≡ t
         → Kept ws end k c
-        (cond r (cond s (skimmed c k) (cond t (skim_above_m (k - 1) ws end (word ws 0 forward)) (skimmed c k))) (skim_above_m k ws end c))
+        (cond r (cond s (rest c k) (cond t (skim_above_m (k - 1) ws end (word ws 0 forward)) (rest c k))) (skim_above_m k ws end c))
     go false q s u t h = let n = eqb-false c 0 q in above_keeps k ws end c (omega arith) e l
     go true q true u t h = stays
     go true q false u false h = stays

@@ -5,7 +5,7 @@ use Rattle.record.specs.Table.{least}
 use Rattle.region.specs.declared.Links.{Links}
 use Rattle.region.specs.Words.{word, forward, backward, size}
 use Rattle.rules.specs.Kinds.{end_size}
-use Rattle.patrol.specs.declared.skim.Skimmed.{Skimmed}
+use Rattle.patrol.specs.declared.skim.Rest.{Rest}
 use Rattle.patrol.specs.Links.{can_follow_m}
 
 abbrev pub links_at : List ℕ → ℕ → Links
@@ -29,15 +29,15 @@ whole_at ws end c = is_whole_m ws end c (links_at ws c) (links_at ws (word ws c 
 unfoldable pub start_whole : List ℕ → ℕ → Bool
 start_whole ws end = is_start_whole_m end (links_at ws 0) (links_at ws (word ws 0 forward))
 
-abbrev pub skimmed : ℕ → ℕ → Skimmed
-skimmed c left = record { chunk = at c; left = left }
+abbrev pub rest : ℕ → ℕ → Rest
+rest c left = record { chunk = at c; left = left }
 
-unfoldable pub skim_above_m : ℕ → List ℕ → ℕ → ℕ → Skimmed
-skim_above_m zero ws end c = skimmed c 0
-skim_above_m (suc k) ws end c = cond (whole_at ws end c) (skim_above_m k ws end (word ws c forward)) (skimmed c (suc k))
+unfoldable pub skim_above_m : ℕ → List ℕ → ℕ → ℕ → Rest
+skim_above_m zero ws end c = rest c 0
+skim_above_m (suc k) ws end c = cond (whole_at ws end c) (skim_above_m k ws end (word ws c forward)) (rest c (suc k))
 
-unfoldable pub skim_m : ℕ → List ℕ → ℕ → ℕ → Skimmed
+unfoldable pub skim_m : ℕ → List ℕ → ℕ → ℕ → Rest
 skim_m k ws end c =
     cond (eqb c 0)
-    (cond (eqb k 0) (skimmed c k) (cond (start_whole ws end) (skim_above_m (k - 1) ws end (word ws 0 forward)) (skimmed c k)))
+    (cond (eqb k 0) (rest c k) (cond (start_whole ws end) (skim_above_m (k - 1) ws end (word ws 0 forward)) (rest c k)))
     (skim_above_m k ws end c)

@@ -3,6 +3,7 @@ ghost use Rattle.std.specs.Prelude.{◌≡◌, ◌+◌, ltb};
 ghost use Rattle.patrol.specs.Links.{can_follow_m};
 ghost use Rattle.rules.specs.Patrol.{back_offset, broken, least_size, skips};
 
+use headers::distance;
 use region::{ALIGNMENT, BACKWARD, Chunk, END_SIZE, FORWARD, LEAST, word};
 
 // Where the backward link leads, without its flags.
@@ -20,14 +21,15 @@ fn least_size(place: u32) -> u32
     if place == 0 { END_SIZE } else { LEAST }
 }
 
-// Whether a chunk at the lower place has no room below the upper one. In 64 bits the sum does not wrap.
+// Whether a chunk at the lower place has no room below the upper one.
 pub fn is_near(lower: u32, upper: u32) -> bool
     ensures { result ≡ ltb upper (lower + least_size lower) }
 {
-    (upper as u64) < lower as u64 + least_size(lower) as u64
+    distance(lower, upper) < least_size(lower)
 }
 
 // The sign of a skipped chunk: the place that the link names is linked both ways with a place between the two.
+#[tactic(auto, unfolding(rules::specs::Patrol::skips))]
 fn is_skip(region: &[u32], chunk: Chunk, link: u32) -> bool
     ensures { result ≡ skips region.now chunk.0 link }
 {
@@ -42,6 +44,7 @@ fn is_skip(region: &[u32], chunk: Chunk, link: u32) -> bool
 }
 
 // The link stays in the heap, leads to a multiple of 8, and goes up by no less than `least`. In 64 bits the sum does not wrap.
+#[tactic(auto, unfolding(crate::specs::Links::can_follow_m))]
 pub fn can_follow(end: u32, chunk: Chunk, least: u32, link: u32) -> bool
     ensures { result ≡ can_follow_m end chunk.0 least link }
 {
@@ -54,6 +57,7 @@ pub fn can_follow(end: u32, chunk: Chunk, least: u32, link: u32) -> bool
     chunk.0 as u64 + least as u64 <= link as u64
 }
 
+#[tactic(auto, using(crate::proofs::LinksLaws::broken_is))]
 pub fn is_broken(region: &[u32], end: u32, chunk: Chunk, link: u32) -> bool
     ensures { result ≡ broken region.now end chunk.0 link }
 {

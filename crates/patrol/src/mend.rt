@@ -11,26 +11,23 @@ use region::{ALIGNMENT, BACKWARD, Chunk, FORWARD, SIZE, store, word};
 fn mend_word(region: &mut [u32], chunk: Chunk, number: u32, value: u32)
     ensures { region.new ≡ written region.old (mend region.old chunk.0 number value) }
 {
-    if word(region, chunk, number) == value {
-        return;
+    if word(region, chunk, number) != value {
+        store(region, chunk, number, value);
     }
-    store(region, chunk, number, value);
 }
 
 // The backward link of a chunk names the one below it; the flags stay.
+#[tactic(auto, unfolding(crate::specs::Mends::mend_back_m))]
 fn mend_back(region: &mut [u32], chunk: Chunk, below: Chunk)
     ensures { region.new ≡ mend_back_m region.old chunk.0 below.0 }
 {
     let flags = word(region, chunk, BACKWARD) % ALIGNMENT;
-    mend_word(
-        region,
-        chunk,
-        BACKWARD,
-        below.0 - below.0 % ALIGNMENT + flags,
-    );
+    let link = below.0 - below.0 % ALIGNMENT;
+    mend_word(region, chunk, BACKWARD, link + flags);
 }
 
 // The start has a backward link to nothing and no size; a chunk in use has no size word either.
+#[tactic(auto, unfolding(crate::specs::Mends::mend_own_m))]
 fn mend_own(region: &mut [u32], chunk: Chunk, next: Chunk)
     ensures { region.new ≡ mend_own_m region.old chunk.0 next.0 }
 {
@@ -45,13 +42,13 @@ fn mend_own(region: &mut [u32], chunk: Chunk, next: Chunk)
 }
 
 // Where a run only decides, nothing is written.
-pub fn handle(region: &mut [u32], chunk: Chunk, next: Chunk, writes: bool)
-    ensures { region.new ≡ handle_m writes region.old chunk.0 next.0 }
+#[tactic(auto, unfolding(crate::specs::Mends::handle_m))]
+pub fn handle<const WRITES: bool>(region: &mut [u32], chunk: Chunk, next: Chunk)
+    ensures { region.new ≡ handle_m WRITES region.old chunk.0 next.0 }
 {
-    if !writes {
-        return;
+    if WRITES {
+        mend_word(region, chunk, FORWARD, next.0);
+        mend_back(region, next, chunk);
+        mend_own(region, chunk, next);
     }
-    mend_word(region, chunk, FORWARD, next.0);
-    mend_back(region, next, chunk);
-    mend_own(region, chunk, next);
 }

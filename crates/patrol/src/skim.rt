@@ -6,14 +6,15 @@ use crate::links::can_follow;
 use headers::distance;
 use region::{ALIGNMENT, Chunk, END_SIZE, LEAST, Links, SIZE, links_of, word};
 
-// Where a run goes on, and how many of its chunks remain.
+// What of a run is left: so many chunks, from this one on.
 #[derive(Clone, Copy)]
-pub struct Skimmed {
+pub struct Rest {
     pub chunk: Chunk,
     pub left: u32,
 }
 
 // A chunk in use has no size word; a free one's is its size. `back` is the chunk's second word.
+#[tactic(auto, unfolding(crate::specs::Skim::is_right_m))]
 pub fn is_right(region: &[u32], chunk: Chunk, back: u32, size: u32) -> bool
     ensures { result ≡ is_right_m region.now chunk.0 back size }
 {
@@ -25,6 +26,7 @@ pub fn is_right(region: &[u32], chunk: Chunk, back: u32, size: u32) -> bool
 
 // The forward link of a chunk above the start is believed, and the chunk and the one above it say what they should. `above` are
 // that one's links.
+#[tactic(auto, unfolding(crate::specs::Skim::is_whole_m))]
 pub fn is_whole(region: &[u32], end: u32, chunk: Chunk, links: Links, above: Links) -> bool
     ensures { result ≡ is_whole_m region.now end chunk.0 links above }
 {
@@ -44,6 +46,7 @@ pub fn is_whole(region: &[u32], end: u32, chunk: Chunk, links: Links, above: Lin
 }
 
 // The same of the start, whose backward link and whose place are 0.
+#[tactic(auto, unfolding(crate::specs::Skim::is_start_whole_m))]
 pub fn is_start_whole(end: u32, links: Links, above: Links) -> bool
     ensures { result ≡ is_start_whole_m end links above }
 {
@@ -57,50 +60,39 @@ pub fn is_start_whole(end: u32, links: Links, above: Links) -> bool
 }
 
 // Each chunk's links are read once: those of the one above are the next chunk's own.
-pub fn skim_above(region: &[u32], end: u32, from: Chunk, count: u32) -> Skimmed
-    ensures { result ≡ skim_above_m count region.now end from.0 }
+pub fn skim_above(region: &[u32], end: u32, rest: Rest) -> Rest
+    ensures { result ≡ skim_above_m rest.left region.now end rest.chunk.0 }
 {
-    let mut at = from.0;
-    let mut left = count;
-    let mut links = links_of(region, from);
-    while left != 0 {
+    let mut chunk = rest.chunk;
+    let mut links = links_of(region, chunk);
+    for passed in 0..rest.left {
         let above = links_of(region, Chunk(links.forward));
-        if !is_whole(region, end, Chunk(at), links, above) {
-            return Skimmed {
-                chunk: Chunk(at),
-                left: left,
-            };
+        if !is_whole(region, end, chunk, links, above) {
+            let left = rest.left - passed;
+            return Rest { chunk, left };
         }
-        at = links.forward;
+        chunk = Chunk(links.forward);
         links = above;
-        left = left - 1;
     }
-    Skimmed {
-        chunk: Chunk(at),
-        left: left,
-    }
+    Rest { chunk, left: 0 }
 }
 
 // The start is tested apart, so that the loop above need not ask for it.
-pub fn skim(region: &[u32], end: u32, from: Chunk, count: u32) -> Skimmed
-    ensures { result ≡ skim_m count region.now end from.0 }
+pub fn skim(region: &[u32], end: u32, rest: Rest) -> Rest
+    ensures { result ≡ skim_m rest.left region.now end rest.chunk.0 }
 {
-    if from.0 != 0 {
-        return skim_above(region, end, from, count);
+    if rest.chunk.0 != 0 {
+        return skim_above(region, end, rest);
     }
-    if count == 0 {
-        return Skimmed {
-            chunk: from,
-            left: count,
-        };
+    if rest.left == 0 {
+        return rest;
     }
-    let links = links_of(region, from);
+    let links = links_of(region, rest.chunk);
     let above = links_of(region, Chunk(links.forward));
     if !is_start_whole(end, links, above) {
-        return Skimmed {
-            chunk: from,
-            left: count,
-        };
+        return rest;
     }
-    skim_above(region, end, Chunk(links.forward), count - 1)
+    let chunk = Chunk(links.forward);
+    let left = rest.left - 1;
+    skim_above(region, end, Rest { chunk, left })
 }
