@@ -5,7 +5,7 @@
 use crate::lines::{Kind, Line};
 use record::answers::Answer;
 use record::heap::Heap;
-use record::questions::{ASK_BIN, ASK_NEXT, ASK_SIZE, ASK_TYPE};
+use record::questions::ChunkQuestion;
 use region::Block;
 use std::io;
 
@@ -26,10 +26,10 @@ struct Asked<'a> {
 
 impl Asked<'_> {
     // None where there is no such chunk or no value, and where the heap fails.
-    fn ask(&mut self, question: u32, chunk: u32) -> Option<u32> {
-        let answer = heap::ask_chunk(self.region, self.heap, question, chunk).answer;
+    fn ask(&mut self, question: ChunkQuestion, chunk: u32) -> Option<u32> {
+        let answer = heap::ask_chunk(self.region, self.heap, question as u32, chunk).answer;
         match answer {
-            Answer::Told(value) => Some(value),
+            Answer::Told(value) => value,
             _ => None,
         }
     }
@@ -42,7 +42,7 @@ impl Asked<'_> {
         if chunk == self.heap.top.0 {
             return Some(Kind::Top);
         }
-        let bin = self.ask(ASK_BIN, chunk)?;
+        let bin = self.ask(ChunkQuestion::Bin, chunk)?;
         Some(Kind::Free { bin })
     }
 
@@ -51,17 +51,17 @@ impl Asked<'_> {
         if chunk == 0 {
             return Some(Kind::Start);
         }
-        if self.ask(ASK_NEXT, chunk).is_none() {
+        if self.ask(ChunkQuestion::Next, chunk).is_none() {
             return Some(Kind::End);
         }
-        if self.ask(ASK_TYPE, chunk)? == 1 {
+        if self.ask(ChunkQuestion::Type, chunk)? == 1 {
             return Some(Kind::InUse);
         }
         self.free_kind(chunk)
     }
 
     fn line(&mut self, chunk: u32) -> Option<Line> {
-        let size = self.ask(ASK_SIZE, chunk)?;
+        let size = self.ask(ChunkQuestion::Size, chunk)?;
         let kind = self.kind(chunk)?;
         Some(Line { chunk, size, kind })
     }
@@ -76,7 +76,7 @@ fn print_chunks(rt: &impl Print, mut asked: Asked) -> io::Result<()> {
         if let Some(line) = asked.line(chunk) {
             println!(rt; "{line}")?;
         }
-        next = asked.ask(ASK_NEXT, chunk);
+        next = asked.ask(ChunkQuestion::Next, chunk);
     }
     Ok(())
 }
