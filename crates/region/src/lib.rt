@@ -78,6 +78,7 @@ pub fn chunk_of(block: Block) -> Chunk
 }
 
 // A damaged link may lead anywhere: outside the region every word reads 0.
+#[tactic(auto, unfolding(crate::specs::Words::word))]
 pub fn word(region: &[u32], chunk: Chunk, number: u32) -> u32
     ensures { result ≡ word region.now chunk.0 number }
 {
@@ -93,6 +94,7 @@ pub struct Links {
 }
 
 // The patrol reads both links of every chunk: one bounds check covers both words.
+#[tactic(auto, unfolding(crate::specs::Words::word))]
 pub fn links_of(region: &[u32], chunk: Chunk) -> Links
     ensures { (result.forward ≡ word region.now chunk.0 forward) × (result.backward ≡ word region.now chunk.0 backward) }
 {
@@ -110,6 +112,7 @@ pub fn links_of(region: &[u32], chunk: Chunk) -> Links
 }
 
 // Outside the region nothing is written.
+#[tactic(auto, unfolding(crate::specs::Words::store))]
 pub fn store(region: &mut [u32], chunk: Chunk, number: u32, value: u32)
     ensures { region.new ≡ store region.old chunk.0 number value }
 {
