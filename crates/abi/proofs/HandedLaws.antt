@@ -9,7 +9,7 @@ use lib.Dec.{eqb, leb, ltb}
 use lib.ListN.{length, get_or, set, take, drop}
 use lib.Seq.{set-get_or}
 use Rattle.std.specs.Prelude.{Ok, Err}
-use borrow.Author.Tests.{eq-eqb, ne_eqb, le-leb, leb-true, lt-leb}
+use borrow.Author.Tests.{le-leb, lt-leb}
 use Rattle.record.specs.declared.answers.Answer.{Answer}
 use Rattle.record.specs.declared.answers.Answer.TheVariants.{Done, Granted, Returned, Told, Counted, Refused}
 use Rattle.record.specs.declared.answers.Counts.{Counts}
@@ -23,7 +23,7 @@ use Rattle.record.proofs.AnswersLaws.{not_nine}
 use Rattle.rules.specs.Ask.{chunk_answers, bin_answers, asked_spot, is_there, ask_refusals, asked, ask_chunk, ask_bin}
 use Rattle.rules.specs.Draft.{as_read}
 use Rattle.rules.specs.Merge.{check}
-use Rattle.rules.specs.Outcome.{Outcome, Refusals, refused, judged, heap_fails}
+use Rattle.rules.specs.Outcome.{Outcome, Refusals, judged, heap_fails}
 use Rattle.rules.specs.Statements.{Left, left_by, Meets}
 use Rattle.audit.specs.Audit.{AuditIs, answer_of}
 use Rattle.audit.proofs.AuditMeaning.{answer_is}
@@ -33,7 +33,6 @@ use Rattle.patrol.specs.Tours.{leaving}
 use Rattle.rules.proofs.OutcomeLaws.{judged_so}
 use Rattle.abi.specs.Flat.{merge_place, sizes_from, heads_from, tails_from, patrol_place, record_words, record_in, record_out, answer_out, refusal_out}
 use Rattle.abi.specs.Handed.{Handed, handed, answering, handed_by, opened_by, patrolled_by, flat_after}
-use Rattle.abi.specs.Replied.{once_whole}
 use Rattle.abi.proofs.FlatLaws.{parts_are}
 use Rattle.abi.proofs.BackLaws.{back_and_flat}
 
@@ -71,53 +70,27 @@ pub refuses_merge_word : {ws rs : List ℕ} (o : Outcome) {r : ℕ} {five : List
 unfolding handed_by
 refuses_merge_word o l (n, e) = rw (lt-leb _ _ l, n, e) refl
 
-module _ (ws rs : List ℕ) (o : Outcome) where
-  -- the words that go with the outcome, of a damaged record with its refusal
-  handed_so : let l : Left = left_by ws (once_whole rs o) in answering l.answer (flat_after rs l.answer l.heap) l.words ≡ handed_by ws rs o
-  unfolding handed_by flat_after
-  handed_so = by (leb (get_or rs merge_place 0) 1)
-    where
-      by : (t : Bool)
-          → let l : Left = left_by ws (cond t o (refused (record_in rs) HeapFails)) in
-          let m : Left = left_by ws o in
-          answering l.answer (flat_after rs l.answer l.heap) l.words
-          ≡ cond t (answering m.answer (flat_after rs m.answer m.heap) m.words) (answering (Refused HeapFails) rs ws)
-      by true = refl
-      by false = refl
+-- a reply on a record whose merge word is 0 or 1, and what is told of it
+module _ (ws rs : List ℕ) (o : Outcome) (l : get_or rs merge_place 0 ≤ 1) (reply : Reply) {after : List ℕ} {r : ℕ} {five : List ℕ}
+    (m : Meets ws o reply after) where
+  -- a call that may change the record
+  pub answers : {state : List ℕ} → r ≡ refusal_out reply.answer → five ≡ answer_out reply.answer → state ≡ flat_after rs reply.answer reply.heap
+      → handed r five state after ≡ handed_by ws rs o
+  unfolding handed_by
+  answers n e p =
+      rw (le-leb _ _ l, n, e, p) (ap (λ (x : Left). answering x.answer (flat_after rs x.answer x.heap) x.words) m)
 
-  -- what a call that leaves the record as it is would pack
-  flat_stays : length rs ≡ record_words → o.heap ≡ record_in rs → let x : Outcome = once_whole rs o in flat_after rs x.answer x.heap ≡ rs
+  -- a call that leaves the record as it is: the words that say it stay
+  pub tells : length rs ≡ record_words → o.heap ≡ record_in rs → (r ≡ refusal_out reply.answer) × (five ≡ answer_out reply.answer)
+      → handed r five rs after ≡ handed_by ws rs o
   unfolding flat_after
-  flat_stays whole stays = by (leb (get_or rs merge_place 0) 1) refl
+  tells whole stays (n, e) =
+      let kept : reply.heap ≡ record_in rs = ap (λ (x : Left). x.heap) m ∙ stays in
+      answers n e (by kept (eqb (refusal_out reply.answer) 0))
     where
-      packed : get_or rs merge_place 0 ≤ 1 → (t : Bool) → cond t (record_out o.heap) rs ≡ rs
-      packed l true = ap record_out stays ∙ back_and_flat rs whole l
-      packed l false = refl
-
-      by : (t : Bool) → leb (get_or rs merge_place 0) 1 ≡ t
-          → let x : Outcome = cond t o (refused (record_in rs) HeapFails) in flat_after rs x.answer x.heap ≡ rs
-      by true e = packed (leb-true _ _ e) (eqb (refusal_out o.answer) 0)
-      by false e = refl
-
-  -- a reply, and what is told of it
-  module _ (reply : Reply) {after : List ℕ} {r : ℕ} {five : List ℕ} (m : Meets ws (once_whole rs o) reply after)
-      (said : (r ≡ refusal_out reply.answer) × (five ≡ answer_out reply.answer)) where
-    answers : {state : List ℕ} → state ≡ flat_after rs reply.answer reply.heap → handed r five state after ≡ handed_by ws rs o
-    answers p =
-        rw (said.0, said.1, p) (ap (λ (l : Left). answering l.answer (flat_after rs l.answer l.heap) l.words) m ∙ handed_so)
-
-    -- a refusal leaves the record's words as they are, an acceptance packs the new record
-    pub refusal_keeps : (r ≡ 0 → ⊥) → handed r five rs after ≡ handed_by ws rs o
-    unfolding flat_after
-    refusal_keeps n = answers (rw (ne_eqb (refusal_out reply.answer) 0 (λ z. n (said.0 ∙ z))) refl)
-
-    pub acceptance_packs : {state : List ℕ} → r ≡ 0 → state ≡ record_out reply.heap → handed r five state after ≡ handed_by ws rs o
-    unfolding flat_after
-    acceptance_packs z p = answers (rw (eq-eqb (refusal_out reply.answer) 0 (sym said.0 ∙ z)) p)
-
-    -- a call that leaves the record as it is: the words that say it stay
-    pub tells : length rs ≡ record_words → o.heap ≡ record_in rs → handed r five rs after ≡ handed_by ws rs o
-    tells whole stays = answers (sym (ap (λ (l : Left). flat_after rs l.answer l.heap) m ∙ flat_stays whole stays))
+      by : reply.heap ≡ record_in rs → (t : Bool) → rs ≡ cond t (record_out reply.heap) rs
+      by kept true = sym (ap record_out kept ∙ back_and_flat rs whole l)
+      by kept false = refl
 
 -- the check and the questions leave the record as it is, refused or not
 judged_stays : (h : Heap) (ts : Refusals) (o : Outcome) → o.heap ≡ h → (judged h ts o).heap ≡ h
@@ -149,9 +122,7 @@ module _ (ws rs : List ℕ) (whole : length rs ≡ record_words) (found : Option
         → handed r five rs ws ≡ handed_by ws rs (check ws (record_in rs))
     tells_check l {said} a told =
         let h = record_in rs in
-        let sound : Meets ws (once_whole rs (check ws h)) (record { answer = said; heap = h }) ws =
-            rw (le-leb _ _ l) (checks ws h said (a ∙ answer_is ws h found (rw (q, parts_are rs) at look))) in
-        tells ws rs (check ws h) (record { answer = said; heap = h }) sound told whole (check_stays ws h)
+        tells ws rs (check ws h) l (record { answer = said; heap = h }) (checks ws h said (a ∙ answer_is ws h found (rw (q, parts_are rs) at look))) whole (check_stays ws h) told
 
 -- setup hands back its record, accepted or refused
 pub opens : (ws : List ℕ) (o : Outcome) (reply : Reply) {after : List ℕ} {r : ℕ} {five state : List ℕ} → Meets ws o reply after

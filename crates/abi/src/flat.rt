@@ -1,13 +1,14 @@
 // The record and the answer as flat words: unpacked, packed, and the two handed back to C.
 // What a call does is not known here. Neither the record nor the answer is of this crate, nor are arrays, so no `From` says it.
-ghost use Rattle.std.specs.Prelude.{◌≡◌, ◌+◌, ◌≤◌, take, drop};
+ghost use Rattle.std.specs.Prelude.{◌≡◌, ◌+◌, ◌≤◌, length};
 ghost use Rattle.std.proofs.Math.Seq.{paste};
 ghost use Rattle.abi.specs.Flat.{record_in, record_out, record_words, answer_out, refusal_out};
-ghost use Rattle.abi.specs.Handed.{handed, handed_by};
-ghost use Rattle.abi.specs.Replied.{Makes, once_whole};
-ghost use Rattle.record.specs.Heap.{places, summary_of};
+ghost use Rattle.abi.specs.Handed.{flat_after, handed, handed_by};
+ghost use Rattle.abi.specs.Replied.{Makes};
+ghost use Rattle.record.specs.Heap.{summary_of};
+ghost use Rattle.record.specs.declared.answers.Answer.TheVariants.{Refused};
+ghost use Rattle.record.specs.declared.answers.Refusal.TheVariants.{HeapFails};
 ghost use Rattle.rules.specs.Outcome.{Outcome};
-ghost use Rattle.rules.specs.Statements.{Meets};
 
 use crate::{ANSWER_WORDS, RECORD_WORDS};
 use record::answers::{Answer, Refusal, Reply};
@@ -52,22 +53,27 @@ pub fn unpack_summary(words: &[u32; RECORD_WORDS]) -> Summary
     }
 }
 
-// The words of an array of the record, from `at` on. The library's as_array ends in a trap, which tools/portable refuses.
-fn array(words: &[u32; RECORD_WORDS], at: usize) -> [u32; PLACES]
-    requires { at + places ≤ record_words }
-    ensures { result ≡ take places (drop at words.now) }
+// All words of `from`, to where `at` says; they fit there.
+// The library's copy_from_slice is not inlined: it made the archive a third larger.
+fn copy(to: &mut [u32], at: usize, from: &[u32])
+    requires { at + length from.now ≤ length to.old }
+    ensures { to.new ≡ paste to.old at from.now (length from.now) }
 {
-    let mut part = [0; PLACES];
-    for i in 0..PLACES {
-        part[i] = words[at + i];
+    for (i, word) in from.iter().enumerate() {
+        to[at + i] = *word;
     }
-    part
 }
 
-#[tactic(auto, unfolding(crate::specs::Flat::record_in))]
+// By `copy`: the library's as_array ends in a trap, which tools/portable refuses.
 pub fn unpack(words: &[u32; RECORD_WORDS]) -> Heap
     ensures { result ≡ record_in words.now }
 {
+    let mut sizes = [0; PLACES];
+    let mut heads = [0; PLACES];
+    let mut tails = [0; PLACES];
+    copy(&mut sizes, 0, &words[SIZES..HEADS]);
+    copy(&mut heads, 0, &words[HEADS..TAILS]);
+    copy(&mut tails, 0, &words[TAILS..PATROL]);
     let Summary {
         bytes,
         bins,
@@ -80,9 +86,9 @@ pub fn unpack(words: &[u32; RECORD_WORDS]) -> Heap
     Heap {
         bytes,
         bins,
-        sizes: array(words, SIZES),
-        heads: array(words, HEADS),
-        tails: array(words, TAILS),
+        sizes,
+        heads,
+        tails,
         donor,
         top,
         merge,
@@ -91,30 +97,23 @@ pub fn unpack(words: &[u32; RECORD_WORDS]) -> Heap
     }
 }
 
-// An array of the record, to its words from `at` on. The library's copy_from_slice is not inlined: it made the archive a third larger.
-fn put(words: &mut [u32; RECORD_WORDS], at: usize, part: &[u32; PLACES])
-    requires { at + places ≤ record_words }
-    ensures { words.new ≡ paste words.old at part.now places }
-{
-    for (i, word) in part.iter().enumerate() {
-        words[at + i] = *word;
-    }
-}
-
 pub fn pack(heap: Heap) -> [u32; RECORD_WORDS]
     ensures { result ≡ record_out heap }
 {
+    let first = [
+        heap.bytes,
+        heap.bins,
+        heap.donor.0,
+        heap.top.0,
+        u32::from(heap.merge),
+        heap.used,
+    ];
     let mut words = [0; RECORD_WORDS];
-    words[BYTES] = heap.bytes;
-    words[BINS] = heap.bins;
-    words[DONOR] = heap.donor.0;
-    words[TOP] = heap.top.0;
-    words[MERGE] = u32::from(heap.merge);
-    words[USED] = heap.used;
-    put(&mut words, SIZES, &heap.sizes);
-    put(&mut words, HEADS, &heap.heads);
-    put(&mut words, TAILS, &heap.tails);
-    words[PATROL] = heap.patrol.0;
+    copy(&mut words, 0, &first);
+    copy(&mut words, SIZES, &heap.sizes);
+    copy(&mut words, HEADS, &heap.heads);
+    copy(&mut words, TAILS, &heap.tails);
+    copy(&mut words, PATROL, &[heap.patrol.0]);
     words
 }
 
@@ -142,29 +141,34 @@ pub fn tell(said: Answer, answer: &mut [u32; ANSWER_WORDS]) -> u32
     answer[0]
 }
 
-// What `call` replies on the record that the words say. Words with a merge word above 1 no setup and no call left: they are refused
-// as a heap that fails.
-pub fn on_record<F: FnOnce(&mut [u32], Heap) -> Reply>(
-    region: &mut [u32],
-    state: &[u32; RECORD_WORDS],
-    call: F,
-) -> Reply
-    requires { F.IsAlwaysCallable call }
-    ensures { (o : Outcome) → Makes F.FnOnce call region.old (record_in state.now) o → Meets region.old (once_whole state.now o) result region.new }
+// A record that no setup and no call left, refused as a heap that fails: nothing but the answer is written.
+pub fn refuse_record(answer: &mut [u32; ANSWER_WORDS]) -> u32
+    ensures { (result ≡ 4) × (answer.new ≡ answer_out (Refused HeapFails)) }
 {
-    let heap = unpack(state);
-    if state[MERGE] > 1 {
-        return Reply {
-            answer: Answer::Refused(Refusal::HeapFails),
-            heap,
-        };
-    }
-    call(region, heap)
+    tell(Answer::Refused(Refusal::HeapFails), answer)
 }
 
-// A call that may change the record, made and handed back to C. A refusal leaves the record's words as they are.
+// A refusal leaves the record's words as they are.
 // The record and the answer are two pointers in include/kruzhvela.h, and so two parameters of each function.
-pub fn hand_back<F: FnOnce(&mut [u32], Heap) -> Reply>(
+#[tactic(auto, unfolding(crate::specs::Handed::flat_after))]
+pub fn hand_back(
+    reply: Reply,
+    state: &mut [u32; RECORD_WORDS],
+    answer: &mut [u32; ANSWER_WORDS],
+) -> u32
+    ensures value { result ≡ refusal_out reply.answer }
+    ensures answer_after { answer.new ≡ answer_out reply.answer }
+    ensures state_after { state.new ≡ flat_after state.old reply.answer reply.heap }
+{
+    let refusal = tell(reply.answer, answer);
+    if refusal == 0 {
+        *state = pack(reply.heap);
+    }
+    refusal
+}
+
+// A call on the record that the words say, made and handed back to C.
+pub fn make<F: FnOnce(&mut [u32], Heap) -> Reply>(
     region: &mut [u32],
     state: &mut [u32; RECORD_WORDS],
     answer: &mut [u32; ANSWER_WORDS],
@@ -173,10 +177,28 @@ pub fn hand_back<F: FnOnce(&mut [u32], Heap) -> Reply>(
     requires { F.IsAlwaysCallable call }
     ensures { (o : Outcome) → Makes F.FnOnce call region.old (record_in state.old) o → handed result answer.new state.new region.new ≡ handed_by region.old state.old o }
 {
-    let reply = on_record(region, state, call);
-    let refusal = tell(reply.answer, answer);
-    if refusal == 0 {
-        *state = pack(reply.heap);
+    if state[MERGE] > 1 {
+        return refuse_record(answer);
     }
-    refusal
+    let heap = unpack(state);
+    let reply = call(region, heap);
+    hand_back(reply, state, answer)
+}
+
+// The same of a call that leaves the record as it is: the answer alone is told.
+pub fn ask<F: FnOnce(&mut [u32], Heap) -> Reply>(
+    region: &mut [u32],
+    state: &[u32; RECORD_WORDS],
+    answer: &mut [u32; ANSWER_WORDS],
+    call: F,
+) -> u32
+    requires { F.IsAlwaysCallable call }
+    ensures { (o : Outcome) → o.heap ≡ record_in state.now → Makes F.FnOnce call region.old (record_in state.now) o → handed result answer.new state.now region.new ≡ handed_by region.old state.now o }
+{
+    if state[MERGE] > 1 {
+        return refuse_record(answer);
+    }
+    let heap = unpack(state);
+    let reply = call(region, heap);
+    tell(reply.answer, answer)
 }
