@@ -39,7 +39,7 @@ pub fn kind_of(summary: Summary, chunk: Chunk, flags: u32) -> Kind
 pub fn is_ordinary(kind: Kind) -> bool
     ensures { result ≡ ordinary_kind kind }
 {
-    kind == Kind::Ordinary
+    matches!(kind, Kind::Ordinary)
 }
 
 pub fn is_free(kind: Kind) -> bool

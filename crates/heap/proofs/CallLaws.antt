@@ -16,8 +16,9 @@ use Rattle.record.specs.declared.heap.Heap.{Heap}
 use Rattle.record.specs.declared.heap.Summary.{Summary}
 use Rattle.record.specs.Heap.{table_of, summary_of, with_merge}
 use Rattle.record.specs.Answers.{told}
+use Rattle.record.specs.Table.{ValidTable}
 use Rattle.std.specs.Prelude.{Option, Result}
-use Rattle.rules.specs.Check.{Passes, Tabled, passes}
+use Rattle.rules.specs.Check.{Passes, passes}
 use Rattle.rules.specs.Draft.{as_read}
 use Rattle.rules.specs.Outcome.{Outcome, judged, unchanged}
 use Rattle.rules.specs.Statements.{Meets}
@@ -49,10 +50,16 @@ module _ (ws : List ℕ) (h : Heap) (q : passes ws h ≡ true) where
   pub lent : h.bytes / 4 ≤ length ws
   lent = omega (arith, well.fits.bytes)
 
-  pub well_tabled : Tabled h
-  well_tabled = well.table
+  pub bins_few : h.bins ≤ 32
+  bins_few = well.table.bins
 
-  pub lent_even : take (h.bytes / 4) ws ≡ even_part ws
+  pub bins_there : h.bins ≤ length h.sizes
+  bins_there = omega (arith, well.table.bins, well.table.size_places)
+
+  pub table_valid : ValidTable (table_of h)
+  table_valid = well.table.valid
+
+  lent_even : take (h.bytes / 4) ws ≡ even_part ws
   lent_even =
       let n : h.bytes / 4 ≡ length ws / 2 * 2 = omega (arith, well.fits.bytes) in
       rw n refl

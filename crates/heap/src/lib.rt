@@ -2,10 +2,7 @@
 // Each asks the check first; setup and the patrol do not. How chunks are found, joined and written is in the layers below.
 #![tactic(auto)]
 
-ghost use Rattle.std.specs.Prelude.{◌≡◌};
-ghost use Rattle.record.specs.Heap.{table_of};
 ghost use Rattle.rules.specs.Allocate.{allocate_with};
-ghost use Rattle.rules.specs.Check.{Tabled};
 ghost use Rattle.rules.specs.Statements.{Allocates, AllocatesCleared, AsksBin, AsksChunk, Checks, Frees, Meets, Patrols, Reallocates, SetsMerge, SetsUp};
 ghost use Rattle.supply.specs.Supply.{fill_stores};
 
@@ -38,17 +35,6 @@ pub fn check(region: &mut [u32], heap: Heap) -> Reply
     }
 }
 
-// The table of a heap that passes.
-fn table_of(heap: &Heap) -> Table<'_>
-    requires { Tabled heap.now }
-    ensures { result.sizes.now ≡ table_of heap.now }
-{
-    let bins = heap.bins as usize;
-    Table {
-        sizes: &heap.sizes[..bins],
-    }
-}
-
 #[tactic(auto, unfolding(rules::specs::Merge::set_merge))]
 pub fn set_merge(region: &mut [u32], heap: Heap, on: bool) -> Reply
     ensures { SetsMerge region.old heap on result region.new }
@@ -69,7 +55,10 @@ pub fn ask_chunk(region: &mut [u32], heap: Heap, question: u32, place: u32) -> R
         return refused(heap, Refusal::HeapFails);
     }
     let even = (heap.bytes / 4) as usize;
-    let table = table_of(&heap);
+    let bins = heap.bins as usize;
+    let table = Table {
+        sizes: &heap.sizes[..bins],
+    };
     let told = ask::ask_chunk(&region[..even], table, heap.summary(), question, place);
     Reply {
         answer: Answer::from(told),
@@ -105,7 +94,11 @@ fn allocate_with(region: &mut [u32], heap: Heap, z: u64, clears: bool) -> Reply
     let need = need_of(z as u32);
     let mut ends = heap.ends();
     let want = Want { need, clears };
-    match supply(region, &mut ends, table_of(&heap), heap.summary(), want) {
+    let bins = heap.bins as usize;
+    let table = Table {
+        sizes: &heap.sizes[..bins],
+    };
+    match supply(region, &mut ends, table, heap.summary(), want) {
         Ok(supplied) => Reply {
             answer: supplied.answer,
             heap: heap.with_books(ends, supplied.summary),
@@ -146,7 +139,11 @@ pub fn free(region: &mut [u32], heap: Heap, block: Block) -> Reply
         return refused(heap, Refusal::NotLive);
     };
     let mut ends = heap.ends();
-    let freed = reclaim(region, &mut ends, table_of(&heap), heap.summary(), place);
+    let bins = heap.bins as usize;
+    let table = Table {
+        sizes: &heap.sizes[..bins],
+    };
+    let freed = reclaim(region, &mut ends, table, heap.summary(), place);
     Reply {
         answer: freed.answer,
         heap: heap.with_books(ends, freed.summary),
@@ -168,7 +165,11 @@ pub fn reallocate(region: &mut [u32], heap: Heap, block: Block, z: u32) -> Reply
     let Some(place) = find_block(region, heap.bytes, block) else {
         return refused(heap, Refusal::NotLive);
     };
-    resize(region, table_of(&heap), heap, place, need_of(z))
+    let bins = heap.bins as usize;
+    let table = Table {
+        sizes: &heap.sizes[..bins],
+    };
+    resize(region, table, heap, place, need_of(z))
 }
 
 // The check is not asked: the patrol is for heaps that fail it.

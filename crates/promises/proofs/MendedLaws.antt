@@ -80,9 +80,9 @@ module _ (ws : List ℕ) (h : Heap) (p : Passes ws h) (start : h.patrol.0 ≡ 0)
 
   -- whole forward links with no such sign are believed
   links_found : ForwardWhole ws h vs → NoSign ws h vs → NextFound ws h vs
-  links_found whole None e (m, l) =
+  links_found whole none e (m, l) =
       let link = whole e m ∙ (chunk_right ws h p e m l).link in
-      let b = believed vs end e.place (chunk_end e) (record { place = chunk_next ws h p e m l; no_skip = None e (m, l) }) in
+      let b = believed vs end e.place (chunk_end e) (record { place = chunk_next ws h p e m l; no_skip = none e (m, l) }) in
       next_believed vs end e.place (rw link b) ∙ ap Some link
 
 -- the forward link of e is broken, and nothing else is damaged
@@ -186,7 +186,7 @@ pub mended : Mended ours
 mended =
     record {
       found = λ ws h vs p z damaged next f l. undone ws h p z vs damaged next f l;
-      links_back = λ ws h vs p z damaged whole None f l. undone ws h p z vs damaged (links_found ws h p z vs whole None) f l;
+      links_back = λ ws h vs p z damaged whole none f l. undone ws h p z vs damaged (links_found ws h p z vs whole none) f l;
       only_without = λ ws h vs p z damaged whole f full. no_sign ws h p z vs (only_found ws h p z vs f full);
       one_link = λ ws h vs e p z one f l. undone ws h p z vs (one_damaged ws h p vs e one) (next_found ws h p vs e one) f l;
     }

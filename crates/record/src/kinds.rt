@@ -1,5 +1,5 @@
 // The kinds of a chunk. Which kind a chunk has is in the rules.
-#[derive(Clone, Copy, PartialEq, Eq)]
+#[derive(Clone, Copy)]
 pub enum Kind {
     Start,
     InUse,

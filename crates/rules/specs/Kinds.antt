@@ -1,5 +1,5 @@
 -- The kind of a chunk, and its block (manual 2.3, 2.4; document 01, "Words, chunks, blocks").
--- The eight bytes between a chunk's place and its block's stand in `overhead` and is_none else in the rules.
+-- The eight bytes between a chunk's place and its block's stand in `overhead` and nowhere else in the rules.
 use Rattle.std.specs.Prelude.{Bool, true, false, cond, List, ℕ, ◌+◌, ◌-◌, ◌/◌, ◌%◌, eqb}
 use Rattle.lists.specs.Lists.{head_or, keep}
 use Rattle.record.specs.declared.heap.Heap.{Heap}

@@ -1,6 +1,7 @@
 -- `heap::free` does what the rule says, on every region and every record. Assumes nothing.
 use Rattle.std.proofs.Common.{sym, ◌∙◌}
-use Rattle.heap.proofs.CallLaws.{well_tabled}
+use Rattle.std.proofs.lemmas.List.{length-take-le}
+use Rattle.heap.proofs.CallLaws.{bins_few, bins_there, table_valid}
 use Rattle.heap.proofs.FreeLaws.{free_meets, free_fails, free_none, free_refuses, free_reclaims}
 use Rattle.heap.proofs.free.Goals as goal
 
@@ -17,11 +18,17 @@ returns-in_default c =
     (free_meets
     (free_refuses (sym c.passes.ensures ∙ c.if-not-passes.false) c.if-block-eq0.false c.find_block.ensures c.in_default.is))
 
-pub table_of-requires : goal.table_of-requires
-table_of-requires c = well_tabled _ _ (sym c.passes.ensures ∙ c.if-not-passes.false)
+pub slice_bounds-table-end : goal.slice_bounds-table-end
+slice_bounds-table-end c = sym (length-take-le _ _ (bins_there _ _ (sym c.passes.ensures ∙ c.if-not-passes.false)))
+
+pub shared_ref_as_front-table : goal.shared_ref_as_front-table
+shared_ref_as_front-table c = bins_few _ _ (sym c.passes.ensures ∙ c.if-not-passes.false)
+
+pub invariant_of-table : goal.invariant_of-table
+invariant_of-table c = record { valid = table_valid _ _ (sym c.passes.ensures ∙ c.if-not-passes.false) }
 
 pub returns : goal.returns
 returns c =
     free_meets
     (free_reclaims (sym c.passes.ensures ∙ c.if-not-passes.false) c.if-block-eq0.false c.find_block.ensures c.in-Some.is
-    c.summary.ensures (rw (c.ends-ends.ensures, c.table_of.ensures) at c.reclaim-freed.ensures) c.with_books.ensures)
+    c.summary.ensures (rw c.ends-ends.ensures at c.reclaim-freed.ensures) c.with_books.ensures)

@@ -1,6 +1,7 @@
 -- `heap::reallocate` does what the rule says, on every region and every record. Assumes nothing.
 use Rattle.std.proofs.Common.{sym, ◌∙◌}
-use Rattle.heap.proofs.CallLaws.{well_tabled}
+use Rattle.std.proofs.lemmas.List.{length-take-le}
+use Rattle.heap.proofs.CallLaws.{bins_few, bins_there, table_valid}
 use Rattle.heap.proofs.ReallocateLaws.{reallocate_meets, reallocate_none, reallocate_fails, reallocate_refuses, reallocate_misses, reallocate_resizes}
 use Rattle.heap.proofs.reallocate.Goals as goal
 
@@ -26,11 +27,17 @@ returns-in_default c =
     (reallocate_misses c.if-block-eq0.false (sym c.passes.ensures ∙ c.if-not-passes.false) (sym c.is_permitted.ensures ∙ c.if-not-is_permitted.false)
     c.find_block.ensures c.in_default.is))
 
-pub table_of-requires : goal.table_of-requires
-table_of-requires c = well_tabled _ _ (sym c.passes.ensures ∙ c.if-not-passes.false)
+pub slice_bounds-table-end : goal.slice_bounds-table-end
+slice_bounds-table-end c = sym (length-take-le _ _ (bins_there _ _ (sym c.passes.ensures ∙ c.if-not-passes.false)))
+
+pub shared_ref_as_front-table : goal.shared_ref_as_front-table
+shared_ref_as_front-table c = bins_few _ _ (sym c.passes.ensures ∙ c.if-not-passes.false)
+
+pub invariant_of-table : goal.invariant_of-table
+invariant_of-table c = record { valid = table_valid _ _ (sym c.passes.ensures ∙ c.if-not-passes.false) }
 
 pub returns : goal.returns
 returns c =
     reallocate_meets
     (reallocate_resizes c.if-block-eq0.false (sym c.passes.ensures ∙ c.if-not-passes.false) (sym c.is_permitted.ensures ∙ c.if-not-is_permitted.false)
-    c.find_block.ensures c.in-Some.is c.need_of.ensures (rw c.table_of.ensures at c.resize.ensures))
+    c.find_block.ensures c.in-Some.is c.need_of.ensures c.resize.ensures)
