@@ -1,4 +1,5 @@
-// The archive for C: each function of the crate abi under its name, with its contract. include/kruzhvela.h declares them.
+// The archive for C: each function of the crate abi under its name, with its contract. include/kruzhvela.h declares them, so that each
+// stands here by itself.
 #![tactic(auto)]
 
 ghost use Rattle.std.specs.Prelude.{◌≡◌};

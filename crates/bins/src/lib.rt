@@ -13,7 +13,7 @@ use region::{BIN, BIN_FACTOR, Chunk, MOST_WORDS, NEXT_IN_BIN, PREVIOUS_IN_BIN, S
 // More steps along a list than the largest region has chunks, each of which has two words at least: damaged links might form a ring.
 const STEPS: u32 = MOST_WORDS as u32 / 2;
 
-// A place in a bin's list: between the chunks at `before` and at `after`, or 0 where the list ends.
+// A place in a bin's list: between the chunks at `before` and at `after`, or 0 where the list ends. They are the words that the links get.
 #[derive(Clone, Copy)]
 pub struct Slot {
     pub bin: usize,

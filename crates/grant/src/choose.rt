@@ -38,7 +38,7 @@ pub fn donor_serves(region: &[u32], donor: Chunk, need: u32) -> bool
     need as u64 + LEAST as u64 <= word(region, donor, SIZE) as u64
 }
 
-// The same of the top, which is always there.
+// The same of the top, which is always there. Two functions, as the rules have two tries (`try_donor`, `try_top`).
 #[tactic(auto, unfolding(crate::specs::Choose::top_m))]
 pub fn top_serves(region: &[u32], top: Chunk, need: u32) -> bool
     ensures { result ≡ top_m region.now top.0 need }

@@ -43,7 +43,8 @@ fn is_skip(region: &[u32], chunk: Chunk, link: u32) -> bool
     word(region, Chunk(between), FORWARD) == link
 }
 
-// The link stays in the heap, leads to a multiple of 8, and goes up by no less than `least`. In 64 bits the sum does not wrap.
+// The link stays in the heap, leads to a multiple of 8, and goes up by no less than `least`. In 64 bits the sum does not wrap; a difference by
+// saturating_sub would believe a link down where `least` is 0, against the contract.
 #[tactic(auto, unfolding(crate::specs::Links::can_follow_m))]
 pub fn can_follow(end: u32, chunk: Chunk, least: u32, link: u32) -> bool
     ensures { result ≡ can_follow_m end chunk.0 least link }

@@ -30,6 +30,7 @@ pub struct Counts {
     pub free: u32,
 }
 
+// A refusal is an answer and no `Err`: the record is handed back beside either, and the rules' `Meets` states both at once.
 #[derive(Clone, Copy)]
 pub enum Answer {
     Done,

@@ -16,6 +16,7 @@ pub struct Heap {
     pub sizes: [u32; PLACES],
     pub heads: [u32; PLACES],
     pub tails: [u32; PLACES],
+    // At 0 where there is none, as kz_record of include/kruzhvela.h and the rules (`try_donor`) have it.
     pub donor: Chunk,
     pub top: Chunk,
     pub merge: bool,

@@ -81,6 +81,7 @@ impl<'a> Table<'a> {
     }
 }
 
+// The recursion stays beside the library's partition_point: the theorem `five_deep` (proofs/HalvingLaws.antt) is of it.
 // Binary search: one of the `width` bins from `low` on takes the size, and the range is halved until one bin is left.
 // A table is a reference to the slice here, so that a call passes one pointer on, and the compiler makes a loop of the recursion.
 // Each half has its own test whether it is one bin, so that the loop branches on the comparison, which measured faster.

@@ -55,7 +55,8 @@ pub const LARGEST_HEAP: u32 = 4 * MOST_WORDS as u32;
 // No block starts here: it is no multiple of 8.
 const NO_BLOCK: u32 = 4294967295;
 
-// The last eight numbers have no number eight above them: they give `NO_BLOCK`.
+// The last eight numbers have no number eight above them: they give `NO_BLOCK`. An answer for each place, and no option, since the rules
+// stand on `block_at` and `chunk_at`.
 pub fn block_of(chunk: Chunk) -> Block
     ensures { result.0 ≡ block_at chunk.0 }
 {

@@ -20,6 +20,7 @@ pub struct Place {
     pub flags: u32,
 }
 
+// The walk goes along links, and a range would count what nothing else counts.
 pub fn find_chunk(region: &[u32], bytes: u32, place: u32) -> Option<Place>
     ensures { result ≡ sought_m (is_at place) 0 (shape region.now bytes) }
 {

@@ -19,10 +19,10 @@ pub fn examine_free(region: &[u32], visit: Visit, summary: Summary) -> Option<Ki
     if header.size() != visit.next - chunk.0 {
         return None;
     }
-    if chunk.0 == summary.top.0 {
+    if chunk == summary.top {
         return header.is_top(summary, visit.next).then_some(Kind::Top);
     }
-    if chunk.0 == summary.donor.0 {
+    if chunk == summary.donor {
         return header.is_donor(summary).then_some(Kind::Donor);
     }
     Some(Kind::Ordinary)
