@@ -5,7 +5,6 @@
 ghost use Rattle.std.specs.Prelude.{◌≡◌, IfOk, IfSome, take};
 
 use crate::play::play;
-use crate::script::numbers;
 use std::alloc::Global;
 use std::io;
 use std::io::Read;
@@ -15,6 +14,7 @@ mod digest;
 mod memory;
 mod play;
 mod script;
+mod words;
 
 // What is behind so many bytes of a script is not played.
 const SCRIPT_BYTES: u64 = 2097152;
@@ -22,15 +22,15 @@ const SCRIPT_BYTES: u64 = 2097152;
 fn read_script<R: Read + Drop>(alloc: Global, from: R) -> io::Result<Vec<u8>>
     ensures { IfOk result (λ script. IfSome (R.remaining from) (λ bytes. script.items ≡ take SCRIPT_BYTES bytes)) }
 {
-    let mut script = Vec::new(alloc);
+    // One byte more than a script may have: a full Vec would grow before the end of the input is seen.
+    let mut script = Vec::with_capacity(alloc, SCRIPT_BYTES as usize + 1)?;
     from.take(SCRIPT_BYTES).read_to_end(&mut script)?;
     Ok(script)
 }
 
 fn main(rt: HostRuntime) -> io::Result<()> {
     let script = read_script(rt.alloc(), rt.stdin())?;
-    let numbers = numbers(rt.alloc(), &script)?;
-    play(&rt, &numbers)
+    play(&rt, &script)
 }
 
 #[cfg(test)]
@@ -38,7 +38,7 @@ mod tests {
     use super::*;
     use crate::calls::Call;
     use crate::memory::Memory;
-    use crate::script::Actions;
+    use crate::script::{Args, Numbers};
     use std::test::Fail;
 
     #[test]
@@ -51,27 +51,28 @@ mod tests {
 
     #[test]
     fn finds_the_numbers(rt: HostRuntime) -> Result<(), Fail> {
-        let found = numbers(rt.alloc(), b"# 1\n-2 03x4294967299#5#6\n\n7")?;
+        let found: Vec<u32> = Numbers(b"# 1\n-2 03x4294967299#5#6\n\n7").collect(rt.alloc())?;
         assert_eq!(rt; found.as_slice(), [2, 3, 3, 7].as_slice());
         Ok(())
     }
 
     #[test]
     fn has_as_many_words_as_it_may(rt: HostRuntime) -> Result<(), Fail> {
+        let mut memory = Memory::new();
         for (words, want) in [(0, 0), (64, 64), (16401, 16400)] {
-            let memory = Memory::new(rt.alloc(), words, 1)?;
-            assert_eq!(rt; memory.region.len(), want);
+            memory.renew(words, 1);
+            assert_eq!(rt; memory.region().len(), want);
         }
         Ok(())
     }
 
     #[test]
     fn makes_the_table_of_a_setup(rt: HostRuntime) -> Result<(), Fail> {
-        let mut memory = Memory::new(rt.alloc(), 64, 64)?;
-        let action = Actions(&[1, 7, 64, 1, 4, 24, 32, 40, 128])
-            .next()
-            .ok_or("no action")?;
-        let answer = Call::Setup.answer(rt.alloc(), action.args, &mut memory)?;
+        let mut memory = Memory::new();
+        memory.renew(64, 64);
+        let mut args = Args::new();
+        args.read(&mut Numbers(b"7 64 1 4 24 32 40 128"));
+        let answer = memory.answer(Call::Setup, &args);
         assert_eq!(rt; answer, [0; 5]);
         Ok(())
     }

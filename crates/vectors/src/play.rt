@@ -1,7 +1,8 @@
 // The script played: action after action, and a line after each call.
 use crate::calls::Call;
-use crate::memory::{Memory, set_word};
-use crate::script::{Action, Actions, Args};
+use crate::memory::Memory;
+use crate::script::{Args, Numbers};
+use crate::words::set_word;
 use std::io;
 
 // What an action asks for.
@@ -41,17 +42,16 @@ impl TryFrom<u32> for Op {
     }
 }
 
-fn apply(rt: &(impl Print + AllocGlobal), action: Action, memory: &mut Memory) -> io::Result<()> {
-    let args = action.args;
-    let Ok(op) = Op::try_from(action.number) else {
+fn apply(rt: &impl Print, number: u32, args: &Args, memory: &mut Memory) -> io::Result<()> {
+    let Ok(op) = Op::try_from(number) else {
         return println!(rt; "unknown");
     };
     match op {
-        Op::Region => *memory = Memory::new(rt.alloc(), args.at(0), args.at(1))?,
-        Op::Write => set_word(&mut memory.region, args.at(0), args.at(1)),
+        Op::Region => memory.renew(args.at(0), args.at(1)),
+        Op::Write => memory.set_region_word(args.at(0), args.at(1)),
         Op::Record => set_word(&mut memory.state, args.at(0), args.at(1)),
         Op::Call(call) => {
-            let answer = call.answer(rt.alloc(), args, memory)?;
+            let answer = memory.answer(call, args);
             let digest = memory.digest(&answer);
             println!(rt; "{digest}")?;
         }
@@ -59,11 +59,15 @@ fn apply(rt: &(impl Print + AllocGlobal), action: Action, memory: &mut Memory) -
     Ok(())
 }
 
-pub fn play(rt: &(impl Print + AllocGlobal), numbers: &[u32]) -> io::Result<()> {
+pub fn play(rt: &impl Print, script: &[u8]) -> io::Result<()> {
     // Until the script asks for a region there is one of no words.
-    let mut memory = Memory::new(rt.alloc(), 0, 0)?;
-    for action in Actions(numbers) {
-        apply(rt, action, &mut memory)?;
+    let mut memory = Memory::new();
+    let mut numbers = Numbers(script);
+    // The arguments have one place for all actions: those of an action are not copied.
+    let mut args = Args::new();
+    while let Some(number) = numbers.next() {
+        args.read(&mut numbers);
+        apply(rt, number, &args, &mut memory)?;
     }
     Ok(())
 }

@@ -11,5 +11,5 @@ limited (Some xs) n read fits = fits
 
 pub returns : goal.returns
 returns g c =
-    let read = rw (c.take.ensures.limit, c.take.ensures.inner, c.new-script.ensures.items) at c.in_ok-read_to_end.ensures.bytes in
+    let read = rw (c.take.ensures.limit, c.take.ensures.inner, c.in_ok-script.ensures.items) at c.in_ok-read_to_end.ensures.bytes in
     limited (g.R.Read.remaining c.args.from) SCRIPT_BYTES c.read_to_end.new.buf.items read
