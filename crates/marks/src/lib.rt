@@ -2,7 +2,7 @@
 // What a mark means is not known here.
 #![tactic(auto)]
 
-ghost use Rattle.std.specs.Prelude.{◌*◌, ◌/◌, ◌<◌, ◌≡◌};
+ghost use Rattle.std.specs.Prelude.{◌*◌, ◌/◌, ◌<◌, length, ◌≡◌};
 ghost use Rattle.marks.specs.Marks.{clear, marked, flipped, number_m};
 
 use region::{ALIGNMENT, Chunk, LARGEST_HEAP};
@@ -39,8 +39,7 @@ impl Marks {
         requires { chunk.0 < LARGEST_HEAP }
         ensures { self.new.words ≡ flipped self.old.words chunk.0 }
     {
-        let i = (chunk.0 / SPAN) as usize;
-        self.words[i] ^= 1 << (chunk.0 / ALIGNMENT % BITS);
+        flip(&mut self.words, chunk)
     }
 
     // The mark with this number.
@@ -48,10 +47,26 @@ impl Marks {
         requires { 8 * number < LARGEST_HEAP }
         ensures { result ≡ marked self.now.words (8 * number) }
     {
-        let i = (number / BITS) as usize;
-        let bit = 1 << (number % BITS);
-        self.words[i] & bit != 0
+        is_marked(&self.words, number)
     }
+}
+
+// The two in words that may be fewer or more than those of `Marks`.
+pub fn flip(marks: &mut [u32], chunk: Chunk)
+    requires { chunk.0 / 256 < length marks.old }
+    ensures { marks.new ≡ flipped marks.old chunk.0 }
+{
+    let i = (chunk.0 / SPAN) as usize;
+    marks[i] ^= 1 << (chunk.0 / ALIGNMENT % BITS);
+}
+
+pub fn is_marked(marks: &[u32], number: u32) -> bool
+    requires { number / 32 < length marks.now }
+    ensures { result ≡ marked marks.now (8 * number) }
+{
+    let i = (number / BITS) as usize;
+    let bit = 1 << (number % BITS);
+    marks[i] & bit != 0
 }
 
 // The number of a place's mark: multiples of 8 are counted from 0. Of any other place the low three bits, which are not all 0, come to the

@@ -2,7 +2,7 @@
 // The lists of the bins are walked afterwards, in the crate `sweep`.
 #![tactic(auto)]
 
-ghost use Rattle.std.specs.Prelude.{◌≡◌, ◌<◌};
+ghost use Rattle.std.specs.Prelude.{◌≡◌, ◌<◌, ◌/◌, length};
 ghost use Rattle.chain.specs.Length.{Lent};
 ghost use Rattle.survey.specs.Chunks.{is_first_m};
 ghost use Rattle.record.specs.declared.kinds.Kind.TheVariants.{Start};
@@ -11,10 +11,10 @@ ghost use Rattle.survey.specs.Survey.{SurveyIs, added_m, finish_m, first_limit_m
 use crate::chunks::examine;
 use crate::visit::Visit;
 use chain::is_ordinary;
-use marks::Marks;
+use marks::{Marks, flip};
 use record::heap::Summary;
 use record::kinds::Kind;
-use region::{BACKWARD, Chunk, END_SIZE, FORWARD, IN_USE, LARGEST_HEAP};
+use region::{BACKWARD, Chunk, END_SIZE, FORWARD, IN_USE};
 
 pub mod chunks;
 pub mod header;
@@ -88,12 +88,12 @@ pub fn tallied(tally: Tally, kind: Kind, size: u32) -> Tally
 }
 
 #[tactic(auto, unfolding(crate::specs::Survey::mark_m))]
-pub fn mark(marks: &mut Marks, kind: Kind, chunk: Chunk)
-    requires { chunk.0 < LARGEST_HEAP }
-    ensures { marks.new.words ≡ mark_m marks.old.words kind chunk.0 }
+pub fn mark(marks: &mut [u32], kind: Kind, chunk: Chunk)
+    requires { chunk.0 / 256 < length marks.old }
+    ensures { marks.new ≡ mark_m marks.old kind chunk.0 }
 {
     if is_ordinary(kind) {
-        marks.flip(chunk);
+        flip(marks, chunk);
     }
 }
 
@@ -151,7 +151,7 @@ pub fn walk(region: &[u32], summary: Summary, marks: &mut Marks) -> Option<Tally
         let chunk = visit.chunk;
         if visit.goes_on(limit) {
             let kind = examine(region, visit, summary)?;
-            mark(marks, kind, chunk);
+            mark(&mut marks.words, kind, chunk);
             tally = tallied(tally, kind, visit.next - chunk.0);
             visit = Visit::meet(region, chunk, Chunk(visit.next));
             continue;

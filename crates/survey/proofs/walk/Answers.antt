@@ -44,7 +44,7 @@ overflow_sub-visit c = omega (arith, (followed (goal.at.overflow_sub-visit c).Th
 -- the walk stands at the next chunk
 stands : (c : After-tallied-tally)
     → let v = c.loop-summary.visit in
-    Walking c.args.region.now c.args.summary c.args.marks.now.words c.mark.new.marks.words c.tallied-tally.result v.chunk.0 v.next
+    Walking c.args.region.now c.args.summary c.args.marks.now.words c.mark.new.marks c.tallied-tally.result v.chunk.0 v.next
     c.loop-summary.limit
 stands c =
     let (walking, read) = c.loop-summary.invariant in

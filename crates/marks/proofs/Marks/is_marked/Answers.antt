@@ -1,6 +1,0 @@
--- `Marks::is_marked` tests one bit of one word. Assumes nothing.
-use Rattle.marks.proofs.MarksLaws.{shifted, mark_numbered}
-use Rattle.marks.proofs.Marks.is_marked.Goals as goal
-
-pub returns : goal.returns
-returns c = rw shifted (mark_numbered c.args.self.now.words c.args.number)
