@@ -10,8 +10,18 @@ use Rattle.fresh.proofs.first_record.padded.Goals as goal
 pub loop-i-preserved : goal.loop-i-preserved
 loop-i-preserved c =
     let l = c.loop-i in
+    let t = c.args.table.now in (
+      omega arith,
+      rw l.invariant.1 (rw (zero-add l.i, zero-add (l.i + 1)) at (paste_more zeros 0 t l.i 0 (omega arith) (omega arith))),
+    )
+
+pub returns-then-table-i : goal.returns-then-table-i
+unfolding padded_m
+returns-then-table-i c =
+    let l = c.loop-i in
     let t = c.args.table.now in
-    rw l.invariant (rw (zero-add l.i, zero-add (l.i + 1)) at (paste_more zeros 0 t l.i 0 (omega arith) (omega arith)))
+    let e : l.i ≡ min (length t) 32 = omega arith in
+    rw (l.invariant.1, e) (kept_is t)
 
 pub returns : goal.returns
 unfolding padded_m
@@ -19,4 +29,4 @@ returns c =
     let l = c.loop-i in
     let t = c.args.table.now in
     let e : l.i ≡ min (length t) 32 = omega arith in
-    rw (l.invariant, e) (kept_is t)
+    rw (l.invariant.1, e) (kept_is t)
