@@ -2,7 +2,7 @@
 // What a call does is not known here. Neither the record nor the answer is of this crate, nor are arrays, so no `From` says it.
 ghost use Rattle.std.specs.Prelude.{◌≡◌, ◌+◌, ◌≤◌, length};
 ghost use Rattle.std.proofs.Math.Seq.{paste};
-ghost use Rattle.abi.specs.Flat.{record_in, record_out, record_words, answer_out, refusal_out};
+ghost use Rattle.abi.specs.Flat.{record_in, record_out, answer_out, refusal_out};
 ghost use Rattle.abi.specs.Handed.{flat_after, handed, handed_by};
 ghost use Rattle.abi.specs.Replied.{Makes};
 ghost use Rattle.record.specs.Heap.{summary_of};

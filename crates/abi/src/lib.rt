@@ -45,9 +45,8 @@ pub fn kz_setup(
     ensures { handed result answer.new state.new region.new ≡ opened_by region.old (setup region.old table.now donor merge) }
 {
     let reply = heap::setup(region, table, donor, merge);
-    let refusal = tell(reply.answer, answer);
     *state = pack(reply.heap);
-    refusal
+    tell(reply.answer, answer)
 }
 
 pub fn kz_allocate(

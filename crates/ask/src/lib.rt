@@ -9,7 +9,7 @@ ghost use Rattle.ask.specs.Questions.{ask_bin_m, ask_chunk_m};
 use bins::list_end;
 use details::{link_told, of_chunk};
 use record::answers::Refusal;
-use record::heap::{Ends, Summary};
+use record::heap::Summary;
 use record::questions::{ASK_CHUNK, BinQuestion, ChunkQuestion};
 use record::table::Table;
 use region::{Block, Chunk, NEXT_IN_BIN, word};
@@ -51,18 +51,19 @@ fn count_members(region: &[u32], first: u32, steps: u32) -> u32
 #[tactic(auto, unfolding(crate::specs::Questions::ask_bin_m, crate::specs::Questions::list_told))]
 pub fn ask_bin(
     region: &[u32],
-    ends: &Ends,
+    heads: &[u32],
+    tails: &[u32],
     summary: Summary,
     question: u32,
     bin: u32,
 ) -> Result<Option<u32>, Refusal>
-    ensures { result ≡ ask_bin_m region.now ends.now.heads ends.now.tails summary question bin }
+    ensures { result ≡ ask_bin_m region.now heads.now tails.now summary question bin }
 {
     if summary.bins <= bin {
         return Err(Refusal::NotThere);
     }
-    let first = list_end(&ends.heads, bin as usize);
-    let last = list_end(&ends.tails, bin as usize);
+    let first = list_end(heads, bin as usize);
+    let last = list_end(tails, bin as usize);
     match BinQuestion::try_from(question)? {
         BinQuestion::Count => Ok(Some(count_members(region, first, summary.bytes))),
         BinQuestion::First => Ok(link_told(first)),

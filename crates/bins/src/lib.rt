@@ -1,10 +1,11 @@
 // The bins' free lists, which are doubly linked: leaving one, finding a place in one and putting a chunk there, first fit, the next bin that is
 // not empty.
-// Head and tail of a bin stand in the record's `Ends`, the links in the region. Which bin a chunk belongs in is not known here.
+// Head and tail of a bin stand in the two slices that `Ends` lends, the links in the region. Which bin a chunk belongs in is not known here.
 #![tactic(auto)]
 
 ghost use Rattle.std.specs.Prelude.{◌≡◌, ◌*◌, ◌%◌, slice_index, slice_set};
 ghost use Rattle.books.specs.Books.{books};
+ghost use Rattle.record.specs.Heap.{SameSlices};
 ghost use Rattle.bins.specs.Bins.{side, chunk_or_none, link_m, leave_m, put_m, first_fit_m, next_occupied_m, member_before_m, slot_m, steps};
 
 use record::heap::{Ends, PLACES};
@@ -58,26 +59,28 @@ fn link(region: &mut [u32], ends: &mut [u32], bin: usize, from: u32, number: u32
 
 // The chunk's own words stay as they are: the caller clears them or puts it elsewhere.
 #[tactic(auto, unfolding(crate::specs::Bins::leave_m))]
-pub fn leave(region: &mut [u32], ends: &mut Ends, chunk: Chunk)
-    ensures { books region.new ends.new.heads ends.new.tails ≡ leave_m (books region.old ends.old.heads ends.old.tails) chunk.0 }
+pub fn leave(region: &mut [u32], ends: &mut Ends<'_>, chunk: Chunk)
+    ensures books_after { books region.new ends.new.heads.now ends.new.tails.now ≡ leave_m (books region.old ends.old.heads.now ends.old.tails.now) chunk.0 }
+    ensures same_slices { SameSlices ends.old ends.new }
 {
     let after = word(region, chunk, NEXT_IN_BIN);
     let before = word(region, chunk, PREVIOUS_IN_BIN);
     let bin = (word(region, chunk, BIN) / BIN_FACTOR) as usize;
-    link(region, &mut ends.heads, bin, before, NEXT_IN_BIN, after);
-    link(region, &mut ends.tails, bin, after, PREVIOUS_IN_BIN, before);
+    link(region, ends.heads, bin, before, NEXT_IN_BIN, after);
+    link(region, ends.tails, bin, after, PREVIOUS_IN_BIN, before);
 }
 
 #[tactic(auto, unfolding(crate::specs::Bins::put_m))]
-pub fn put_between(region: &mut [u32], ends: &mut Ends, slot: Slot, chunk: Chunk)
-    ensures { books region.new ends.new.heads ends.new.tails ≡ put_m (books region.old ends.old.heads ends.old.tails) slot chunk.0 }
+pub fn put_between(region: &mut [u32], ends: &mut Ends<'_>, slot: Slot, chunk: Chunk)
+    ensures books_after { books region.new ends.new.heads.now ends.new.tails.now ≡ put_m (books region.old ends.old.heads.now ends.old.tails.now) slot chunk.0 }
+    ensures same_slices { SameSlices ends.old ends.new }
 {
     let Slot { bin, before, after } = slot;
     let at = chunk.0;
-    link(region, &mut ends.heads, bin, before, NEXT_IN_BIN, at);
+    link(region, ends.heads, bin, before, NEXT_IN_BIN, at);
     store(region, chunk, PREVIOUS_IN_BIN, before);
     store(region, chunk, NEXT_IN_BIN, after);
-    link(region, &mut ends.tails, bin, after, PREVIOUS_IN_BIN, at);
+    link(region, ends.tails, bin, after, PREVIOUS_IN_BIN, at);
     store(region, chunk, BIN, bin_word(bin));
 }
 
@@ -112,10 +115,10 @@ fn member_before(region: &[u32], tails: &[u32], bin: usize, at: u32) -> u32
 // Where a chunk of this size goes in a bin: at the head of a bin of the small array, which is last in, first out; in any other before the first
 // larger member, and so behind those of equal size. `small` says which the bin is. The first larger member is the first fit for one byte more.
 #[tactic(auto, unfolding(crate::specs::Bins::slot_m))]
-pub fn slot_for(region: &[u32], ends: &Ends, small: bool, bin: usize, size: u32) -> Slot
-    ensures { result ≡ slot_m (books region.now ends.now.heads ends.now.tails) small bin size }
+pub fn slot_for(region: &[u32], ends: &Ends<'_>, small: bool, bin: usize, size: u32) -> Slot
+    ensures { result ≡ slot_m (books region.now ends.now.heads.now ends.now.tails.now) small bin size }
 {
-    let head = list_end(&ends.heads, bin);
+    let head = list_end(ends.heads, bin);
     if small {
         return Slot {
             bin,
@@ -127,7 +130,7 @@ pub fn slot_for(region: &[u32], ends: &Ends, small: bool, bin: usize, size: u32)
     let after = larger.map_or(0, |chunk| chunk.0);
     Slot {
         bin,
-        before: member_before(region, &ends.tails, bin, after),
+        before: member_before(region, ends.tails, bin, after),
         after,
     }
 }

@@ -2,6 +2,7 @@
 // Which chunk it is was chosen before; the caller sets the record.
 ghost use Rattle.std.specs.Prelude.{◌≡◌};
 ghost use Rattle.books.specs.Books.{books};
+ghost use Rattle.record.specs.Heap.{SameSlices};
 ghost use Rattle.grant.specs.Cut.{cut_m, granted_m, take_m};
 
 use chain::is_ordinary;
@@ -54,8 +55,9 @@ pub fn cut_of(region: &[u32], chunk: Chunk, need: u32) -> Cut
 
 // The writes. Only an ordinary chunk is in a bin, and leaves it.
 #[tactic(auto, unfolding(crate::specs::Cut::take_m))]
-pub fn take(region: &mut [u32], ends: &mut Ends, table: Table<'_>, kind: Kind, cut: Cut)
-    ensures { books region.new ends.new.heads ends.new.tails ≡ take_m (books region.old ends.old.heads ends.old.tails) table.entry.sizes.now kind cut }
+pub fn take(region: &mut [u32], ends: &mut Ends<'_>, table: Table<'_>, kind: Kind, cut: Cut)
+    ensures books_after { books region.new ends.new.heads.now ends.new.tails.now ≡ take_m (books region.old ends.old.heads.now ends.old.tails.now) table.entry.sizes.now kind cut }
+    ensures same_slices { SameSlices ends.old ends.new }
 {
     leave_bin(region, ends, is_ordinary(kind), cut.chunk);
     write_used(region, cut.below, cut.chunk, cut.rest);

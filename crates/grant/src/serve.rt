@@ -2,6 +2,7 @@
 // Where nothing can serve, the caller has refused before.
 ghost use Rattle.std.specs.Prelude.{◌≡◌, Some};
 ghost use Rattle.books.specs.Books.{books};
+ghost use Rattle.record.specs.Heap.{SameSlices};
 ghost use Rattle.drafts.specs.Sources.{kind_in, place_in};
 ghost use Rattle.grant.specs.Serve.{served, serve_m};
 
@@ -53,12 +54,13 @@ fn place_in(summary: Summary, source: Source) -> Chunk
 #[tactic(auto, unfolding(crate::specs::Serve::serve_m, crate::specs::Serve::taken_m))]
 pub fn serve(
     region: &mut [u32],
-    ends: &mut Ends,
+    ends: &mut Ends<'_>,
     table: Table<'_>,
     summary: Summary,
     order: Order,
 ) -> Portion
-    ensures { served (books region.new ends.new.heads ends.new.tails) result ≡ serve_m (books region.old ends.old.heads ends.old.tails) table.entry.sizes.now summary (Some order.source) order.need }
+    ensures outcome { served (books region.new ends.new.heads.now ends.new.tails.now) result ≡ serve_m (books region.old ends.old.heads.now ends.old.tails.now) table.entry.sizes.now summary (Some order.source) order.need }
+    ensures same_slices { SameSlices ends.old ends.new }
 {
     let kind = kind_in(order.source);
     let chunk = place_in(summary, order.source);

@@ -50,9 +50,6 @@ module _ (ws : List ℕ) (h : Heap) (q : passes ws h ≡ true) where
   pub lent : h.bytes / 4 ≤ length ws
   lent = omega (arith, well.fits.bytes)
 
-  pub bins_few : h.bins ≤ 32
-  bins_few = well.table.bins
-
   pub bins_there : h.bins ≤ length h.sizes
   bins_there = omega (arith, well.table.bins, well.table.size_places)
 

@@ -1,5 +1,7 @@
 // The public calls: each takes the region and the record, and hands the record back beside its answer.
 // Each asks the check first; setup and the patrol do not. How chunks are found, joined and written is in the layers below.
+// What is lent of a record are copies of its arrays: where a part of the record itself is lent, the compiler keeps one more copy of the whole for
+// each call that takes it.
 #![tactic(auto)]
 
 ghost use Rattle.rules.specs.Allocate.{allocate_with};
@@ -11,7 +13,7 @@ use grant::need::{is_permitted, need_of};
 use patrol::tour;
 use reclaim::reclaim;
 use record::answers::{Answer, Refusal, Reply};
-use record::heap::Heap;
+use record::heap::{Ends, Heap};
 use record::table::Table;
 use region::Block;
 use replies::refused;
@@ -56,8 +58,9 @@ pub fn ask_chunk(region: &mut [u32], heap: Heap, question: u32, place: u32) -> R
     }
     let even = (heap.bytes / 4) as usize;
     let bins = heap.bins as usize;
+    let sizes = heap.sizes;
     let table = Table {
-        sizes: &heap.sizes[..bins],
+        sizes: &sizes[..bins],
     };
     let told = ask::ask_chunk(&region[..even], table, heap.summary(), question, place);
     Reply {
@@ -73,8 +76,16 @@ pub fn ask_bin(region: &mut [u32], heap: Heap, question: u32, bin: u32) -> Reply
         return refused(heap, Refusal::HeapFails);
     }
     let even = (heap.bytes / 4) as usize;
-    let ends = heap.ends();
-    let told = ask::ask_bin(&region[..even], &ends, heap.summary(), question, bin);
+    let heads = heap.heads;
+    let tails = heap.tails;
+    let told = ask::ask_bin(
+        &region[..even],
+        &heads,
+        &tails,
+        heap.summary(),
+        question,
+        bin,
+    );
     Reply {
         answer: Answer::from(told),
         heap,
@@ -92,18 +103,25 @@ fn allocate_with(region: &mut [u32], heap: Heap, z: u64, clears: bool) -> Reply
         return refused(heap, Refusal::BlockSize);
     }
     let need = need_of(z as u32);
-    let mut ends = heap.ends();
+    let mut heads = heap.heads;
+    let mut tails = heap.tails;
+    let mut ends = Ends {
+        heads: &mut heads,
+        tails: &mut tails,
+    };
     let want = Want { need, clears };
     let bins = heap.bins as usize;
+    let sizes = heap.sizes;
     let table = Table {
-        sizes: &heap.sizes[..bins],
+        sizes: &sizes[..bins],
     };
-    match supply(region, &mut ends, table, heap.summary(), want) {
-        Ok(supplied) => Reply {
-            answer: supplied.answer,
-            heap: heap.with_books(ends, supplied.summary),
-        },
-        Err(why) => refused(heap, why),
+    let supplied = match supply(region, &mut ends, table, heap.summary(), want) {
+        Ok(supplied) => supplied,
+        Err(why) => return refused(heap, why),
+    };
+    Reply {
+        answer: supplied.answer,
+        heap: heap.with_books(heads, tails, supplied.summary),
     }
 }
 
@@ -138,15 +156,21 @@ pub fn free(region: &mut [u32], heap: Heap, block: Block) -> Reply
     let Some(place) = find_block(region, heap.bytes, block) else {
         return refused(heap, Refusal::NotLive);
     };
-    let mut ends = heap.ends();
+    let mut heads = heap.heads;
+    let mut tails = heap.tails;
+    let mut ends = Ends {
+        heads: &mut heads,
+        tails: &mut tails,
+    };
     let bins = heap.bins as usize;
+    let sizes = heap.sizes;
     let table = Table {
-        sizes: &heap.sizes[..bins],
+        sizes: &sizes[..bins],
     };
     let freed = reclaim(region, &mut ends, table, heap.summary(), place);
     Reply {
         answer: freed.answer,
-        heap: heap.with_books(ends, freed.summary),
+        heap: heap.with_books(heads, tails, freed.summary),
     }
 }
 
@@ -166,8 +190,9 @@ pub fn reallocate(region: &mut [u32], heap: Heap, block: Block, z: u32) -> Reply
         return refused(heap, Refusal::NotLive);
     };
     let bins = heap.bins as usize;
+    let sizes = heap.sizes;
     let table = Table {
-        sizes: &heap.sizes[..bins],
+        sizes: &sizes[..bins],
     };
     resize(region, table, heap, place, need_of(z))
 }

@@ -4,6 +4,7 @@
 
 ghost use Rattle.std.specs.Prelude.{◌≡◌, Ok};
 ghost use Rattle.books.specs.Books.{books};
+ghost use Rattle.record.specs.Heap.{SameSlices};
 ghost use Rattle.reclaim.specs.Reclaim.{reclaim_m};
 ghost use Rattle.replies.specs.Replies.{concluded};
 
@@ -18,12 +19,13 @@ use seek::Place;
 #[tactic(auto, using(replies::proofs::ChangeLaws::change_kept), unfolding(crate::specs::Reclaim::reclaim_m))]
 pub fn reclaim(
     region: &mut [u32],
-    ends: &mut Ends,
+    ends: &mut Ends<'_>,
     table: Table<'_>,
     summary: Summary,
     place: Place,
 ) -> Answered
-    ensures { concluded (books region.new ends.new.heads ends.new.tails) (Ok result) ≡ reclaim_m (books region.old ends.old.heads ends.old.tails) table.entry.sizes.now summary place }
+    ensures outcome { concluded (books region.new ends.new.heads.now ends.new.tails.now) (Ok result) ≡ reclaim_m (books region.old ends.old.heads.now ends.old.tails.now) table.entry.sizes.now summary place }
+    ensures same_slices { SameSlices ends.old ends.new }
 {
     let size = distance(place.chunk.0, place.end);
     Answered {

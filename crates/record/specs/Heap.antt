@@ -1,7 +1,7 @@
 -- The record (manual 3.4; document 01, "The bin table and the record"): its empty value, its summary, its setters, its table and its places
 -- for bins. All the fields are listed in this file, in the record of a fresh heap and in the flat record of the C interface alone:
 -- every other definition names the fields that it uses.
-use Rattle.std.specs.Prelude.{ℕ, Bool, false, List, replicate, take}
+use Rattle.std.specs.Prelude.{ℕ, ◌≡◌, Bool, false, List, replicate, take}
 use Rattle.region.specs.declared.Chunk.{Chunk}
 use Rattle.record.specs.declared.heap.Ends.{Ends}
 use Rattle.record.specs.declared.heap.Heap.{Heap}
@@ -48,9 +48,9 @@ summary_of h =
       patrol = h.patrol;
     }
 
--- the heads and tails of the record
-abbrev pub ends_of : Heap → Ends
-ends_of h = record { heads = h.heads; tails = h.tails }
+-- the ends of the bins are still those of the same two slices
+abbrev pub SameSlices : Ends → Ends → Type 0
+SameSlices old new = (new.heads.ghost_name ≡ old.heads.ghost_name) × (new.tails.ghost_name ≡ old.tails.ghost_name)
 
 -- the record of a summary and of the sizes, heads and tails of the bins; every setter of the record is made of it
 abbrev pub record_of : Summary → List ℕ → List ℕ → List ℕ → Heap

@@ -2,7 +2,7 @@
 // place; its summary, which is the record without its arrays; and the ends of its bins. What the fields must be for a heap to pass is in
 // the rules.
 ghost use Rattle.std.specs.Prelude.{◌≡◌};
-ghost use Rattle.record.specs.Heap.{donor_now, empty, ends_of, patrol_now, summary_of, top_now, used_now, with_ends, with_merge, with_patrol, with_summary};
+ghost use Rattle.record.specs.Heap.{donor_now, empty, patrol_now, summary_of, top_now, used_now, with_ends, with_merge, with_patrol, with_summary};
 
 use region::Chunk;
 
@@ -37,11 +37,11 @@ pub struct Summary {
     pub patrol: Chunk,
 }
 
-// The ends of the bins' lists: what a grant or a free changes beside the scalars.
-#[derive(Clone, Copy)]
-pub struct Ends {
-    pub heads: [u32; PLACES],
-    pub tails: [u32; PLACES],
+// The ends of the bins' lists, lent: what a grant or a free changes beside the scalars.
+#[derive(Drop)]
+pub struct Ends<'a> {
+    pub heads: &'a mut [u32],
+    pub tails: &'a mut [u32],
 }
 
 impl Summary {
@@ -103,21 +103,11 @@ impl Heap {
         }
     }
 
-    pub fn ends(self) -> Ends
-        ensures { result ≡ ends_of self }
-    {
-        let heads = self.heads;
-        let tails = self.tails;
-        Ends { heads, tails }
-    }
-
     // All that a grant or a free changes.
-    pub fn with_books(self, ends: Ends, summary: Summary) -> Self
-        ensures { result ≡ with_ends (with_summary self summary) ends.heads ends.tails }
+    pub fn with_books(self, heads: [u32; PLACES], tails: [u32; PLACES], summary: Summary) -> Self
+        ensures { result ≡ with_ends (with_summary self summary) heads tails }
     {
         let sizes = self.sizes;
-        let heads = ends.heads;
-        let tails = ends.tails;
         Self {
             bytes: summary.bytes,
             bins: summary.bins,

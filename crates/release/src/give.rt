@@ -2,6 +2,7 @@
 // handed back: the caller sets the record.
 ghost use Rattle.std.specs.Prelude.{◌≡◌};
 ghost use Rattle.books.specs.Books.{books};
+ghost use Rattle.record.specs.Heap.{SameSlices};
 ghost use Rattle.release.specs.Give.{given_up, give_up_m};
 
 use crate::{give_back, join, moved_down};
@@ -14,12 +15,13 @@ use settling::settled;
 #[tactic(auto, unfolding(crate::specs::Give::give_up_m))]
 pub fn give_up(
     region: &mut [u32],
-    ends: &mut Ends,
+    ends: &mut Ends<'_>,
     table: Table<'_>,
     summary: Summary,
     place: Place,
 ) -> Summary
-    ensures { given_up (books region.new ends.new.heads ends.new.tails) result ≡ give_up_m (books region.old ends.old.heads ends.old.tails) table.entry.sizes.now summary place }
+    ensures outcome { given_up (books region.new ends.new.heads.now ends.new.tails.now) result ≡ give_up_m (books region.old ends.old.heads.now ends.old.tails.now) table.entry.sizes.now summary place }
+    ensures same_slices { SameSlices ends.old ends.new }
 {
     let joined = join(region, summary, place);
     let patrol = moved_down(joined, summary.patrol);

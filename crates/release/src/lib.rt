@@ -4,6 +4,7 @@
 
 ghost use Rattle.std.specs.Prelude.{◌≡◌, cond};
 ghost use Rattle.books.specs.Books.{books};
+ghost use Rattle.record.specs.Heap.{SameSlices};
 ghost use Rattle.region.specs.Words.{word, backward, forward};
 ghost use Rattle.release.specs.Release.{give_back_m, join_m, moved_m, neighbour_m};
 ghost use Rattle.rules.specs.Join.{joined_as};
@@ -120,8 +121,15 @@ pub fn moved_down(joined: Union, patrol: Chunk) -> Chunk
 
 // The writes. The neighbours of the place that joined leave their bins, the lower one first.
 #[tactic(auto, unfolding(crate::specs::Release::give_back_m))]
-pub fn give_back(region: &mut [u32], ends: &mut Ends, table: Table<'_>, place: Place, joined: Union)
-    ensures { books region.new ends.new.heads ends.new.tails ≡ give_back_m (books region.old ends.old.heads ends.old.tails) table.entry.sizes.now place joined }
+pub fn give_back(
+    region: &mut [u32],
+    ends: &mut Ends<'_>,
+    table: Table<'_>,
+    place: Place,
+    joined: Union,
+)
+    ensures books_after { books region.new ends.new.heads.now ends.new.tails.now ≡ give_back_m (books region.old ends.old.heads.now ends.old.tails.now) table.entry.sizes.now place joined }
+    ensures same_slices { SameSlices ends.old ends.new }
 {
     leave_bin(region, ends, joined.lower, place.before);
     leave_bin(region, ends, joined.upper, Chunk(place.end));

@@ -11,7 +11,7 @@ use grant::choose::choose;
 use grant::serve::{Order, serve};
 use headers::distance;
 use record::answers::{Answer, Refusal, Reply};
-use record::heap::Heap;
+use record::heap::{Ends, Heap};
 use record::table::Table;
 use region::{ALIGNMENT, BACKWARD, Chunk, FORWARD, LEAST, block_of, store, word};
 use release::give::give_up;
@@ -19,6 +19,9 @@ use replies::{change, refused};
 use seek::Place;
 
 // The chunk keeps its lowest bytes and gives the tail back. Of what is kept the forward link alone is written.
+// Neither this nor `move_block` is inlined: else the copies of the record that both make lie on the stack of a reallocate that allocates, the
+// deepest call.
+#[inline(never)]
 #[tactic(auto, using(replies::proofs::ChangeLaws::change_kept), unfolding(crate::specs::Resize::shrink_m, release::specs::Give::given_up_m))]
 fn shrink(region: &mut [u32], table: Table<'_>, heap: Heap, place: Place, need: u32) -> Reply
     ensures { replied result region.new ≡ shrink_m region.old table.entry.sizes.now heap place need }
@@ -31,12 +34,17 @@ fn shrink(region: &mut [u32], table: Table<'_>, heap: Heap, place: Place, need: 
         chunk: Chunk(rest),
         ..place
     };
-    let mut ends = heap.ends();
+    let mut heads = heap.heads;
+    let mut tails = heap.tails;
+    let mut ends = Ends {
+        heads: &mut heads,
+        tails: &mut tails,
+    };
     let summary = give_up(region, &mut ends, table, heap.summary(), tail);
     let size = distance(chunk.0, place.end);
     Reply {
         answer: Answer::Granted(block_of(chunk), change(size, need)),
-        heap: heap.with_books(ends, summary),
+        heap: heap.with_books(heads, tails, summary),
     }
 }
 
@@ -53,14 +61,20 @@ fn with_link_reread(region: &[u32], place: Place) -> Place
 }
 
 // A block is allocated, the whole old block is copied to it, and the old one is freed.
+#[inline(never)]
 #[tactic(auto, using(replies::proofs::ChangeLaws::change_kept), unfolding(crate::specs::Resize::move_m, crate::specs::Resize::moved_m, grant::specs::Serve::served_m, release::specs::Give::given_up_m))]
 fn move_block(region: &mut [u32], table: Table<'_>, heap: Heap, place: Place, need: u32) -> Reply
     ensures { replied result region.new ≡ move_m region.old table.entry.sizes.now heap place need }
 {
     let summary = heap.summary();
-    let mut ends = heap.ends();
-    let Some(source) = choose(region, table, &ends.heads, summary, need) else {
+    let mut heads = heap.heads;
+    let mut tails = heap.tails;
+    let Some(source) = choose(region, table, &heads, summary, need) else {
         return refused(heap, Refusal::NoRoom);
+    };
+    let mut ends = Ends {
+        heads: &mut heads,
+        tails: &mut tails,
     };
     let grant = serve(region, &mut ends, table, summary, Order { source, need });
     let size = distance(place.chunk.0, place.end);
@@ -69,7 +83,7 @@ fn move_block(region: &mut [u32], table: Table<'_>, heap: Heap, place: Place, ne
     let freed = give_up(region, &mut ends, table, grant.summary, old);
     Reply {
         answer: Answer::Granted(block_of(grant.chunk), change(size, grant.size)),
-        heap: heap.with_books(ends, freed),
+        heap: heap.with_books(heads, tails, freed),
     }
 }
 

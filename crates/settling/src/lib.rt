@@ -4,6 +4,7 @@
 
 ghost use Rattle.std.specs.Prelude.{◌≡◌};
 ghost use Rattle.books.specs.Books.{books};
+ghost use Rattle.record.specs.Heap.{SameSlices};
 ghost use Rattle.settling.specs.Settling.{leave_bin_m, put_in_bin_m, settle_m, settled_m};
 
 use bins::{leave, put_between, slot_for};
@@ -24,8 +25,9 @@ pub struct Arrival {
 
 // A chunk leaves its bin, if the caller says that it is in one: the caller knows its kind.
 #[tactic(auto, unfolding(crate::specs::Settling::leave_bin_m))]
-pub fn leave_bin(region: &mut [u32], ends: &mut Ends, binned: bool, chunk: Chunk)
-    ensures { books region.new ends.new.heads ends.new.tails ≡ leave_bin_m (books region.old ends.old.heads ends.old.tails) binned chunk.0 }
+pub fn leave_bin(region: &mut [u32], ends: &mut Ends<'_>, binned: bool, chunk: Chunk)
+    ensures books_after { books region.new ends.new.heads.now ends.new.tails.now ≡ leave_bin_m (books region.old ends.old.heads.now ends.old.tails.now) binned chunk.0 }
+    ensures same_slices { SameSlices ends.old ends.new }
 {
     if binned {
         leave(region, ends, chunk);
@@ -34,8 +36,15 @@ pub fn leave_bin(region: &mut [u32], ends: &mut Ends, binned: bool, chunk: Chunk
 
 // Into the bin of its size. A chunk smaller than the first bin, which no heap that passes has, is put nowhere.
 #[tactic(auto, using(record::proofs::TableLaws::bin_is), unfolding(crate::specs::Settling::put_in_bin_m, crate::specs::Settling::put_binned_m, bins::specs::Bins::put_into_m))]
-pub fn put_in_bin(region: &mut [u32], ends: &mut Ends, table: Table<'_>, chunk: Chunk, size: u32)
-    ensures { books region.new ends.new.heads ends.new.tails ≡ put_in_bin_m (books region.old ends.old.heads ends.old.tails) table.entry.sizes.now chunk.0 size }
+pub fn put_in_bin(
+    region: &mut [u32],
+    ends: &mut Ends<'_>,
+    table: Table<'_>,
+    chunk: Chunk,
+    size: u32,
+)
+    ensures books_after { books region.new ends.new.heads.now ends.new.tails.now ≡ put_in_bin_m (books region.old ends.old.heads.now ends.old.tails.now) table.entry.sizes.now chunk.0 size }
+    ensures same_slices { SameSlices ends.old ends.new }
 {
     let Some(bin) = table.bin_of(size) else {
         return;
@@ -47,8 +56,9 @@ pub fn put_in_bin(region: &mut [u32], ends: &mut Ends, table: Table<'_>, chunk: 
 
 // An ordinary chunk is put into its bin; of donor and top the bin words are set to 0.
 #[tactic(auto, unfolding(crate::specs::Settling::settle_m))]
-pub fn settle(region: &mut [u32], ends: &mut Ends, table: Table<'_>, arrival: Arrival)
-    ensures { books region.new ends.new.heads ends.new.tails ≡ settle_m (books region.old ends.old.heads ends.old.tails) table.entry.sizes.now arrival }
+pub fn settle(region: &mut [u32], ends: &mut Ends<'_>, table: Table<'_>, arrival: Arrival)
+    ensures books_after { books region.new ends.new.heads.now ends.new.tails.now ≡ settle_m (books region.old ends.old.heads.now ends.old.tails.now) table.entry.sizes.now arrival }
+    ensures same_slices { SameSlices ends.old ends.new }
 {
     let becomes = arrival.becomes;
     if is_ordinary(becomes) {

@@ -4,6 +4,7 @@
 
 ghost use Rattle.std.specs.Prelude.{◌≡◌};
 ghost use Rattle.books.specs.Books.{books};
+ghost use Rattle.record.specs.Heap.{SameSlices};
 ghost use Rattle.replies.specs.Replies.{concluded};
 ghost use Rattle.supply.specs.Supply.{filled_m, supply_m};
 
@@ -37,15 +38,18 @@ fn fill(region: &mut [u32], clears: bool, chunk: Chunk, size: u32)
 #[tactic(auto, using(replies::proofs::ChangeLaws::change_kept), unfolding(crate::specs::Supply::supply_m, crate::specs::Supply::supplied_m))]
 pub fn supply(
     region: &mut [u32],
-    ends: &mut Ends,
+    ends: &mut Ends<'_>,
     table: Table<'_>,
     summary: Summary,
     want: Want,
 ) -> Result<Answered, Refusal>
-    ensures { concluded (books region.new ends.new.heads ends.new.tails) result ≡ supply_m (books region.old ends.old.heads ends.old.tails) table.entry.sizes.now summary want }
+    ensures outcome { concluded (books region.new ends.new.heads.now ends.new.tails.now) result ≡ supply_m (books region.old ends.old.heads.now ends.old.tails.now) table.entry.sizes.now summary want }
+    ensures same_slices { SameSlices ends.old ends.new }
 {
     let need = want.need;
-    let source = choose(region, table, &ends.heads, summary, need).ok_or(Refusal::NoRoom)?;
+    // Lent anew, so that the proof has what the heads are after `choose`: as they were.
+    let heads = &mut *ends.heads;
+    let source = choose(region, table, heads, summary, need).ok_or(Refusal::NoRoom)?;
     let grant = serve(region, ends, table, summary, Order { source, need });
     fill(region, want.clears, grant.chunk, grant.size);
     Ok(Answered {

@@ -3,4 +3,4 @@ use Rattle.abi.proofs.HandedLaws.{opens}
 use Rattle.abi.proofs.kz_setup.Goals as goal
 
 pub returns : goal.returns
-returns c = opens _ _ _ c.setup-reply.ensures c.tell-refusal.ensures c.pack.ensures
+returns c = opens _ _ _ c.setup-reply.ensures c.tell.ensures c.pack.ensures

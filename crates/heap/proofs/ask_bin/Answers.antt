@@ -15,4 +15,4 @@ slice_bounds-ask_bin-end-2 c = sym (length-take-le _ _ (lent _ _ (sym c.passes.e
 
 pub returns : goal.returns
 returns c =
-    asked_bin (asks_bin_lem (sym c.passes.ensures ∙ c.if-not-passes.false) c.summary.ensures (rw c.ends-ends.ensures at c.ask_bin-told.ensures) c.from.ensures)
+    asked_bin (asks_bin_lem (sym c.passes.ensures ∙ c.if-not-passes.false) c.summary.ensures c.ask_bin-told.ensures c.from.ensures)

@@ -1,7 +1,7 @@
 -- `heap::ask_chunk` gives the rule's answer about a chunk, and changes nothing. Assumes nothing.
 use Rattle.std.proofs.Common.{sym, ◌∙◌}
 use Rattle.std.proofs.lemmas.List.{length-take-le}
-use Rattle.heap.proofs.CallLaws.{asked_chunk, asks_chunk_lem, fails_chunk, lent, bins_few, bins_there, table_valid}
+use Rattle.heap.proofs.CallLaws.{asked_chunk, asks_chunk_lem, fails_chunk, lent, bins_there, table_valid}
 use Rattle.heap.proofs.ask_chunk.Goals as goal
 
 pub returns-then-not-passes : goal.returns-then-not-passes
@@ -10,8 +10,8 @@ returns-then-not-passes c = rw c.refused.ensures (asked_chunk (fails_chunk (sym 
 pub slice_bounds-table-end : goal.slice_bounds-table-end
 slice_bounds-table-end c = sym (length-take-le _ _ (bins_there _ _ (sym c.passes.ensures ∙ c.if-not-passes.false)))
 
-pub shared_ref_as_front-table : goal.shared_ref_as_front-table
-shared_ref_as_front-table c = bins_few _ _ (sym c.passes.ensures ∙ c.if-not-passes.false)
+pub slice_bounds-sizes-end : goal.slice_bounds-sizes-end
+slice_bounds-sizes-end c = bins_there _ _ (sym c.passes.ensures ∙ c.if-not-passes.false)
 
 pub invariant_of-table : goal.invariant_of-table
 invariant_of-table c = record { valid = table_valid _ _ (sym c.passes.ensures ∙ c.if-not-passes.false) }

@@ -1,7 +1,7 @@
 -- `heap::reallocate` does what the rule says, on every region and every record. Assumes nothing.
 use Rattle.std.proofs.Common.{sym, ◌∙◌}
 use Rattle.std.proofs.lemmas.List.{length-take-le}
-use Rattle.heap.proofs.CallLaws.{bins_few, bins_there, table_valid}
+use Rattle.heap.proofs.CallLaws.{bins_there, table_valid}
 use Rattle.heap.proofs.ReallocateLaws.{reallocate_meets, reallocate_none, reallocate_fails, reallocate_refuses, reallocate_misses, reallocate_resizes}
 use Rattle.heap.proofs.reallocate.Goals as goal
 
@@ -30,8 +30,8 @@ returns-in_default c =
 pub slice_bounds-table-end : goal.slice_bounds-table-end
 slice_bounds-table-end c = sym (length-take-le _ _ (bins_there _ _ (sym c.passes.ensures ∙ c.if-not-passes.false)))
 
-pub shared_ref_as_front-table : goal.shared_ref_as_front-table
-shared_ref_as_front-table c = bins_few _ _ (sym c.passes.ensures ∙ c.if-not-passes.false)
+pub slice_bounds-sizes-end : goal.slice_bounds-sizes-end
+slice_bounds-sizes-end c = bins_there _ _ (sym c.passes.ensures ∙ c.if-not-passes.false)
 
 pub invariant_of-table : goal.invariant_of-table
 invariant_of-table c = record { valid = table_valid _ _ (sym c.passes.ensures ∙ c.if-not-passes.false) }
