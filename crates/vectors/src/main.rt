@@ -2,10 +2,9 @@
 // A second library that plays the same script is compared with this one line by line.
 #![tactic(auto)]
 
-ghost use Rattle.std.specs.Prelude.{◌≡◌, IfOk, IfSome, take};
+ghost use Rattle.std.specs.Prelude.{◌≡◌, ◌≤◌, IfOk, IfSome, length, take};
 
 use crate::play::play;
-use std::alloc::Global;
 use std::io;
 use std::io::Read;
 
@@ -17,20 +16,43 @@ mod script;
 mod words;
 
 // What is behind so many bytes of a script is not played.
-const SCRIPT_BYTES: u64 = 2097152;
+const SCRIPT_BYTES: usize = 2097152;
 
-fn read_script<R: Read + Drop>(alloc: Global, from: R) -> io::Result<Vec<u8>>
-    ensures { IfOk result (λ script. IfSome (R.remaining from) (λ bytes. script.items ≡ take SCRIPT_BYTES bytes)) }
+fn space() -> [u8; SCRIPT_BYTES]
+    ensures { SCRIPT_BYTES ≡ length result }
 {
-    // One byte more than a script may have: a full Vec would grow before the end of the input is seen.
-    let mut script = Vec::with_capacity(alloc, SCRIPT_BYTES as usize + 1)?;
-    from.take(SCRIPT_BYTES).read_to_end(&mut script)?;
-    Ok(script)
+    [0; SCRIPT_BYTES]
+}
+
+// Reads until the input ends or the space is full, and returns how many bytes it read.
+fn read_full<R: Read>(from: &mut R, script: &mut [u8]) -> io::Result<usize>
+    ensures within { IfOk result (λ n. n ≤ length script.new) }
+    ensures bytes { IfOk result (λ n. IfSome (R.remaining from.old) (λ bytes. take n script.new ≡ take (length script.new) bytes)) }
+{
+    let mut n = 0;
+    while n < script.len() {
+        let got = from.read(&mut script[n..])?;
+        if got == 0 {
+            return Ok(n);
+        }
+        n += got;
+    }
+    Ok(n)
+}
+
+// The script is the first bytes of the input, as many as a script may have.
+fn read_script<R: Read>(from: &mut R, script: &mut [u8; SCRIPT_BYTES]) -> io::Result<usize>
+    ensures within { IfOk result (λ n. n ≤ length script.new) }
+    ensures bytes { IfOk result (λ n. IfSome (R.remaining from.old) (λ bytes. take n script.new ≡ take SCRIPT_BYTES bytes)) }
+{
+    read_full(from, script)
 }
 
 fn main(rt: HostRuntime) -> io::Result<()> {
-    let script = read_script(rt.alloc(), rt.stdin())?;
-    play(&rt, &script)
+    // On the stack: the first allocation would take 132 KiB more than it asks for.
+    let mut script = space();
+    let n = read_script(&mut rt.stdin(), &mut script)?;
+    play(&rt, &script[..n])
 }
 
 #[cfg(test)]
@@ -44,8 +66,9 @@ mod tests {
     #[test]
     fn reads_as_much_as_a_script_may_have(rt: HostRuntime) -> Result<(), Fail> {
         let input = vec![in rt.alloc(); b'7'; 2097153]?;
-        let script = read_script(rt.alloc(), input.as_slice())?;
-        assert_eq!(rt; script.len(), 2097152);
+        let mut script = space();
+        let n = read_script(&mut input.as_slice(), &mut script)?;
+        assert_eq!(rt; n, 2097152);
         Ok(())
     }
 
