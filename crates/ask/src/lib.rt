@@ -29,7 +29,8 @@ pub fn ask_chunk(
         let holder = find_block(region, summary.bytes, Block(place)).ok_or(Refusal::NotThere)?;
         return Ok(Some(holder.chunk.0));
     }
-    let question = ChunkQuestion::try_from(question)?;
+    // A number that names no question is refused; `of_chunk` reads the number itself.
+    ChunkQuestion::try_from(question)?;
     let found = find_chunk(region, summary.bytes, place).ok_or(Refusal::NotThere)?;
     Ok(of_chunk(region, table, summary, question, found))
 }

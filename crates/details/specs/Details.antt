@@ -5,6 +5,7 @@ use Rattle.chain.specs.Chain.{kind_m}
 use Rattle.record.specs.declared.heap.Summary.{Summary}
 use Rattle.record.specs.declared.questions.ChunkQuestion.{ChunkQuestion}
 use Rattle.record.specs.declared.questions.ChunkQuestion.TheVariants.{Bin, Block, Next, NextInBin, Previous, PreviousInBin, Size, «Type»}
+use Rattle.record.specs.Questions.{chunk_question}
 use Rattle.record.specs.Table.{bin_of}
 use Rattle.region.specs.declared.Chunk.{Chunk}
 use Rattle.region.specs.Places.{block_at}
@@ -13,6 +14,11 @@ use Rattle.rules.specs.Kinds.{ordinary_kind}
 use Rattle.rules.specs.Shape.{entry}
 use Rattle.seek.specs.declared.Place.{Place}
 use Rattle.seek.specs.Seek.{live_m, size_in}
+use Rattle.std.specs.Option.{unwrap_or}
+
+-- the question with a number, and else the type
+abbrev pub asked : ℕ → ChunkQuestion
+asked n = unwrap_or (chunk_question n) «Type»
 
 -- what a bin link, a head or a tail names; 0 is none
 unfoldable pub link_told_m : ℕ → Option ℕ

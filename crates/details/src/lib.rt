@@ -3,7 +3,7 @@
 #![tactic(auto)]
 
 ghost use Rattle.std.specs.Prelude.{◌≡◌};
-ghost use Rattle.details.specs.Details.{link_told_m, member_m, of_chunk_m};
+ghost use Rattle.details.specs.Details.{asked, link_told_m, member_m, of_chunk_m};
 ghost use Rattle.record.specs.Table.{bin_of};
 ghost use Rattle.seek.specs.Seek.{size_in};
 
@@ -46,17 +46,19 @@ fn member(summary: Summary, place: Place) -> Option<Chunk>
     is_ordinary(kind).then_some(place.chunk)
 }
 
+// The question is a number, so that there is an answer for every one: a number that names no question, which the caller has refused before,
+// tells the type.
 #[tactic(auto, unfolding(crate::specs::Details::of_chunk_m))]
 pub fn of_chunk(
     region: &[u32],
     table: Table<'_>,
     summary: Summary,
-    question: ChunkQuestion,
+    question: u32,
     place: Place,
 ) -> Option<u32>
-    ensures { result ≡ of_chunk_m region.now table.entry.sizes.now summary question place }
+    ensures { result ≡ of_chunk_m region.now table.entry.sizes.now summary (asked question) place }
 {
-    match question {
+    match ChunkQuestion::try_from(question).unwrap_or(ChunkQuestion::Type) {
         ChunkQuestion::Bin => {
             member(summary, place)?;
             bin_told(table, size_of(place))
