@@ -1,6 +1,6 @@
 // A request for room, met from its source by a cut. The bins' ends are lent, and the summary is handed back: the caller sets the record.
 // Where nothing can serve, the caller has refused before.
-ghost use Rattle.std.specs.Prelude.{◌≡◌, Some};
+ghost use Rattle.std.specs.Prelude.{◌≡◌};
 ghost use Rattle.books.specs.Books.{books};
 ghost use Rattle.record.specs.Heap.{SameSlices};
 ghost use Rattle.drafts.specs.Sources.{kind_in, place_in};
@@ -15,10 +15,10 @@ use record::table::Table;
 use region::Chunk;
 use settling::settled;
 
-// What is asked for: so many bytes, from the source that was chosen.
+// What is asked for: so many bytes, from the source that was chosen, if any.
 #[derive(Clone, Copy)]
 pub struct Order {
-    pub source: Source,
+    pub source: Option<Source>,
     pub need: u32,
 }
 
@@ -30,23 +30,25 @@ pub struct Portion {
     pub summary: Summary,
 }
 
-fn kind_in(source: Source) -> Kind
-    ensures { result ≡ kind_in (Some source) }
+fn kind_in(source: Option<Source>) -> Kind
+    ensures { result ≡ kind_in source }
 {
     match source {
-        Source::FromBin(_) => Kind::Ordinary,
-        Source::FromDonor => Kind::Donor,
-        Source::FromTop => Kind::Top,
+        Some(Source::FromBin(_)) => Kind::Ordinary,
+        Some(Source::FromDonor) => Kind::Donor,
+        Some(Source::FromTop) => Kind::Top,
+        None => Kind::Start,
     }
 }
 
-fn place_in(summary: Summary, source: Source) -> Chunk
-    ensures { result.0 ≡ place_in summary.donor.0 summary.top.0 (Some source) }
+fn place_in(summary: Summary, source: Option<Source>) -> Chunk
+    ensures { result.0 ≡ place_in summary.donor.0 summary.top.0 source }
 {
     match source {
-        Source::FromBin(chunk) => chunk,
-        Source::FromDonor => summary.donor,
-        Source::FromTop => summary.top,
+        Some(Source::FromBin(chunk)) => chunk,
+        Some(Source::FromDonor) => summary.donor,
+        Some(Source::FromTop) => summary.top,
+        None => Chunk(0),
     }
 }
 
@@ -59,7 +61,7 @@ pub fn serve(
     summary: Summary,
     order: Order,
 ) -> Portion
-    ensures outcome { served (books region.new ends.new.heads.now ends.new.tails.now) result ≡ serve_m (books region.old ends.old.heads.now ends.old.tails.now) table.entry.sizes.now summary (Some order.source) order.need }
+    ensures outcome { served (books region.new ends.new.heads.now ends.new.tails.now) result ≡ serve_m (books region.old ends.old.heads.now ends.old.tails.now) table.entry.sizes.now summary order.source order.need }
     ensures same_slices { SameSlices ends.old ends.new }
 {
     let kind = kind_in(order.source);

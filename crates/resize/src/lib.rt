@@ -76,7 +76,11 @@ fn move_block(region: &mut [u32], table: Table<'_>, heap: Heap, place: Place, ne
         heads: &mut heads,
         tails: &mut tails,
     };
-    let grant = serve(region, &mut ends, table, summary, Order { source, need });
+    let order = Order {
+        source: Some(source),
+        need,
+    };
+    let grant = serve(region, &mut ends, table, summary, order);
     let size = distance(place.chunk.0, place.end);
     copy_block(region, place.chunk, grant.chunk, size / 4);
     let old = with_link_reread(region, place);

@@ -50,7 +50,11 @@ pub fn supply(
     // Lent anew, so that the proof has what the heads are after `choose`: as they were.
     let heads = &mut *ends.heads;
     let source = choose(region, table, heads, summary, need).ok_or(Refusal::NoRoom)?;
-    let grant = serve(region, ends, table, summary, Order { source, need });
+    let order = Order {
+        source: Some(source),
+        need,
+    };
+    let grant = serve(region, ends, table, summary, order);
     fill(region, want.clears, grant.chunk, grant.size);
     Ok(Answered {
         answer: Answer::Granted(block_of(grant.chunk), change(0, grant.size)),
