@@ -7,15 +7,16 @@ use record::heap::{Heap, PLACES};
 use region::{Chunk, END_SIZE};
 
 // The table, with zeros after it. Of a table with more sizes than there are places, which setup refuses before, the first are kept.
-// A loop and not `copy_from_slice`: that moves memory by a length not known before, which `tools/portable` refuses. It ends where the table
-// does: a loop of as many turns as are kept is compiled to a call of `memcpy`, which the archive for 64-bit Arm needs nowhere else.
+// A loop and not `copy_from_slice`: that moves memory by a length not known before, which `tools/portable` refuses. The loop itself tests
+// whether there is a place left: over a range that ends there the compiler makes it a call of `memcpy`, which the archive for 64-bit Arm
+// needs nowhere else.
 #[tactic(auto, unfolding(crate::specs::FirstHeaders::padded_m))]
 fn padded(table: &[u32]) -> [u32; PLACES]
     ensures { result ≡ padded_m table.now }
 {
     let mut sizes = [0; PLACES];
-    for i in 0..PLACES {
-        if table.len() <= i {
+    for i in 0..table.len() {
+        if PLACES <= i {
             return sizes;
         }
         sizes[i] = table[i];

@@ -15,9 +15,9 @@ loop-i-preserved c =
       rw l.invariant.1 (rw (zero-add l.i, zero-add (l.i + 1)) at (paste_more zeros 0 t l.i 0 (omega arith) (omega arith))),
     )
 
-pub returns-then-table-i : goal.returns-then-table-i
+pub returns-then-i-ge-PLACES : goal.returns-then-i-ge-PLACES
 unfolding padded_m
-returns-then-table-i c =
+returns-then-i-ge-PLACES c =
     let l = c.loop-i in
     let t = c.args.table.now in
     let e : l.i ≡ min (length t) 32 = omega arith in
