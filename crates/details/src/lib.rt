@@ -46,8 +46,7 @@ fn member(summary: Summary, place: Place) -> Option<Chunk>
     is_ordinary(kind).then_some(place.chunk)
 }
 
-// The question is a number, so that there is an answer for every one: a number that names no question, which the caller has refused before,
-// tells the type.
+// Takes any number, and has an answer for each: one that names no question tells the type. The caller has refused such a number before.
 #[tactic(auto, unfolding(crate::specs::Details::of_chunk_m))]
 pub fn of_chunk(
     region: &[u32],

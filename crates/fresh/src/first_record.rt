@@ -7,9 +7,8 @@ use record::heap::{Heap, PLACES};
 use region::{Chunk, END_SIZE};
 
 // The table, with zeros after it. Of a table with more sizes than there are places, which setup refuses before, the first are kept.
-// A loop and not `copy_from_slice`: that moves memory by a length not known before, which `tools/portable` refuses. The loop itself tests
-// whether there is a place left: over a range that ends there the compiler makes it a call of `memcpy`, which the archive for 64-bit Arm
-// needs nowhere else.
+// A loop and not `copy_from_slice`: that moves memory by a length not known before, which `tools/portable` refuses. Nor a loop over
+// `0..table.len().min(PLACES)`: the compiler turns that into a call of `memcpy`, which the archive for 64-bit Arm needs nowhere else.
 #[tactic(auto, unfolding(crate::specs::FirstHeaders::padded_m))]
 fn padded(table: &[u32]) -> [u32; PLACES]
     ensures { result ≡ padded_m table.now }
